@@ -1,0 +1,6 @@
+pub mod Tests
+pub mod Lists
+pub mod Stores
+pub mod Finds
+pub mod Compare
+pub mod Splits

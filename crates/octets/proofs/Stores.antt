@@ -1,0 +1,61 @@
+-- Stores: one at a place, and several one after the other, as loops make them.
+use Prim.Native.Nat.{ℕ, suc, _+_, _-_, _≤_, _<_}
+use mathlib.Core.Path.{_≡_, refl, sym, _∙_, ap}
+use mathlib.Core.Bool.{Bool, true, false}
+use mathlib.Core.List.{List, [], _∷_, _++_, append-assoc, append-nil}
+use native.Mathlib.Omega.{arith}
+use native.Mathlib.Numerals.{add-one, towards-suc}
+use native.Mathlib.Nat.{add-zero}
+use lib.ListN.{length, getD, take, drop, set, length-drop}
+use lib.Seq.{sets, sets-eq, drop-drop, getD-set-same, getD-set-other, set-comm, take-length}
+use lib.Dec.{eqb}
+use borrow.Author.Tests.{eqb-true, eqb-false}
+use Rattle.octets.specs.Choice.{pick}
+use Rattle.octets.proofs.Lists.{drop-end, part-rest}
+
+-- ---- one store
+-- what stands at a place after a store at another or the same
+pub getD-set : (l : List ℕ) (i j a d : ℕ) → i < length l → getD (set l i a) j d ≡ pick (eqb j i) a (getD l j d)
+getD-set l i j a d h = go (eqb j i) refl
+  where
+    go : (t : Bool) → eqb j i ≡ t → getD (set l i a) j d ≡ pick t a (getD l j d)
+    go true e = rw (eqb-true j i e) (getD-set-same l i a d h)
+    go false e = getD-set-other l i j a d (eqb-false j i e)
+
+-- ---- stores from a place on: the stored bytes are had from the equation e
+module _ (l : List ℕ) (o : ℕ) {bs x : List ℕ} where
+  pub put1 : {a : ℕ} {r : List ℕ} → bs ≡ a ∷ r → sets l o bs ≡ x → sets (set l o a) (o + 1) r ≡ x
+  put1 e p = simp add-one (sym (ap (sets l o) e) ∙ p)
+
+  pub put2 : {a b : ℕ} {r : List ℕ} → bs ≡ a ∷ b ∷ r → sets l o bs ≡ x → sets (set (set l o a) (o + 1) b) (o + 2) r ≡ x
+  put2 e p = simp towards-suc (sym (ap (sets l o) e) ∙ p)
+
+  pub put3 : {a b c : ℕ} {r : List ℕ} → bs ≡ a ∷ b ∷ c ∷ r → sets l o bs ≡ x
+      → sets (set (set (set l o a) (o + 1) b) (o + 2) c) (o + 3) r ≡ x
+  put3 e p = simp towards-suc (sym (ap (sets l o) e) ∙ p)
+
+  pub put4 : {a b c d : ℕ} {r : List ℕ} → bs ≡ a ∷ b ∷ c ∷ d ∷ r → sets l o bs ≡ x
+      → sets (set (set (set (set l o a) (o + 1) b) (o + 2) c) (o + 3) d) (o + 4) r ≡ x
+  put4 e p = simp towards-suc (sym (ap (sets l o) e) ∙ p)
+
+-- one string stored after another is the two stored at once
+pub sets-append : (xs ys l : List ℕ) (i : ℕ) → sets (sets l i xs) (i + length xs) ys ≡ sets l i (xs ++ ys)
+sets-append [] ys l i = rw add-zero
+sets-append (x ∷ xs) ys l i =
+    let e : i + suc (length xs) ≡ suc i + length xs = omega arith in
+    rw e (sets-append xs ys (set l i x) (suc i))
+
+-- the last one may be stored first
+pub sets-last : (xs : List ℕ) (l : List ℕ) (i a : ℕ) → sets (set l (i + length xs) a) i xs ≡ sets l i (xs ++ (a ∷ []))
+sets-last [] l i a = rw add-zero
+sets-last (x ∷ xs) l i a =
+    let e : i + suc (length xs) ≡ suc i + length xs = omega arith in
+    rw (e, set-comm l (suc i + length xs) i a x (λ q. omega arith)) (sets-last xs (set l i x) (suc i) a)
+
+-- a string copied over the front of the part from a place on, which a slice lends, is stored at that place
+pub sets-part : (src dst : List ℕ) (at : ℕ) → at + length src ≤ length dst
+    → take at dst ++ ((take (length src) src ++ drop (length src) (take (length dst - at) (drop at dst))) ++ drop (length dst - at) (drop at dst))
+    ≡ sets dst at src
+sets-part src dst at h =
+    let over : drop (length dst - at) (drop at dst) ≡ [] = drop-end (drop at dst) (length dst - at) (omega (arith, length-drop at dst)) in
+    rw (over, append-nil, take-length, part-rest, drop-drop (length src) at dst) (sym (sets-eq src dst at h ∙ rw append-assoc))

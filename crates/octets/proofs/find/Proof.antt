@@ -1,0 +1,28 @@
+use Prim.Native.Nat.{_+_}
+use mathlib.Core.Path.{_≡_, refl, sym, _∙_, ap}
+use native.Mathlib.Omega.{arith}
+use native.Mathlib.Nat.{add-zero}
+use lib.ListN.{length, drop}
+use lib.Seq.{take-length}
+use Rattle.bytes.specs.Bytes.{indexOf, slice}
+use Rattle.octets.proofs.Lists.{drop-end}
+use borrow.Author.Needs.{needs}
+use Rattle.octets.proofs.find.Statement.{statement}
+use Rattle.octets.proofs.find.Tie as tie
+use Rattle.octets.proofs.find.Reads as reads
+use Rattle.octets.proofs.find.Lts as lts
+use Rattle.bytes.proofs.scan.find.Reads as find-reads
+
+returns : tie.Need-returns
+unfolding indexOf
+returns c = rw (drop-end (c .before .before .args .s .now) (c .before .before .args .from) (omega arith), add-zero)
+
+find-requires : tie.Need-find-requires
+find-requires c κs = search needs
+
+returns-2 : tie.Need-returns-2
+unfolding slice
+returns-2 c = c .find .ensures .0 ∙ rw (take-length (c .before .before .before .args .s .now))
+
+pub find-spec : {M : Type 1} → statement M
+find-spec = tie.close (tie.spec returns find-requires returns-2)

@@ -1,0 +1,60 @@
+use Prim.Native.Nat.{_+_, _-_, _≤_, _<_}
+use mathlib.Core.Path.{_≡_, refl, sym, _∙_}
+use native.Mathlib.Omega.{arith}
+use lib.ListN.{length, drop}
+use borrow.Author.Tests.{eq-eqb, ne-eqb}
+use Rattle.octets.specs.Slices.{startsWith}
+use Rattle.octets.proofs.Compare.{starts-short, starts-at, starts-end}
+use Rattle.octets.proofs.starts_with.Statement.{statement}
+use Rattle.octets.proofs.starts_with.Tie as tie
+use Rattle.octets.proofs.starts_with.Reads as reads
+use Rattle.octets.proofs.starts_with.Lts as lts
+
+abbrev Inv-loop : tie.InvT-loop
+Inv-loop s prefix i₀ i = (i ≤ length prefix) × (length prefix ≤ length s) × (startsWith (drop i s) (drop i prefix) ≡ startsWith s prefix)
+
+abbrev μ-loop : tie.MeasureT-loop
+μ-loop s prefix i₀ i = length prefix - i
+
+returns : tie.Need-returns Inv-loop μ-loop
+returns c = sym (starts-short _ _ (c .if1 .taken))
+
+loop-holds : tie.Need-loop-holds Inv-loop μ-loop
+loop-holds c = (omega arith, omega arith, refl)
+
+shared-slice-read-if2 : tie.Need-shared-slice-read-if2 Inv-loop μ-loop
+shared-slice-read-if2 c = omega arith
+
+shared-slice-read-if2-2 : tie.Need-shared-slice-read-if2-2 Inv-loop μ-loop
+shared-slice-read-if2-2 c = omega arith
+
+returns-2 : tie.Need-returns-2 Inv-loop μ-loop
+returns-2 c = sym (starts-at (c .before .before .before .before .before .before .args .s .now) (c .before .before .before .before .before .before .args .prefix .now) (c .before .before .before .before .loop .i) (omega arith) (omega arith) ∙ rw (ne-eqb _ _ (c .if2 .taken))) ∙ c .before .before .before .before .loop .inv .2
+
+add-i : tie.Need-add-i Inv-loop μ-loop
+add-i c = omega arith
+
+loop-less : tie.Need-loop-less Inv-loop μ-loop
+loop-less c = omega arith
+
+loop-again : tie.Need-loop-again Inv-loop μ-loop
+loop-again c = (omega arith, omega arith, sym (starts-at (c .before .before .before .before .before .before .args .s .now) (c .before .before .before .before .before .before .args .prefix .now) (c .before .before .before .before .loop .i) (omega arith) (omega arith) ∙ rw (eq-eqb _ _ (c .if2 .left))) ∙ c .before .before .before .before .loop .inv .2)
+
+returns-3 : tie.Need-returns-3 Inv-loop μ-loop
+returns-3 c = sym (starts-end _ (c .before .before .before .args .prefix .now) (c .before .loop .i) (omega arith)) ∙ c .before .loop .inv .2
+
+pub starts-with-spec : {M : Type 1} → statement M
+starts-with-spec =
+    tie.close
+    (tie.spec
+    Inv-loop
+    μ-loop
+    returns
+    loop-holds
+    shared-slice-read-if2
+    shared-slice-read-if2-2
+    returns-2
+    add-i
+    loop-less
+    loop-again
+    returns-3)

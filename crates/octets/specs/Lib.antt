@@ -1,0 +1,5 @@
+pub mod Choice
+pub mod Ascii
+pub mod Outcome
+pub mod Slices
+pub mod Split

@@ -1,0 +1,69 @@
+// Byte slices: compare, search, copy to a place.
+//
+// No function here has a `requires`: any slices, any positions and any lengths are answered. What
+// later crates share besides (choices by a test, laws on lists, splitting at a byte) stands in
+// specs/ and proofs/.
+ghost use mathlib.Core.Path.{_≡_};
+ghost use Prim.Native.Nat.{_+_, _≤_};
+ghost use lib.ListN.{length, drop};
+ghost use Rattle.bytes.specs.Bytes.{indexOf};
+ghost use Rattle.octets.specs.Outcome.{outcome};
+ghost use Rattle.octets.specs.Slices.{equals, startsWith, copyAt};
+
+// What copying to a place answers: where the copied bytes end.
+pub enum Copied {
+    End(usize),
+    NoRoom,
+}
+
+// Whether a and b agree in length and in every byte.
+pub fn equal(a: &[u8], b: &[u8]) -> bool
+    ensures { λ r. ⌜ r ≡ equals (now (a .entry)) (now (b .entry)) ⌝ }
+{
+    if a.len() != b.len() {
+        return false;
+    }
+    starts_with(a, b)
+}
+
+// Whether the first bytes of s are those of prefix.
+pub fn starts_with(s: &[u8], prefix: &[u8]) -> bool
+    ensures { λ r. ⌜ r ≡ startsWith (now (s .entry)) (now (prefix .entry)) ⌝ }
+{
+    if s.len() < prefix.len() {
+        return false;
+    }
+    let mut i = 0;
+    while i < prefix.len() {
+        if s[i] != prefix[i] {
+            return false;
+        }
+        i += 1;
+    }
+    true
+}
+
+// The first place at or after `from` where b stands in s; where there is none, the end of s, or
+// `from` where it lies past that.
+pub fn find(s: &[u8], from: usize, b: u8) -> usize
+    ensures { λ r. ⌜ r ≡ from + indexOf b (drop from (now (s .entry))) ⌝ }
+{
+    if from > s.len() {
+        return from;
+    }
+    bytes::scan::find(s, from, s.len(), b)
+}
+
+// Copies src into dst from place `at` on. Where it does not fit, dst is as before.
+pub fn copy_at(src: &[u8], dst: &mut [u8], at: usize) -> Copied
+    ensures { λ r. ⌜ outcome r (now (dst .exit)) ≡ copyAt (now (src .entry)) (now (dst .entry)) at ⌝ }
+{
+    if at > dst.len() {
+        return Copied::NoRoom;
+    }
+    if src.len() > dst.len() - at {
+        return Copied::NoRoom;
+    }
+    bytes::copy(src, &mut dst[at..]);
+    Copied::End(at + src.len())
+}
