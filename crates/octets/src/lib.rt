@@ -4,14 +4,15 @@
 // later crates share besides (choices by a test, laws on lists, splitting at a byte) stands in
 // specs/ and proofs/.
 ghost use mathlib.Core.Path.{_≡_};
-ghost use Prim.Native.Nat.{_+_, _≤_};
-ghost use lib.ListN.{length, drop};
+ghost use Prim.Native.Nat.{_+_};
+ghost use lib.Dec.{leb};
+ghost use lib.ListN.{drop};
 ghost use Rattle.bytes.specs.Bytes.{indexOf};
 ghost use Rattle.octets.specs.Outcome.{outcome};
 ghost use Rattle.octets.specs.Slices.{equals, startsWith, copyAt};
 
-// What copying to a place answers: where the copied bytes end.
-pub enum Copied {
+// What storing bytes at a place answers: where they end, or that they do not fit.
+pub enum Stored {
     End(usize),
     NoRoom,
 }
@@ -54,16 +55,26 @@ pub fn find(s: &[u8], from: usize, b: u8) -> usize
     bytes::scan::find(s, from, s.len(), b)
 }
 
+// Whether n bytes from place `at` on lie within `len` bytes.
+pub fn fits(at: usize, n: usize, len: usize) -> bool
+    ensures { λ r. ⌜ r ≡ leb (at + n) len ⌝ }
+{
+    if at > len {
+        return false;
+    }
+    if n > len - at {
+        return false;
+    }
+    true
+}
+
 // Copies src into dst from place `at` on. Where it does not fit, dst is as before.
-pub fn copy_at(src: &[u8], dst: &mut [u8], at: usize) -> Copied
+pub fn copy_at(src: &[u8], dst: &mut [u8], at: usize) -> Stored
     ensures { λ r. ⌜ outcome r (now (dst .exit)) ≡ copyAt (now (src .entry)) (now (dst .entry)) at ⌝ }
 {
-    if at > dst.len() {
-        return Copied::NoRoom;
-    }
-    if src.len() > dst.len() - at {
-        return Copied::NoRoom;
+    if !fits(at, src.len(), dst.len()) {
+        return Stored::NoRoom;
     }
     bytes::copy(src, &mut dst[at..]);
-    Copied::End(at + src.len())
+    Stored::End(at + src.len())
 }

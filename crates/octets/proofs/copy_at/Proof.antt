@@ -1,13 +1,11 @@
-use Prim.Native.Nat.{_+_}
-use mathlib.Core.Path.{_≡_, refl, sym, _∙_, ap}
-use mathlib.Core.List.{List}
+use Prim.Native.Nat.{_+_, _≤_}
+use mathlib.Core.Path.{sym, _∙_, ap}
 use native.Mathlib.Omega.{arith}
-use lib.ListN.{length, take, drop}
-use lib.Seq.{sets, take-length}
-use borrow.Author.Tests.{le-leb, lt-leb}
+use lib.ListN.{length, length-take, length-drop}
+use borrow.Author.Tests.{leb-true, not-true, not-false}
 use Rattle.octets.specs.Outcome.{outcome}
 use Rattle.octets.specs.Slices.{copyAt}
-use Rattle.octets.specs.declared.Copied.the-variants.{End}
+use Rattle.octets.specs.declared.Stored.the-variants.{End}
 use Rattle.octets.proofs.Stores.{sets-part}
 use borrow.Author.Needs.{needs}
 use Rattle.octets.proofs.copy_at.Statement.{statement}
@@ -15,52 +13,52 @@ use Rattle.octets.proofs.copy_at.Tie as tie
 use Rattle.octets.proofs.copy_at.Reads as reads
 use Rattle.octets.proofs.copy_at.Lts as lts
 use Rattle.bytes.proofs.copy.Reads as copy-reads
+use Rattle.octets.proofs.fits.Reads as fits-reads
+
+-- past the test the bytes fit
+room : (c : tie.Else1) → c .before .before .before .before .args .at + length (c .before .before .before .before .args .src .now) ≤ length (c .before .before .before .before .args .dst .now)
+room c = leb-true _ _ (sym (c .before .fits2 .ensures) ∙ not-false _ (c .if1 .left))
+
+fits-requires : tie.Need-fits-requires
+fits-requires c κs = search needs
 
 returns : tie.Need-returns
 unfolding copyAt
-returns c = rw (lt-leb (c .before .before .before .args .at + length (c .before .before .before .args .src .now)) (length (c .before .before .before .args .dst .now)) (omega arith))
-
-sub-if2 : tie.Need-sub-if2
-sub-if2 c = search needs
-
-returns-2 : tie.Need-returns-2
-unfolding copyAt
-returns-2 c = rw (lt-leb (c .before .before .before .before .args .at + length (c .before .before .before .before .args .src .now)) (length (c .before .before .before .before .args .dst .now)) (omega arith))
+returns c = rw (← c .before .fits2 .ensures, not-true (c .before .fits2 .result) (c .if1 .taken))
 
 sub-copy : tie.Need-sub-copy
-sub-copy c = search needs
+sub-copy c = omega (arith, room c)
 
 part-copy-start : tie.Need-part-copy-start
-part-copy-start c = search needs
+part-copy-start c = omega (arith, room c)
 
 part-copy-end : tie.Need-part-copy-end
 part-copy-end c = search needs
 
 copy-requires : tie.Need-copy-requires
-copy-requires c κs = search needs
+copy-requires c κs = simp (length-take, length-drop) (omega (arith, room (c .before)))
 
 add-t6 : tie.Need-add-t6
-add-t6 c = search needs
+add-t6 c = omega (arith, room (c .before .before .before .before))
 
 same-length : tie.Need-same-length
 same-length c = search needs
 
-returns-3 : tie.Need-returns-3
+returns-2 : tie.Need-returns-2
 unfolding copyAt
-returns-3 c = rw (le-leb (c .before .before .before .before .before .before .before .before .args .at + length (c .before .before .before .before .before .before .before .before .args .src .now)) (length (c .before .before .before .before .before .before .before .before .args .dst .now)) (omega arith), c .before .before .copy .ensures .1)
-    (ap (outcome (End _)) (sets-part (c .before .before .before .before .before .before .before .before .args .src .now) (c .before .before .before .before .before .before .before .before .args .dst .now) (c .before .before .before .before .before .before .before .before .args .at) (omega arith)))
+returns-2 c = rw (← c .before .before .before .before .before .fits2 .ensures, not-false (c .before .before .before .before .before .fits2 .result) (c .before .before .before .before .if1 .left), c .before .before .copy .ensures .1)
+    (ap (outcome (End _)) (sets-part (c .before .before .before .before .before .before .before .before .args .src .now) (c .before .before .before .before .before .before .before .before .args .dst .now) (c .before .before .before .before .before .before .before .before .args .at) (room (c .before .before .before .before))))
 
 pub copy-at-spec : {M : Type 1} → statement M
 copy-at-spec =
     tie.close
     (tie.spec
+    fits-requires
     returns
-    sub-if2
-    returns-2
     sub-copy
     part-copy-start
     part-copy-end
     copy-requires
     add-t6
     same-length
-    returns-3)
+    returns-2)
