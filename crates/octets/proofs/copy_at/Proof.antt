@@ -10,10 +10,6 @@ use Rattle.octets.proofs.Stores.{sets-part}
 use borrow.Author.Needs.{needs}
 use Rattle.octets.proofs.copy_at.Statement.{statement}
 use Rattle.octets.proofs.copy_at.Tie as tie
-use Rattle.octets.proofs.copy_at.Reads as reads
-use Rattle.octets.proofs.copy_at.Lts as lts
-use Rattle.bytes.proofs.copy.Reads as copy-reads
-use Rattle.octets.proofs.fits.Reads as fits-reads
 
 -- past the test the bytes fit
 room : (c : tie.Else1) → c .before .before .before .before .args .at + length (c .before .before .before .before .args .src .now) ≤ length (c .before .before .before .before .args .dst .now)

@@ -3,9 +3,6 @@ use Rattle.octets.proofs.Compare.{equals-lengths, equals-starts}
 use borrow.Author.Needs.{needs}
 use Rattle.octets.proofs.equal.Statement.{statement}
 use Rattle.octets.proofs.equal.Tie as tie
-use Rattle.octets.proofs.equal.Reads as reads
-use Rattle.octets.proofs.equal.Lts as lts
-use Rattle.octets.proofs.starts_with.Reads as starts-with-reads
 
 returns : tie.Need-returns
 returns c = sym (equals-lengths _ _ (c .if1 .taken))

@@ -9,9 +9,6 @@ use Rattle.octets.proofs.Lists.{drop-end}
 use borrow.Author.Needs.{needs}
 use Rattle.octets.proofs.find.Statement.{statement}
 use Rattle.octets.proofs.find.Tie as tie
-use Rattle.octets.proofs.find.Reads as reads
-use Rattle.octets.proofs.find.Lts as lts
-use Rattle.bytes.proofs.scan.find.Reads as find-reads
 
 returns : tie.Need-returns
 unfolding indexOf

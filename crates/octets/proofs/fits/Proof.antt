@@ -4,8 +4,6 @@ use native.Mathlib.Omega.{arith}
 use borrow.Author.Tests.{le-leb, lt-leb}
 use Rattle.octets.proofs.fits.Statement.{statement}
 use Rattle.octets.proofs.fits.Tie as tie
-use Rattle.octets.proofs.fits.Reads as reads
-use Rattle.octets.proofs.fits.Lts as lts
 
 returns : tie.Need-returns
 returns c = sym (lt-leb (c .before .args .at + c .before .args .n) (c .before .args .len) (omega arith))

@@ -7,8 +7,6 @@ use Rattle.octets.specs.Slices.{startsWith}
 use Rattle.octets.proofs.Compare.{starts-short, starts-at, starts-end}
 use Rattle.octets.proofs.starts_with.Statement.{statement}
 use Rattle.octets.proofs.starts_with.Tie as tie
-use Rattle.octets.proofs.starts_with.Reads as reads
-use Rattle.octets.proofs.starts_with.Lts as lts
 
 abbrev Inv-loop : tie.InvT-loop
 Inv-loop s prefix i₀ i = (i ≤ length prefix) × (length prefix ≤ length s) × (startsWith (drop i s) (drop i prefix) ≡ startsWith s prefix)
