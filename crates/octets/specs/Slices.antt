@@ -2,8 +2,8 @@
 use Prim.Native.Nat.{ℕ, _+_}
 use mathlib.Core.Bool.{Bool, true, false}
 use mathlib.Core.List.{List, [], _∷_}
-use lib.ListN.{length}
-use lib.Dec.{eqb}
+use lib.ListN.{length, take, drop}
+use lib.Dec.{leb, eqb}
 use Rattle.bytes.specs.Bytes.{indexOf}
 use Rattle.octets.specs.Choice.{pick}
 use Rattle.octets.specs.Outcome.{Outcome, storedAt}
@@ -26,6 +26,10 @@ startsWith (x ∷ xs) (y ∷ ys) = pick (eqb x y) (startsWith xs ys) false
 -- b stands nowhere in the bytes: the first place where it stands is their end
 abbrev pub lacks : ℕ → List ℕ → Bool
 lacks b xs = eqb (indexOf b xs) (length xs)
+
+-- the n bytes from a place on, and none where they pass the end
+unfoldable pub partOf : List ℕ → ℕ → ℕ → List ℕ
+partOf xs start n = pick (leb (start + n) (length xs)) (take n (drop start xs)) []
 
 -- src stored in dst from place `at` on, where it fits
 unfoldable pub copyAt : List ℕ → List ℕ → ℕ → Outcome Stored

@@ -9,7 +9,7 @@ ghost use lib.Dec.{leb};
 ghost use lib.ListN.{drop};
 ghost use Rattle.bytes.specs.Bytes.{indexOf};
 ghost use Rattle.octets.specs.Outcome.{outcome};
-ghost use Rattle.octets.specs.Slices.{equals, startsWith, copyAt};
+ghost use Rattle.octets.specs.Slices.{equals, startsWith, partOf, copyAt};
 
 // What storing bytes at a place answers: where they end, or that they do not fit.
 pub enum Stored {
@@ -53,6 +53,18 @@ pub fn find(s: &[u8], from: usize, b: u8) -> usize
         return from;
     }
     bytes::scan::find(s, from, s.len(), b)
+}
+
+// The n bytes of s from place `start` on, and none where they pass its end.
+pub fn part(s: &[u8], start: usize, n: usize) -> &[u8]
+    ensures { λ r. ⌜ now r ≡ partOf (now (s .entry)) start n ⌝ }
+{
+    if fits(start, n, s.len()) {
+        let end = start + n;
+        &s[start..end]
+    } else {
+        &s[..0]
+    }
 }
 
 // Whether n bytes from place `at` on lie within `len` bytes.
