@@ -4,3 +4,4 @@ pub mod Stores
 pub mod Finds
 pub mod Compare
 pub mod Splits
+pub mod Below

@@ -7,7 +7,8 @@ use native.Mathlib.Omega.{arith}
 use native.Mathlib.Numerals.{add-one, towards-suc}
 use native.Mathlib.Nat.{add-zero}
 use lib.ListN.{length, getD, take, drop, set, length-drop}
-use lib.Seq.{sets, sets-eq, drop-drop, getD-set-same, getD-set-other, set-comm, take-length}
+use lib.Seq.{sets, sets-eq, drop-drop, getD-set-same, getD-set-other, set-comm, take-length, length-take-le, take-append-seam, drop-set-add, take-set-le}
+use lib.Seq.{drop-at as drop-seam}
 use lib.Dec.{eqb}
 use borrow.Author.Tests.{eqb-true, eqb-false}
 use Rattle.octets.specs.Choice.{pick}
@@ -59,3 +60,19 @@ pub sets-part : (src dst : List ℕ) (at : ℕ) → at + length src ≤ length d
 sets-part src dst at h =
     let over : drop (length dst - at) (drop at dst) ≡ [] = drop-end (drop at dst) (length dst - at) (omega (arith, length-drop at dst)) in
     rw (over, append-nil, take-length, part-rest, drop-drop (length src) at dst) (sym (sets-eq src dst at h ∙ rw append-assoc))
+
+-- ---- parts of a buffer after stores
+-- the part in which a string was stored is that string
+pub part-stored : (bs l : List ℕ) (at : ℕ) → at + length bs ≤ length l → take (length bs) (drop at (sets l at bs)) ≡ bs
+part-stored bs l at h =
+    rw (sets-eq bs l at h, append-assoc, drop-seam (take at l) (bs ++ drop (at + length bs) l) at (length-take-le at l (omega arith))) (take-append-seam bs _)
+
+-- a store changes no part before its place
+pub part-kept : (b l : List ℕ) (o p n : ℕ) → p + n ≤ o → take n (drop p (sets l o b)) ≡ take n (drop p l)
+part-kept [] l o p n h = refl
+part-kept (x ∷ b) l o p n h =
+    let e : o ≡ p + (o - p) = omega arith in
+    part-kept b (set l o x) (suc o) p n (omega arith)
+    ∙ ap (λ (i : ℕ). take n (drop p (set l i x))) e
+    ∙ ap (take n) (drop-set-add p l (o - p) x)
+    ∙ take-set-le n (drop p l) (o - p) x (omega arith)

@@ -1,5 +1,6 @@
 pub mod Choice
 pub mod Ascii
+pub mod Bytes
 pub mod Outcome
 pub mod Slices
 pub mod Split

@@ -1,0 +1,83 @@
+use Prim.Native.Nat.{_+_, _-_, _*_, _/_, _%_}
+use mathlib.Core.Path.{_≡_, sym, _∙_}
+use native.Mathlib.Omega.{arith}
+use lib.ListN.{length}
+use borrow.Author.Tests.{leb-true, not-true, not-false}
+use Rattle.base64.specs.Decode.{verdictOf, bytesOf, decodeOf}
+use Rattle.base64.specs.declared.Verdict.the-variants.{Valid}
+use Rattle.base64.proofs.Lengths.{length-valid}
+use borrow.Author.Needs.{needs}
+use Rattle.base64.proofs.decode.Statement.{statement}
+use Rattle.base64.proofs.decode.Tie as tie
+
+-- where `check` answered `Valid`
+valid : (c : tie.After-known-told) → verdictOf (c .before .before .before .before .before .before .args .text .now) ≡ Valid (c .before .padding .given .0 .0)
+valid c = sym (c .before .before .before .check .ensures) ∙ c .before .padding .given .1
+
+sizes : (c : tie.After-known-told) → let t = c .before .before .before .before .before .before .args .text .now in
+    (length t % 4 ≡ 0) × (length (bytesOf t) + c .before .padding .given .0 .0 ≡ length t / 4 * 3)
+sizes c = length-valid _ _ (valid c)
+
+-- so many bytes are asked for
+size : (c : tie.After-known-told) → let t = c .before .before .before .before .before .before .args .text .now in length (bytesOf t) ≡ length t / 4 * 3 - c .before .padding .given .0 .0
+size c = omega (arith, sizes c)
+
+check-requires : tie.Need-check-requires
+check-requires c κs = search needs
+
+enum-known-padding : tie.Need-enum-known-padding
+enum-known-padding c = search needs
+
+mul-n : tie.Need-mul-n
+mul-n c = search needs
+
+sub-n : tie.Need-sub-n
+sub-n c = omega (arith, sizes c)
+
+fits-requires : tie.Need-fits-requires
+fits-requires c κs = search needs
+
+returns : tie.Need-returns
+unfolding decodeOf
+returns c =
+    let k = c .before .before in
+    let f = c .before .fits2 in
+    rw (valid k, size k, ← f .ensures, not-true (f .result) (c .if1 .taken))
+
+fill-requires : tie.Need-fill-requires
+fill-requires c κs =
+    let k = c .before .before .before in
+    (sizes k .0, rw (size k) (leb-true _ _ (sym (c .before .before .fits2 .ensures) ∙ not-false _ (c .before .if1 .left))))
+
+enum-known-fault : tie.Need-enum-known-fault
+enum-known-fault c = search needs
+
+same-length : tie.Need-same-length
+same-length c = search needs
+
+returns-2 : tie.Need-returns-2
+unfolding decodeOf
+returns-2 c =
+    let k = c .before .before .before .before .before .before in
+    let f = c .before .before .before .before .before .fits2 in
+    rw (valid k, size k, ← f .ensures, not-false (f .result) (c .before .before .before .before .if1 .left), c .before .before .fill .ensures)
+
+returns-3 : tie.Need-returns-3
+unfolding decodeOf
+returns-3 c = rw (← c .before .before .before .check .ensures, c .before .fault .given .1)
+
+pub decode-spec : {M : Type 1} → statement M
+decode-spec =
+    tie.close
+    (tie.spec
+    check-requires
+    enum-known-padding
+    mul-n
+    sub-n
+    fits-requires
+    returns
+    fill-requires
+    enum-known-fault
+    same-length
+    returns-2
+    returns-3)

@@ -1,0 +1,48 @@
+use Prim.Native.Nat.{_+_, _≤_}
+use mathlib.Core.Path.{sym, _∙_}
+use native.Mathlib.Omega.{arith}
+use lib.ListN.{length}
+use borrow.Author.Tests.{leb-true, not-true, not-false}
+use Rattle.base64.specs.Encode.{textOf, encodeOf}
+use Rattle.base64.proofs.Lengths.{length-text}
+use borrow.Author.Needs.{needs}
+use Rattle.base64.proofs.encode.Statement.{statement}
+use Rattle.base64.proofs.encode.Tie as tie
+
+-- past the test the text fits
+room : (c : tie.Else1) → let a = c .before .before .before .before .args in a .at + length (textOf (a .«data» .now)) ≤ length (a .out .now)
+room c = rw (length-text (c .before .before .before .before .args .«data» .now)) (leb-true _ _ (sym (c .before .fits2 .ensures) ∙ not-false _ (c .if1 .left)))
+
+add-n : tie.Need-add-n
+add-n c = search needs
+
+mul-n : tie.Need-mul-n
+mul-n c = search needs
+
+fits-requires : tie.Need-fits-requires
+fits-requires c κs = search needs
+
+returns : tie.Need-returns
+unfolding encodeOf
+returns c =
+    rw (length-text (c .before .before .before .before .args .«data» .now), ← c .before .fits2 .ensures, not-true (c .before .fits2 .result) (c .if1 .taken))
+
+fill-requires : tie.Need-fill-requires
+fill-requires c κs = room (c .before)
+
+add-t7 : tie.Need-add-t7
+add-t7 c = omega (arith, room (c .before .before .before .before), length-text (c .before .before .before .before .before .before .before .before .args .«data» .now))
+
+same-length : tie.Need-same-length
+same-length c = search needs
+
+returns-2 : tie.Need-returns-2
+unfolding encodeOf
+returns-2 c =
+    let f = c .before .before .before .before .before .fits2 in
+    rw (length-text (c .before .before .before .before .before .before .before .before .args .«data» .now), ← f .ensures, not-false (f .result) (c .before .before .before .before .if1 .left), c .before .before .fill .ensures)
+
+pub encode-spec : {M : Type 1} → statement M
+encode-spec =
+    tie.close
+    (tie.spec add-n mul-n fits-requires returns fill-requires add-t7 same-length returns-2)

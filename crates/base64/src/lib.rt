@@ -1,0 +1,63 @@
+// Strict Base64 (RFC 4648, section 4): padding required, unused bits zero, no other character.
+//
+// Not here: line breaks, other alphabets, texts in pieces. A text is checked whole before a byte is
+// written.
+mod alphabet;
+mod decoder;
+mod encoder;
+
+ghost use mathlib.Core.Path.{_≡_};
+ghost use Rattle.octets.specs.Outcome.{outcome};
+ghost use Rattle.base64.specs.Decode.{decodeOf};
+ghost use Rattle.base64.specs.Encode.{encodeOf};
+use octets::Stored;
+
+// What is wrong with a text: its length or padding, a character, or bits that no byte uses.
+pub enum Fault {
+    Length,
+    Character,
+    UnusedBits,
+}
+
+// What a whole text is: valid, with that many padding characters at its end, or at fault.
+pub enum Verdict {
+    Valid(usize),
+    Invalid(Fault),
+}
+
+// What decoding answers: how many bytes were stored.
+pub enum Decoded {
+    Length(usize),
+    Invalid(Fault),
+    NoRoom,
+}
+
+// Stores the bytes of `text` in `out` from place `at` on. A fault is told before a lack of room, and
+// after either `out` is as before.
+pub fn decode(text: &[u8], out: &mut [u8], at: usize) -> Decoded
+    ensures { λ r. ⌜ outcome r (now (out .exit)) ≡ decodeOf (now (text .entry)) (now (out .entry)) at ⌝ }
+{
+    match decoder::check(text) {
+        Verdict::Valid(padding) => {
+            let n = text.len() / 4 * 3 - padding;
+            if !octets::fits(at, n, out.len()) {
+                return Decoded::NoRoom;
+            }
+            decoder::fill(text, out, at);
+            Decoded::Length(n)
+        }
+        Verdict::Invalid(fault) => Decoded::Invalid(fault),
+    }
+}
+
+// Stores the text of `data` in `out` from place `at` on. Where it does not fit, `out` is as before.
+pub fn encode(data: &[u8], out: &mut [u8], at: usize) -> Stored
+    ensures { λ r. ⌜ outcome r (now (out .exit)) ≡ encodeOf (now («data» .entry)) (now (out .entry)) at ⌝ }
+{
+    let n = (data.len() + 2) / 3 * 4;
+    if !octets::fits(at, n, out.len()) {
+        return Stored::NoRoom;
+    }
+    encoder::fill(data, out, at);
+    Stored::End(at + n)
+}

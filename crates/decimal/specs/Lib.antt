@@ -1,0 +1,4 @@
+pub mod Limits
+pub mod Read
+pub mod Write
+pub mod Canonical

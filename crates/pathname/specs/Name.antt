@@ -1,0 +1,33 @@
+-- "Name: 1 to 4,096 bytes, UTF-8, no zero byte, begins with `/` or `~/`, each component (between slashes, may be empty)
+-- at most 255 bytes and not `..`."
+use Prim.Native.Nat.{ℕ}
+use mathlib.Core.Bool.{Bool, not}
+use mathlib.Core.List.{List}
+use lib.ListN.{length}
+use lib.Dec.{leb}
+use Rattle.octets.specs.Choice.{both, either, every}
+use Rattle.octets.specs.Ascii.{ascii}
+use Rattle.octets.specs.Slices.{equals, startsWith, lacks}
+use Rattle.octets.specs.Split.{split}
+use Rattle.pathname.specs.Utf8.{utf8}
+
+-- "begins with `/` or `~/`"
+unfoldable pub rooted : List ℕ → Bool
+rooted n = either (startsWith n (ascii "/")) (startsWith n (ascii "~/"))
+
+-- "at most 255 bytes and not `..`"
+unfoldable pub validComponent : List ℕ → Bool
+validComponent c = both (leb (length c) 255) (not (equals c (ascii "..")))
+
+-- "each component (between slashes, may be empty)"
+unfoldable pub validComponents : List ℕ → Bool
+validComponents n = every validComponent (split 47 n)
+
+unfoldable pub validName : List ℕ → Bool
+validName n =
+    both (leb 1 (length n))
+    (both (leb (length n) 4096)
+    (both (utf8 n)
+    (both (lacks 0 n)
+    (both (rooted n)
+    (validComponents n)))))
