@@ -1,0 +1,185 @@
+-- A value and the text that it is written as, by kind: the text reads as the same value, is calm and is canonical.
+use Prim.Native.Nat.{ℕ, _+_, _-_, _<_}
+use mathlib.Core.Path.{_≡_, refl, sym, _∙_, ap}
+use mathlib.Core.Bool.{Bool, true, false}
+use mathlib.Core.List.{List, [], _∷_}
+use native.Mathlib.Omega.{arith}
+use lib.ListN.{length, getD}
+use lib.Dec.{ltb, eqb}
+use borrow.Author.Tests.{eqb-true, eqb-false, ne-eqb, ltb-true, lt-ltb}
+use Rattle.octets.specs.Ascii.{ascii}
+use Rattle.octets.specs.Bytes.{Bytes}
+use Rattle.octets.specs.Choice.{pick, both, every}
+use Rattle.octets.specs.Slices.{startsWith}
+use Rattle.base64.specs.Decode.{bytesOf}
+use Rattle.base64.specs.Encode as Base64
+use Rattle.base64.proofs.Groups.{valid-groups}
+use Rattle.base64.proofs.RoundTrip.{paddingOf, valid-text, bytes-text}
+use Rattle.decimal.specs.Read.{parseOf, magnitudeOf, digitsOf, rangedOf}
+use Rattle.decimal.specs.Write as Decimal
+use Rattle.decimal.specs.declared.Number.{Number}
+use Rattle.decimal.specs.declared.Parsed.the-variants as Parsed
+use Rattle.decimal.proofs.RoundTrip as decimal
+use Rattle.decimal.proofs.Texts.{canonical-text}
+use Rattle.decimal.proofs.Writes.{writable-is}
+use Rattle.command.specs.Keys.{Alias, Kind, placeIn}
+use Rattle.command.specs.Letters.{safeByte, isByte}
+use Rattle.command.specs.Values.{Value, count, absent, Got, wordRead, over, safeRead, valueRead, Shown, textOr, wordShown, safeShown, integerShown, base64Shown, shown}
+use Rattle.command.specs.Canonical.{CanonicalValue}
+use Rattle.command.specs.Canonical as Grammar
+use Rattle.command.proofs.Every.{every-map, bytes-every, every-bytes}
+use Rattle.command.proofs.Calm.{calm, safe-calm, integer-calm, groups-calm}
+use Rattle.command.proofs.Table.{fit, Words, fit-words}
+
+-- ---- a value that is written as a text, by its kind
+pub data Spelled : Kind → Value → List ℕ → Type 0 where
+  word : {first : ℕ} {ws : List (List ℕ)} {aliases : List Alias} {n : Number} {v : List ℕ}
+      → n .negative ≡ false → (n .magnitude ≡ 0 → ⊥) → n .magnitude - first < length ws → getD ws (n .magnitude - first) [] ≡ v
+      → Spelled (Kind.word first ws aliases) (Value.number n) v
+  string : {short : Bool} {x : ℕ} {v : List ℕ} → every safeByte (x ∷ v) ≡ true → over short (x ∷ v) ≡ false
+      → Spelled (Kind.safe short) (Value.bytes (x ∷ v)) (x ∷ v)
+  integer : {n : Number} {v : List ℕ} → Decimal.writable n ≡ true → (n .magnitude ≡ 0 → ⊥) → Decimal.textOf n ≡ v
+      → Spelled Kind.integer (Value.number n) v
+  base64 : {b : List ℕ} {x : ℕ} {v : List ℕ} → Bytes b → Base64.textOf b ≡ x ∷ v → Spelled Kind.base64 (Value.bytes b) (x ∷ v)
+
+-- what the writer finds a value to be
+pub data Met (k : Kind) (v : Value) : Shown → Type 0 where
+  out : v ≡ absent k → Met k v Shown.leftOut
+  there : {t : List ℕ} → Spelled k v t → Met k v (Shown.text t)
+  refused : {r : ℕ} → Met k v (Shown.refused r)
+
+-- a number without sign is a count
+unsigned : (n : Number) → n .negative ≡ false → n ≡ count (n .magnitude)
+unsigned n e = ap (λ (b : Bool). record { negative = b; magnitude = n .magnitude }) e
+
+nought : (n : Number) → n .negative ≡ false → n .magnitude ≡ 0 → n ≡ count 0
+nought n e z = unsigned n e ∙ ap count z
+
+-- an integer of ours that is 0 has no sign
+pub writable-nought : (n : Number) → Decimal.writable n ≡ true → n .magnitude ≡ 0 → n ≡ count 0
+writable-nought n w z = go (n .negative) refl (rw z at (writable-is n w .0))
+  where
+    go : (x : Bool) → n .negative ≡ x → both x true ≡ false → n ≡ count 0
+    go true e q = let y : _≡_ {A = ℕ} 0 1 = cc in absurd (omega arith)
+    go false e q = nought n e z
+
+met-word : (first : ℕ) (ws : List (List ℕ)) (aliases : List Alias) (n : Number)
+    → Met (Kind.word first ws aliases) (Value.number n) (wordShown first ws n)
+unfolding wordShown
+met-word first ws aliases n = go (n .negative) refl (eqb (n .magnitude) 0) refl (ltb (n .magnitude - first) (length ws)) refl
+  where
+    go : (x : Bool) → n .negative ≡ x → (y : Bool) → eqb (n .magnitude) 0 ≡ y → (z : Bool) → ltb (n .magnitude - first) (length ws) ≡ z
+        → Met (Kind.word first ws aliases) (Value.number n)
+        (pick x (Shown.refused 6) (pick y Shown.leftOut (pick z (Shown.text (getD ws (n .magnitude - first) [])) (Shown.refused 6))))
+    go true ex y ey z ez = refused
+    go false ex true ey z ez = out (ap Value.number (nought n ex (eqb-true _ _ ey)))
+    go false ex false ey true ez = there (word ex (eqb-false _ _ ey) (ltb-true _ _ ez) refl)
+    go false ex false ey false ez = refused
+
+met-string : (short : Bool) (b : List ℕ) → Met (Kind.safe short) (Value.bytes b) (safeShown short b)
+unfolding safeShown
+met-string short b = go (every safeByte b) refl (over short b) refl
+  where
+    spelled : (b : List ℕ) → every safeByte b ≡ true → over short b ≡ false → Met (Kind.safe short) (Value.bytes b) (textOr b)
+    spelled [] s l = out refl
+    spelled (c ∷ b) s l = there (string s l)
+
+    go : (x : Bool) → every safeByte b ≡ x → (y : Bool) → over short b ≡ y
+        → Met (Kind.safe short) (Value.bytes b) (pick x (pick y (Shown.refused 8) (textOr b)) (Shown.refused 6))
+    go true ex false ey = spelled b ex ey
+    go true ex true ey = refused
+    go false ex y ey = refused
+
+met-integer : (n : Number) → Met Kind.integer (Value.number n) (integerShown n)
+unfolding integerShown
+met-integer n = go (Decimal.writable n) refl (eqb (n .magnitude) 0) refl
+  where
+    go : (x : Bool) → Decimal.writable n ≡ x → (y : Bool) → eqb (n .magnitude) 0 ≡ y
+        → Met Kind.integer (Value.number n) (pick x (pick y Shown.leftOut (Shown.text (Decimal.textOf n))) (Shown.refused 6))
+    go true ex true ey = out (ap Value.number (writable-nought n ex (eqb-true _ _ ey)))
+    go true ex false ey = there (integer ex (eqb-false _ _ ey) refl)
+    go false ex y ey = refused
+
+met-base64 : (b : List ℕ) → Met Kind.base64 (Value.bytes b) (base64Shown b)
+unfolding base64Shown
+met-base64 b = go (every isByte b) refl
+  where
+    spelled : (t : List ℕ) → Base64.textOf b ≡ t → Bytes b → Met Kind.base64 (Value.bytes b) (textOr t)
+    spelled [] e h = out (ap Value.bytes (sym (bytes-text b h) ∙ ap bytesOf e ∙ (unfold bytesOf in refl)))
+    spelled (c ∷ t) e h = there (base64 h e)
+
+    go : (x : Bool) → every isByte b ≡ x → Met Kind.base64 (Value.bytes b) (pick x (textOr (Base64.textOf b)) (Shown.refused 6))
+    go true ex = spelled (Base64.textOf b) refl (bytes-every b ex)
+    go false ex = refused
+
+pub met : (k : Kind) (v : Value) → Met k v (shown k v)
+unfolding shown
+met (Kind.word first ws aliases) (Value.number n) = met-word first ws aliases n
+met (Kind.word first ws aliases) (Value.bytes b) = refused
+met (Kind.word first ws aliases) Value.outside = refused
+met (Kind.safe short) (Value.number n) = refused
+met (Kind.safe short) (Value.bytes b) = met-string short b
+met (Kind.safe short) Value.outside = refused
+met Kind.integer (Value.number n) = met-integer n
+met Kind.integer (Value.bytes b) = refused
+met Kind.integer Value.outside = refused
+met Kind.base64 (Value.number n) = refused
+met Kind.base64 (Value.bytes b) = met-base64 b
+met Kind.base64 Value.outside = refused
+
+-- ---- such a value is written as that text
+pub spelled-shown : {k : Kind} {v : Value} {t : List ℕ} → Spelled k v t → shown k v ≡ Shown.text t
+unfolding shown wordShown safeShown integerShown base64Shown
+spelled-shown (word {first} {ws} {aliases} {n} s z i e) = rw (s, ne-eqb _ _ z, lt-ltb _ _ i, e)
+spelled-shown (string s l) = rw (s, l)
+spelled-shown (integer w z e) = rw (w, ne-eqb _ _ z, e)
+spelled-shown (base64 {b} h e) = rw (every-bytes b h, e)
+
+-- what absent means is left out
+pub absent-shown : (k : Kind) → shown k (absent k) ≡ Shown.leftOut
+unfolding shown wordShown safeShown integerShown base64Shown every Decimal.writable Base64.textOf
+absent-shown (Kind.word first ws aliases) = refl
+absent-shown (Kind.safe true) = refl
+absent-shown (Kind.safe false) = refl
+absent-shown Kind.integer = refl
+absent-shown Kind.base64 = refl
+
+-- ---- written, then read
+-- a word reads as its code
+pub word-reads : (first : ℕ) (ws : List (List ℕ)) (aliases : List Alias) → Words first ws aliases → (i : ℕ) (v : List ℕ) → i < length ws → getD ws i [] ≡ v
+    → wordRead first ws aliases v ≡ Got.got (Value.number (count (first + i)))
+unfolding wordRead
+word-reads first ws aliases f i v h e =
+    let p : placeIn ws v ≡ i = ap (placeIn ws) (sym e) ∙ f .found i h in
+    rw (p, lt-ltb i (length ws) h)
+
+pub spelled-reads : {k : Kind} {v : Value} {t : List ℕ} → Spelled k v t → fit k ≡ true → valueRead k t ≡ Got.got v
+unfolding valueRead
+spelled-reads (word {first} {ws} {aliases} {n} {v} s z i e) f =
+    let o = fit-words first ws aliases f in
+    let b = o .counted in
+    word-reads first ws aliases o (n .magnitude - first) v i e
+    ∙ ap (λ (m : Number). Got.got (Value.number m)) (ap count (omega arith) ∙ sym (unsigned n s))
+spelled-reads (string s l) f = unfold safeRead in rw (s, l)
+spelled-reads (integer {n} w z e) f = rw (← e, decimal.read-written n w)
+spelled-reads (base64 {b} h e) f = rw (← e, valid-text b h, bytes-text b h)
+
+-- as a calm text
+pub spelled-calm : {k : Kind} {v : Value} {t : List ℕ} → Spelled k v t → fit k ≡ true → every calm t ≡ true
+spelled-calm (word {first} {ws} {aliases} {n} s z i e) f = rw e at (fit-words first ws aliases f .quiet (n .magnitude - first) i)
+spelled-calm (string {short} {x} {v} s l) f = every-map safeByte calm safe-calm (x ∷ v) s
+spelled-calm (integer {n} w z e) f = rw e at (integer-calm n)
+spelled-calm (base64 {b} h e) f = rw e at (groups-calm (valid-groups (Base64.textOf b) (paddingOf b) (valid-text b h)))
+
+-- which is canonical: a number other than 0 is not written `0`
+zero-text : (n : Number) → Decimal.writable n ≡ true → Decimal.textOf n ≡ ascii "0" → n .magnitude ≡ 0
+unfolding parseOf startsWith magnitudeOf digitsOf rangedOf
+zero-text n w e = let p : Parsed.Integer (count 0) ≡ Parsed.Integer n = rw e at (decimal.read-written n w) in let q : count 0 ≡ n = cc in rw (← q)
+
+pub spelled-canonical : {k : Kind} {v : Value} {t : List ℕ} → Spelled k v t → fit k ≡ true → CanonicalValue k t
+spelled-canonical (word {first} {ws} {aliases} {n} s z i e) f =
+    Grammar.a-word (n .magnitude - first) i e (λ (q : first + (n .magnitude - first) ≡ 0). z (omega (arith, fit-words first ws aliases f .counted)))
+spelled-canonical (string s l) f = Grammar.a-string
+spelled-canonical (integer {n} {v} w z e) f =
+    Grammar.an-integer (rw e at (canonical-text n w)) (λ (q : v ≡ ascii "0"). z (zero-text n w (e ∙ q)))
+spelled-canonical (base64 h e) f = Grammar.a-base64

@@ -1,0 +1,9 @@
+pub mod Keys
+pub mod Letters
+pub mod Values
+pub mod Fields
+pub mod Meaning
+pub mod Canonical
+pub mod Slots
+pub mod Read
+pub mod Write

@@ -1,0 +1,89 @@
+// The command of a text, as values: what reading a command text gives, and what writing one takes.
+//
+// Here stand the types, the definitions of reading and writing (specs/) and the theorems about them
+// (proofs/). The functions that read and write are in `command_reader` and `command_writer`.
+use decimal::Number;
+
+// "action": none is the case of a command without one, which only a writer can meet.
+pub enum Action {
+    None,
+    Send,
+    Receive,
+    File,
+    Data,
+    EndData,
+    Finish,
+    Cancel,
+    Status,
+}
+
+// "file type"
+pub enum FileType {
+    Regular,
+    Directory,
+    Symlink,
+    Link,
+}
+
+// "transmission"
+pub enum Transmission {
+    Simple,
+    Rsync,
+}
+
+// Where bytes stand in a buffer.
+pub struct Place {
+    pub start: usize,
+    pub len: usize,
+}
+
+// A command. id, file_id, bypass and parent stand in the text; name, status and data, decoded,
+// in the scratch. Compression has one word only, so that it holds nothing.
+pub struct Command {
+    pub action: Action,
+    pub file_type: FileType,
+    pub transmission: Transmission,
+    pub id: Place,
+    pub file_id: Place,
+    pub bypass: Place,
+    pub quiet: u64,
+    pub modified: Number,
+    pub permissions: Number,
+    pub size: Number,
+    pub name: Place,
+    pub status: Place,
+    pub parent: Place,
+    pub payload: Place,
+}
+
+// Why a text is not read, or a command not written.
+pub enum Refusal {
+    TextTooLong,
+    BadByte,
+    BadField,
+    Repeated,
+    BadValue,
+    Missing,
+    TooLong,
+    ShortBuffer,
+}
+
+// What reading a text answers.
+pub enum Reading {
+    Read(Command),
+    Refused(Refusal),
+}
+
+// What writing a command answers: the length of its text.
+pub enum Written {
+    Length(usize),
+    Refused(Refusal),
+}
+
+// One field of a command, whichever its key: whether it has stood, a word's code or an integer,
+// and a string's place. What a key's kind does not use is zero.
+pub struct Slot {
+    pub stood: bool,
+    pub number: Number,
+    pub place: Place,
+}
