@@ -2,7 +2,9 @@
 // The stored output is what the documents say, so that a wrong definition shows here even where code
 // and definition agree.
 mod base64_cases;
+mod command_cases;
 mod decimal_cases;
+mod frame_cases;
 mod name_cases;
 mod out;
 
@@ -10,4 +12,6 @@ fn main() {
     base64_cases::run();
     decimal_cases::run();
     name_cases::run();
+    command_cases::run();
+    frame_cases::run();
 }

@@ -1,0 +1,11 @@
+pub mod Choices
+mod CarryLaws
+mod WalkLaws
+mod GlideLaws
+pub mod CallLaws
+mod States
+mod TextLaws
+mod Runs
+mod Modes
+pub mod Follows
+pub mod Cuts

@@ -1,0 +1,90 @@
+-- The walk of a piece: a turn of it, the bounds of its count, and what it uses.
+use Prim.Native.Nat.{ℕ, suc, _+_, _-_, _<_, _≤_}
+use mathlib.Core.Path.{_≡_, sym, _∙_}
+use mathlib.Core.List.{List, [], _∷_}
+use native.Mathlib.Nat.{le-trans}
+use native.Mathlib.Omega.{arith}
+use lib.ListN.{length, getD, drop}
+use lib.Dec.{ltb, leb, eqb}
+use Rattle.octets.specs.Slices.{startsWith}
+use Rattle.octets.proofs.Lists.{drop-at}
+use Rattle.frames.specs.Stream.{Mode, mark, textLimit, afterEscape}
+use Rattle.frames.specs.Framings.{mayBeCommand, count, framingOf, cappedOf}
+use Rattle.frames.specs.Steps.{stepOf, after, walkFrom}
+use Rattle.frames.specs.Carry.{reportedAt, heldOf}
+use Rattle.frames.specs.Steps.{framingAfter}
+use Rattle.frames.specs.declared.Framing.{Framing}
+use Rattle.frames.specs.declared.Framing.the-variants.{Plain, Escape, Text, TextEscape}
+use Rattle.frames.specs.declared.step.Event.{Event}
+use Rattle.frames.specs.declared.step.Event.the-variants.{On, Closed, Abandoned}
+use Rattle.frames.specs.declared.walk.Walked.{Walked}
+use Rattle.frames.specs.declared.carry.Held.{Held}
+use Rattle.frames.proofs.Choices.{by-pick}
+
+-- the walk from i on is what the event at i makes of the walk from i + 1 on
+pub turn : (f : Framing) (i : ℕ) (xs : List ℕ) (r : Event) → i < length xs → r ≡ stepOf f (getD xs i 0)
+    → walkFrom f i (drop i xs) ≡ after r (i + 1) (λ (g : Framing). walkFrom g (i + 1) (drop (i + 1) xs))
+unfolding walkFrom
+turn f i xs r h e = rw (drop-at xs i h, e)
+
+-- ---- the count
+-- the byte after a 1B leads to one of three framings
+pub by-escape : (P : Framing → Type 0) (b : ℕ) → P (Text 0) → P Escape → P Plain → P (framingOf (afterEscape b))
+unfolding mayBeCommand startsWith
+by-escape P b p q r =
+    let Q : Mode → Type 0 = λ m. P (framingOf m) in
+    by-pick Q (eqb b 0x5D) (λ _. p) (λ _. by-pick Q (eqb b 0x1B) (λ _. q) (λ _. r))
+
+escape-count : (b n : ℕ) → count (framingOf (afterEscape b)) ≤ n
+escape-count b n = by-escape (λ g. count g ≤ n) b (omega arith) (omega arith) (omega arith)
+
+-- a byte adds at most one to the count
+grows : (f : Framing) (b : ℕ) → count (framingAfter (stepOf f b)) ≤ count f + 1
+unfolding stepOf
+grows Plain b = by-pick (λ (g : Framing). count g ≤ 0 + 1) (eqb b 0x1B) (λ _. omega arith) (λ _. omega arith)
+grows Escape b = escape-count b (0 + 1)
+grows (Text n) b =
+    let P : Framing → Type 0 = λ g. count g ≤ n + 1 in
+    by-pick P (ltb n 5)
+    (λ _. by-pick P (eqb b 0x1B) (λ _. omega arith) (λ _. by-pick P (eqb b (getD mark n 0)) (λ _. omega arith) (λ _. omega arith)))
+    (λ _. by-pick P (eqb b 0x1B) (λ _. omega arith) (λ _. omega arith))
+grows (TextEscape n) b =
+    by-pick (λ (e : Event). count (framingAfter e) ≤ n + 1) (eqb b 0x5C) (λ _. omega arith) (λ _. escape-count b (n + 1))
+
+pub grows-on : (f : Framing) (b : ℕ) (r : Event) (g : Framing) → r ≡ stepOf f b → r ≡ On g → count g ≤ count f + 1
+grows-on f b r g p q = rw (sym p ∙ q) at (grows f b)
+
+pub capped-le : (f : Framing) → count (cappedOf f) ≤ textLimit + 1
+capped-le Plain = omega arith
+capped-le Escape = omega arith
+capped-le (Text n) = omega arith
+capped-le (TextEscape n) = omega arith
+
+-- ---- the bytes used
+after-used : (r : Event) (i n : ℕ) (k : Framing → Walked) → i ≤ n → ((g : Framing) → k g .used ≤ n) → after r i k .used ≤ n
+after-used (On g) i n k p h = h g
+after-used (Closed m) i n k p h = p
+after-used (Abandoned m g) i n k p h = p
+
+pub used-le : (f : Framing) (i : ℕ) (xs : List ℕ) → walkFrom f i xs .used ≤ i + length xs
+unfolding walkFrom
+used-le f i [] = omega arith
+used-le f i (b ∷ xs) = after-used (stepOf f b) (i + 1) (i + suc (length xs)) _ (omega arith) (λ g. le-trans (used-le g (i + 1) xs) (omega arith))
+
+-- what is held ends within them
+reported-end : (u n : ℕ) → reportedAt u n .end ≤ u
+reported-end u n = by-pick (λ (h : Held). h .end ≤ u) (leb n (u - 2)) (λ _. omega arith) (λ _. omega arith)
+
+held-end : (e : Event) (u : ℕ) → heldOf e u .end ≤ u
+unfolding heldOf
+held-end (On Plain) u = omega arith
+held-end (On Escape) u = omega arith
+held-end (On (Text n)) u = omega arith
+held-end (On (TextEscape n)) u = omega arith
+held-end (Closed n) u = reported-end u n
+held-end (Abandoned n g) u = reported-end u n
+
+pub held-within : (w : Walked) (f : Framing) (xs : List ℕ) → w ≡ walkFrom f 0 xs → heldOf (w .event) (w .used) .end ≤ length xs
+held-within w f xs e =
+    let u : w .used ≤ length xs = rw e (le-trans (used-le f 0 xs) (omega arith)) in
+    le-trans (held-end (w .event) (w .used)) u

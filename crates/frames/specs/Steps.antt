@@ -1,0 +1,48 @@
+-- What one byte does to a framing, and what a piece does up to the first thing to report.
+use Prim.Native.Nat.{ℕ, _+_, _-_}
+use mathlib.Core.List.{List, [], _∷_}
+use lib.ListN.{length, getD}
+use lib.Dec.{ltb, eqb}
+use Rattle.octets.specs.Choice.{pick}
+use Rattle.frames.specs.Stream.{mark, afterEscape}
+use Rattle.frames.specs.Framings.{framingOf}
+use Rattle.frames.specs.declared.Framing.{Framing}
+use Rattle.frames.specs.declared.Framing.the-variants.{Plain, Escape, Text, TextEscape}
+use Rattle.frames.specs.declared.step.Event.{Event}
+use Rattle.frames.specs.declared.step.Event.the-variants.{On, Closed, Abandoned}
+use Rattle.frames.specs.declared.walk.Walked.{Walked}
+
+-- the byte after n bytes of a text that may be a command: one of its first five must be that of `5113;`
+abbrev pub inText : ℕ → ℕ → Framing
+inText n b =
+    pick (ltb n (length mark))
+    (pick (eqb b 0x1B) Escape (pick (eqb b (getD mark n 0)) (Text (n + 1)) Plain))
+    (pick (eqb b 0x1B) (TextEscape n) (Text (n + 1)))
+
+-- one byte: the framing goes on, or a command text of n bytes closes or is abandoned
+unfoldable pub stepOf : Framing → ℕ → Event
+stepOf Plain b = On (pick (eqb b 0x1B) Escape Plain)
+stepOf Escape b = On (framingOf (afterEscape b))
+stepOf (Text n) b = On (inText n b)
+stepOf (TextEscape n) b = pick (eqb b 0x5C) (Closed n) (Abandoned n (framingOf (afterEscape b)))
+
+-- the framing after an event
+abbrev pub framingAfter : Event → Framing
+framingAfter (On g) = g
+framingAfter (Closed n) = Plain
+framingAfter (Abandoned n g) = g
+
+-- what an event makes of a walk that has used i bytes; k is how it goes on
+abbrev pub after : Event → ℕ → (Framing → Walked) → Walked
+after (On g) i k = k g
+after (Closed n) i k = record { used = i; event = Closed n }
+after (Abandoned n g) i k = record { used = i; event = Abandoned n g }
+
+-- where a text ends that closes or is abandoned at byte u: before its 1B. At the piece's start where the 1B came with an earlier one.
+abbrev pub endOf : ℕ → ℕ
+endOf u = u - 2
+
+-- "consumes through the first thing to report": the walk of xs, which begins at i of its piece
+unfoldable pub walkFrom : Framing → ℕ → List ℕ → Walked
+walkFrom f i [] = record { used = i; event = On f }
+walkFrom f i (b ∷ xs) = after (stepOf f b) (i + 1) (λ (g : Framing). walkFrom g (i + 1) xs)

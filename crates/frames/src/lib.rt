@@ -1,0 +1,133 @@
+// Frames: texts between 1B 5D and 1B 5C, read from bytes that come in pieces.
+//
+// A call takes one piece and the caller's carry buffer, and consumes the piece through the first
+// thing to report. What it has to know of the bytes before is the framing, a small value, and the
+// first bytes of a text that began in an earlier piece, which stand in the carry. A text that lies
+// wholly in its piece is not copied. No function has a `requires`: a framing that no call gave is
+// answered by the same definitions.
+mod carry;
+mod size;
+mod step;
+mod walk;
+
+ghost use mathlib.Core.Path.{_≡_};
+ghost use Rattle.octets.specs.Outcome.{outcome};
+ghost use Rattle.frames.specs.Calls.{placeOf, reportOf, scanOf, partOf, textOf};
+use carry::held_of;
+use carry::keep;
+use size::less;
+use step::Event;
+use step::capped;
+use step::framing_after;
+use walk::walk_piece;
+
+// "A command text may have 8,192 bytes, the `5113;` included."
+pub const TEXT_LIMIT: usize = 8192;
+
+// What is known of the bytes before a piece: whether they end in a text that may be a command, with
+// the count of its bytes, and whether they end in a 1B. A text known not to be a command behaves as
+// plain bytes do.
+pub enum Framing {
+    Plain,
+    Escape,
+    Text(usize),
+    TextEscape(usize),
+}
+
+// What a call reports.
+pub enum Report {
+    Nothing,
+    // A command text in the piece: where it starts, and its length.
+    InPiece(usize, usize),
+    // A command text at the start of the carry: its length.
+    InCarry(usize),
+    // Refusal 1, 2 and 9.
+    TooLong,
+    Abandoned,
+    ShortCarry,
+}
+
+// What a call answers: how many bytes of the piece it consumed, the framing for the next call, and
+// what it reports.
+pub struct Scanned {
+    pub consumed: usize,
+    pub framing: Framing,
+    pub report: Report,
+}
+
+// Reads a piece through the first thing to report.
+pub fn scan(framing: Framing, piece: &[u8], carry: &mut [u8]) -> Scanned
+    ensures { λ r. ⌜ outcome r (now (carry .exit)) ≡ scanOf framing (now (piece .entry)) (now (carry .entry)) ⌝ }
+{
+    if carry.len() < TEXT_LIMIT {
+        return Scanned {
+            consumed: 0,
+            framing: framing,
+            report: Report::ShortCarry,
+        };
+    }
+    let w = walk_piece(framing, piece);
+    let used = w.used;
+    let event = w.event;
+    let h = held_of(event, used);
+    keep(piece, carry, h.end, h.count);
+    Scanned {
+        consumed: used,
+        framing: capped(framing_after(event)),
+        report: report_of(event, used),
+    }
+}
+
+// The text of a report, given the piece and the carry of its call: empty where it has none, or
+// where its place passes the end of that buffer.
+pub fn text<'a>(piece: &'a [u8], carry: &'a [u8], report: Report) -> &'a [u8]
+    ensures { λ t. ⌜ now t ≡ textOf (now (piece .entry)) (now (carry .entry)) report ⌝ }
+{
+    match report {
+        Report::Nothing => &piece[..0],
+        Report::InPiece(start, n) => part(piece, start, n),
+        Report::InCarry(n) => part(carry, 0, n),
+        Report::TooLong => &piece[..0],
+        Report::Abandoned => &piece[..0],
+        Report::ShortCarry => &piece[..0],
+    }
+}
+
+// The n bytes of s from `start` on; none where they pass its end.
+fn part(s: &[u8], start: usize, n: usize) -> &[u8]
+    ensures { λ t. ⌜ now t ≡ partOf (now (s .entry)) start n ⌝ }
+{
+    if start > s.len() {
+        return &s[..0];
+    }
+    if n > s.len() - start {
+        return &s[..0];
+    }
+    &s[start..start + n]
+}
+
+fn report_of(event: Event, used: usize) -> Report
+    ensures { λ r. ⌜ r ≡ reportOf event used ⌝ }
+{
+    match event {
+        Event::On(_) => Report::Nothing,
+        Event::Closed(n) => if n <= TEXT_LIMIT {
+            place(used, n)
+        } else {
+            Report::TooLong
+        },
+        Event::Abandoned(_, _) => Report::Abandoned,
+    }
+}
+
+// Where a command text of n bytes stands that is closed by the last of the bytes used.
+fn place(used: usize, n: usize) -> Report
+    ensures { λ r. ⌜ r ≡ placeOf used n ⌝ }
+{
+    let end = less(used, 2);
+    if n <= end {
+        Report::InPiece(end - n, n)
+    } else {
+        Report::InCarry(n)
+    }
+}

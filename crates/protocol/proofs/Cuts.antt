@@ -1,0 +1,74 @@
+-- THE CUT DOES NOT MATTER, at the level of calls. What a list of calls gives, and the receiver that it leaves, are those of its moves and of
+-- all bytes that it consumes: pieces, places, scratch and buffers count for nothing.
+use Prim.Native.Nat.{ℕ}
+use mathlib.Core.Path.{_≡_, refl, sym, ap, _∙_}
+use mathlib.Core.List.{List, [], _∷_, _++_, append-assoc, append-nil}
+use Rattle.frames.specs.Stream as Stream
+use Rattle.frames.specs.Stream.{Mode, stream}
+use Rattle.frames.specs.Framings.{framingOf}
+use Rattle.frames.specs.declared.Framing.{Framing}
+use Rattle.frames.proofs.Follows.{stream-append}
+use Rattle.protocol.specs.Table.{emptyTable}
+use Rattle.protocol.specs.History.{bytesOf}
+use Rattle.protocol.specs.Claim.{Call, World, step, start}
+use Rattle.protocol.specs.Cuts.{Move, Output, allGiven, after, AllLent, moves, CutsAlike}
+use Rattle.protocol.specs.declared.Table.{Table}
+use Rattle.protocol.specs.declared.Receiver.{Receiver}
+use Rattle.protocol.proofs.CutsRun.{run, Moves, none, one}
+use Rattle.protocol.proofs.CutsCalls.{Kept, start-kept, consumed, toldBy, steps}
+
+-- what the bytes of a list of calls tell, call by call
+abbrev allTold : World → List Call → List Stream.Told
+allTold w [] = []
+allTold w (c ∷ cs) = toldBy w c ++ allTold (step w c) cs
+
+-- it is what all bytes tell, after what those before the calls told
+told-all : (w : World) (cs : List Call) → Kept w → AllLent w cs
+    → stream Mode.outside (bytesOf (after w cs .history)) .0 ≡ stream Mode.outside (bytesOf (w .history)) .0 ++ allTold w cs
+told-all w [] ok lent = sym (append-nil _)
+told-all w (c ∷ cs) ok lent =
+    let s = steps w ok c (lent .0) in
+    told-all (step w c) cs (s .kept) (lent .1)
+    ∙ ap (λ (ds : List Stream.Told). ds ++ allTold (step w c) cs)
+    (ap (λ (bs : List ℕ). stream Mode.outside bs .0) (s .bytes) ∙ ap (λ (x : List Stream.Told × Mode). x .0) (stream-append Mode.outside (bytesOf (w .history)) (consumed w c)))
+    ∙ append-assoc (stream Mode.outside (bytesOf (w .history)) .0) (toldBy w c) (allTold (step w c) cs)
+
+kept-all : (w : World) (cs : List Call) → Kept w → AllLent w cs → Kept (after w cs)
+kept-all w [] ok lent = ok
+kept-all w (c ∷ cs) ok lent = kept-all (step w c) cs (steps w ok c (lent .0) .kept) (lent .1)
+
+-- ---- one call, and then others
+run-more : {t t′ : Table} {os : List Output} {ds : List Stream.Told} (more : List Output) (rest : List Stream.Told) → Moves t t′ os ds
+    → run t (moves (os ++ more)) (ds ++ rest) ≡ (os ++ run t′ (moves more) rest .0, run t′ (moves more) rest .1)
+run-more more rest (none e) = rw e
+run-more more rest (one o ds e) = rw (e rest)
+
+run-all : (w : World) (cs : List Call) → Kept w → AllLent w cs
+    → run (w .receiver .table) (moves (allGiven w cs)) (allTold w cs) ≡ (allGiven w cs, after w cs .receiver .table)
+run-all w [] ok lent = refl
+run-all w (c ∷ cs) ok lent =
+    let s = steps w ok c (lent .0) in
+    run-more (allGiven (step w c) cs) (allTold (step w c) cs) (s .moves) ∙ rw (run-all (step w c) cs (s .kept) (lent .1))
+
+-- ---- from a fresh receiver
+pub calls-run : (carry : List ℕ) (cs : List Call) → AllLent (start carry) cs
+    → run emptyTable (moves (allGiven (start carry) cs)) (stream Mode.outside (bytesOf (after (start carry) cs .history)) .0)
+    ≡ (allGiven (start carry) cs, after (start carry) cs .receiver .table)
+unfolding stream
+calls-run carry cs lent = rw (told-all (start carry) cs (start-kept carry) lent) (run-all (start carry) cs (start-kept carry) lent)
+
+same-runs : (t : Table) {ms₁ ms₂ : List Move} {ds₁ ds₂ : List Stream.Told} {x₁ x₂ : List Output × Table} → ms₁ ≡ ms₂ → ds₁ ≡ ds₂
+    → run t ms₁ ds₁ ≡ x₁ → run t ms₂ ds₂ ≡ x₂ → x₁ ≡ x₂
+same-runs t m d e₁ e₂ = sym e₁ ∙ rw (m, d) e₂
+
+same-receiver : (r₁ r₂ : Receiver) → r₁ .framing ≡ r₂ .framing → r₁ .table ≡ r₂ .table → r₁ ≡ r₂
+same-receiver r₁ r₂ f t = ap (λ (g : Framing). record { framing = g; table = r₁ .table }) f ∙ ap (λ (x : Table). record { framing = r₂ .framing; table = x }) t
+
+pub cuts-alike : CutsAlike
+cuts-alike carry₁ carry₂ cs₁ cs₂ lent₁ lent₂ bytes same =
+    let q = same-runs emptyTable same (ap (λ (bs : List ℕ). stream Mode.outside bs .0) bytes) (calls-run carry₁ cs₁ lent₁) (calls-run carry₂ cs₂ lent₂) in
+    let f₁ = kept-all (start carry₁) cs₁ (start-kept carry₁) lent₁ .follows .framing in
+    let f₂ = kept-all (start carry₂) cs₂ (start-kept carry₂) lent₂ .follows .framing in (
+      ap (λ (x : List Output × Table). x .0) q,
+      same-receiver _ _ (f₁ ∙ ap (λ (bs : List ℕ). framingOf (stream Mode.outside bs .1)) bytes ∙ sym f₂) (ap (λ (x : List Output × Table). x .1) q),
+    )

@@ -1,0 +1,226 @@
+-- Each call, lent the kept carry, does to the table what its move does: a feed with a report that of the next thing told by the bytes that it
+-- consumes, a feed without one nothing.
+use Prim.Native.Nat.{ℕ, _≤_}
+use mathlib.Core.Path.{_≡_, refl, sym, _∙_}
+use mathlib.Core.Bool.{Bool, true, false}
+use mathlib.Core.List.{List, [], _∷_, _++_, append-nil}
+use lib.ListN.{length, take}
+use lib.Dec.{ltb, lit≤}
+use borrow.Author.Tests.{ltb-false, le-leb}
+use Rattle.octets.specs.Choice.{pick}
+use Rattle.octets.specs.Outcome.{Outcome, outcome}
+use Rattle.frames.specs.Stream as Stream
+use Rattle.frames.specs.Stream.{Mode, stream}
+use Rattle.frames.specs.Calls.{scanOf, textOf}
+use Rattle.frames.specs.Follows.{Follows, toldOf}
+use Rattle.frames.specs.declared.Report.{Report}
+use Rattle.frames.specs.declared.Report.the-variants as Report
+use Rattle.frames.proofs.CallLaws.{call-report}
+use Rattle.frames.proofs.Follows.{stream-append, fresh-follows, call-follows}
+use Rattle.command.specs.Read.{readOf}
+use Rattle.protocol.specs.Table.{findSession}
+use Rattle.protocol.specs.Replies.{replyBytes, repliedOf}
+use Rattle.protocol.specs.Answers.{refused, settleDone, settleFailed, dropFound, allowedOf, deniedOf, droppedOf}
+use Rattle.protocol.specs.Calls.{isOwed, Feeding, feeding, Acted, readAct, reportAct, feedRefused, scannedFeed, isShort, feedOf, answeredBy, replied, guarded, allowOf, denyOf, dropOf, doneOf, failedOf}
+use Rattle.protocol.specs.History.{Event, bytesOf, modeAfter}
+use Rattle.protocol.specs.Claim.{Call, World, isRefusal, Lent, afterFeed, afterCall, step, start}
+use Rattle.protocol.specs.Cuts.{saying, Move, Output, output, isReport, reportOf, answerOf, given}
+use Rattle.protocol.specs.declared.Table.{Table}
+use Rattle.protocol.specs.declared.Receiver.{Receiver}
+use Rattle.protocol.specs.declared.Told.{Told}
+use Rattle.protocol.specs.declared.Told.the-variants as Told
+use Rattle.protocol.specs.declared.Stepped.{Stepped}
+use Rattle.protocol.specs.declared.Answered.{Answered}
+use Rattle.protocol.specs.declared.Found.{Found}
+use Rattle.protocol.specs.declared.Found.the-variants as Found
+use Rattle.protocol.proofs.ReplyBytes.{SizedReply, reply-sent}
+use Rattle.protocol.proofs.Sizes.{Sized, SizedStep, none-sized, empty-sized, done-sized, failed-sized, allow-sized, deny-sized, dropped-sized}
+use Rattle.protocol.proofs.ReplyLengths.{report-sized, Roomy, roomy}
+use Rattle.protocol.proofs.CutsReading.{same-reading}
+use Rattle.protocol.proofs.CutsSteps.{SameAct, act-same}
+use Rattle.protocol.proofs.CutsRun.{zeros, textIn, actOn, reported, moveBy, move, Moves, none, one}
+
+-- ---- what every call keeps
+pub record Kept (w : World) : Type 0 where
+  pub follows : Follows (w .receiver .framing) (w .carry) (modeAfter (w .history))
+  pub sized : Sized (w .receiver .table)
+
+pub start-kept : (carry : List ℕ) → Kept (start carry)
+unfolding stream
+start-kept carry = record { follows = fresh-follows carry; sized = empty-sized }
+
+-- ---- a report
+abbrev reporting : List ℕ → Acted → List ℕ → Output
+reporting text a reply =
+    output Move.report text (saying (a .step .told) text (a .scratch)) (take (repliedOf (a .step .reply) reply .answer) (repliedOf (a .step .reply) reply .buffer))
+
+-- an act on the table that is no refusal with 9 to 12, what it gives, and what was told for it
+record Acts (t : Table) (a : Acted) (os : List Output) (ds : List Stream.Told) : Type 0 where
+  taken : isRefusal (a .step .told) ≡ false
+  moves : Moves t (a .step .table) os ds
+
+module _ (t : Table) (h : Sized t) (scratch reply : List ℕ) (enough : 6144 ≤ length scratch) (long : 124 ≤ length reply) where
+  -- the act for a thing told, with any scratch
+  act-moves : (d : Stream.Told) (a : Acted) → SizedReply (a .step .reply) → SameAct (textIn d) a (actOn t d) → Acts t a (reporting (textIn d) a reply ∷ []) (d ∷ [])
+  act-moves d a z s =
+      let e : reporting (textIn d) a reply ≡ reported t d = rw (reply-sent (a .step .reply) reply z long .bytes, s .said, s .step) in
+      let q : a .step .table ≡ actOn t d .step .table = rw (s .step) in
+      record { taken = s .taken; moves = rw (e, q) (one (reported t d) (d ∷ []) (λ rest. refl)) }
+
+  text-moves : (text : List ℕ)
+      → Acts t (readAct t text (readOf text scratch)) (reporting text (readAct t text (readOf text scratch)) reply ∷ []) (Stream.Told.command text ∷ [])
+  text-moves text =
+      act-moves (Stream.Told.command text) _ (report-sized t h (Report.InCarry 0) text scratch .reply) (act-same t h text (same-reading text scratch zeros enough (lit≤ tt)))
+
+  report-moves : (k : Report) (piece carry : List ℕ) → (k ≡ Report.ShortCarry → ⊥)
+      → let text = textOf piece carry k in
+      Acts t (reportAct t k text scratch) (pick (isReport k) (reporting text (reportAct t k text scratch) reply ∷ []) []) (toldOf k text)
+  unfolding textOf
+  report-moves Report.Nothing piece carry n = record { taken = refl; moves = none refl }
+  report-moves (Report.InPiece start len) piece carry n = text-moves _
+  report-moves (Report.InCarry len) piece carry n = text-moves _
+  report-moves Report.TooLong piece carry n = act-moves Stream.Told.tooLong _ none-sized (record { step = refl; said = refl; taken = refl })
+  report-moves Report.Abandoned piece carry n = act-moves Stream.Told.abandoned _ none-sized (record { step = refl; said = refl; taken = refl })
+  report-moves Report.ShortCarry piece carry n = absurd (n refl)
+
+-- ---- a feed
+-- what a feed of a piece does to the world
+record Feeds (w : World) (piece : List ℕ) (f : Feeding) : Type 0 where
+  moves : Moves (w .receiver .table) (f .fed .receiver .table) (reportOf piece f) (stream (modeAfter (w .history)) (take (f .fed .consumed) piece) .0)
+  kept : Kept (afterFeed w piece f)
+
+module _ (w : World) (ok : Kept w) (piece carry scratch reply : List ℕ) where
+  -- refused with 9 or 10
+  refused-feeds : (n : ℕ) → 9 ≤ n → Feeds w piece (feeding (feedRefused (w .receiver) n) carry scratch reply)
+  unfolding stream
+  refused-feeds n l =
+      record {
+        moves = none refl;
+        kept = record { follows = rw (le-leb 9 n l, modeAfter, append-nil (bytesOf (w .history))) (ok .follows); sized = ok .sized };
+      }
+
+  abbrev taken : Feeding
+  taken = scannedFeed (w .receiver .table) piece (scanOf (w .receiver .framing) piece carry) scratch reply
+
+  taken-feeds : Roomy carry scratch reply → (isRefusal (taken .fed .told) ≡ false → carry ≡ w .carry) → Feeds w piece taken
+  unfolding scannedFeed
+  taken-feeds long lent =
+      let k = scanOf (w .receiver .framing) piece carry in
+      let a = report-moves (w .receiver .table) (ok .sized) scratch reply (long .scratch) (long .reply) (k .answer .report) piece (k .buffer)
+      (call-report (w .receiver .framing) piece carry (long .carry)) in
+      let f : Follows (w .receiver .framing) carry (modeAfter (w .history)) = rw (lent (a .taken)) (ok .follows) in
+      let c = call-follows piece f in
+      record {
+        moves = rw (c .0) (a .moves);
+        kept =
+            record {
+              follows = rw (a .taken, modeAfter, stream-append Mode.outside (bytesOf (w .history)) (take (k .answer .consumed) piece)) (c .1);
+              sized = report-sized (w .receiver .table) (ok .sized) (k .answer .report) (textOf piece (k .buffer) (k .answer .report)) scratch .table;
+            };
+      }
+
+  feeds : Lent w (Call.feed piece carry scratch reply) → Feeds w piece (feedOf (w .receiver) piece carry scratch reply)
+  unfolding feedOf
+  feeds = go (isShort carry scratch reply) refl (isOwed (w .receiver .table .owed))
+    where
+      no : ℕ → Feeding
+      no n = feeding (feedRefused (w .receiver) n) carry scratch reply
+
+      go : (s : Bool) → isShort carry scratch reply ≡ s → (b : Bool)
+          → (isRefusal (pick s (no 9) (pick b (no 10) taken) .fed .told) ≡ false → carry ≡ w .carry) → Feeds w piece (pick s (no 9) (pick b (no 10) taken))
+      go true e b lent = refused-feeds 9 (lit≤ tt)
+      go false e true lent = refused-feeds 10 (lit≤ tt)
+      go false e false lent = taken-feeds (roomy carry scratch reply e) lent
+
+-- ---- a console call
+-- what one that is lent a reply buffer does to the receiver
+record Answers (r : Receiver) (a : Outcome Answered) (os : List Output) : Type 0 where
+  framing : a .answer .receiver .framing ≡ r .framing
+  moves : Moves (r .table) (a .answer .receiver .table) os []
+  sized : Sized (a .answer .receiver .table)
+
+answers : (r : Receiver) → Sized (r .table) → (m : Move) (s : Stepped) (reply : List ℕ) → SizedStep s
+    → ((ds : List Stream.Told) → move (r .table) m ds ≡ moveBy m s ds) → Answers r (guarded r s reply) (answerOf m reply (guarded r s reply))
+unfolding guarded
+answers r h m s reply z e = go (ltb (length reply) 124) refl
+  where
+    out : Outcome Answered → Output
+    out a = output m [] (saying (a .answer .told) [] []) (take (a .answer .«reply_len») (a .buffer))
+
+    go : (b : Bool) → ltb (length reply) 124 ≡ b
+        → let a = pick b (outcome (answeredBy (r .framing) (refused (r .table) 9) 0) reply) (replied (r .framing) s reply) in Answers r a (pick b [] (out a ∷ []))
+    go true q = record { framing = refl; moves = none refl; sized = h }
+    go false q =
+        let o : out (replied (r .framing) s reply) ≡ moveBy m s [] .output = rw (reply-sent (s .reply) reply (z .reply) (ltb-false _ _ q) .bytes) in
+        record { framing = refl; moves = rw o (one (moveBy m s [] .output) [] e); sized = z .table }
+
+-- drop replies nothing
+drop-silent : (t : Table) (id : List ℕ) → replyBytes (droppedOf t id .reply) ≡ []
+unfolding droppedOf replyBytes
+drop-silent t id = go (findSession t id)
+  where
+    go : (f : Found) → replyBytes (dropFound t f .reply) ≡ []
+    go Found.Nowhere = refl
+    go (Found.At i) = refl
+
+-- ---- every call
+-- the bytes that it consumes, and what they tell
+abbrev pub consumed : World → Call → List ℕ
+consumed w (Call.feed piece carry scratch reply) = take (feedOf (w .receiver) piece carry scratch reply .fed .consumed) piece
+consumed w (Call.allow id reply) = []
+consumed w (Call.deny id reply) = []
+consumed w (Call.drop id) = []
+consumed w (Call.done reply) = []
+consumed w (Call.failed code reply) = []
+
+abbrev pub toldBy : World → Call → List Stream.Told
+toldBy w c = stream (modeAfter (w .history)) (consumed w c) .0
+
+pub record Steps (w : World) (c : Call) : Type 0 where
+  pub bytes : bytesOf (step w c .history) ≡ bytesOf (w .history) ++ consumed w c
+  pub moves : Moves (w .receiver .table) (step w c .receiver .table) (given w c) (toldBy w c)
+  pub kept : Kept (step w c)
+
+-- an event that adds no bytes, noted or not
+noted-bytes : (b : Bool) (e : Event) (h : List Event) → bytesOf (e ∷ h) ≡ bytesOf h → bytesOf (pick b h (e ∷ h)) ≡ bytesOf h ++ []
+noted-bytes true e h q = sym (append-nil (bytesOf h))
+noted-bytes false e h q = q ∙ sym (append-nil (bytesOf h))
+
+module _ (w : World) (ok : Kept w) where
+  abbrev r : Receiver
+  r = w .receiver
+
+  abbrev h : List Event
+  h = w .history
+
+  console-kept : (a : Answered) (h′ : List Event) → bytesOf h′ ≡ bytesOf h ++ [] → a .receiver .framing ≡ r .framing → Sized (a .receiver .table) → Kept (afterCall w a h′)
+  console-kept a h′ q f z = record { follows = rw (f, modeAfter, q, append-nil (bytesOf h)) (ok .follows); sized = z }
+
+  pub steps : (c : Call) → Lent w c → Steps w c
+  unfolding stream allowOf denyOf dropOf doneOf failedOf
+  steps (Call.feed piece carry scratch reply) lent =
+      let f = feeds w ok piece carry scratch reply lent in
+      record { bytes = refl; moves = f .moves; kept = f .kept }
+  steps (Call.allow id reply) lent =
+      let a = answers r (ok .sized) (Move.allow id) (allowedOf (r .table) id) reply (allow-sized (r .table) (ok .sized) id) (λ ds. refl) in
+      let q = noted-bytes (isRefusal (allowOf r id reply .answer .told)) (Event.allowed id) h refl in
+      record { bytes = q; moves = a .moves; kept = console-kept (allowOf r id reply .answer) _ q (a .framing) (a .sized) }
+  steps (Call.deny id reply) lent =
+      let a = answers r (ok .sized) (Move.deny id) (deniedOf (r .table) id) reply (deny-sized (r .table) (ok .sized) id) (λ ds. refl) in
+      let q = sym (append-nil (bytesOf h)) in
+      record { bytes = q; moves = a .moves; kept = console-kept (denyOf r id reply .answer) h q (a .framing) (a .sized) }
+  steps (Call.drop id) lent =
+      let q = noted-bytes (isRefusal (dropOf r id .told)) (Event.dropped id) h refl in
+      record {
+        bytes = q;
+        moves = one (output (Move.drop id) [] (saying (droppedOf (r .table) id .told) [] []) []) [] (λ ds. rw (drop-silent (r .table) id));
+        kept = console-kept (dropOf r id) _ q refl (dropped-sized (r .table) (ok .sized) id .table);
+      }
+  steps (Call.done reply) lent =
+      let a = answers r (ok .sized) Move.done (settleDone (r .table) (r .table .owed)) reply (done-sized (r .table) (ok .sized) (r .table .owed)) (λ ds. refl) in
+      let q = noted-bytes (isRefusal (doneOf r reply .answer .told)) (Event.answered true) h refl in
+      record { bytes = q; moves = a .moves; kept = console-kept (doneOf r reply .answer) _ q (a .framing) (a .sized) }
+  steps (Call.failed code reply) lent =
+      let a = answers r (ok .sized) (Move.failed code) (settleFailed (r .table) code (r .table .owed)) reply (failed-sized (r .table) (ok .sized) code (r .table .owed)) (λ ds. refl) in
+      let q = noted-bytes (isRefusal (failedOf r code reply .answer .told)) (Event.answered false) h refl in
+      record { bytes = q; moves = a .moves; kept = console-kept (failedOf r code reply .answer) _ q (a .framing) (a .sized) }

@@ -1,0 +1,74 @@
+-- The calls without pieces, carry, scratch and reply buffer: moves on a table, where each report is the next thing that the bytes tell.
+use Prim.Native.Nat.{ℕ}
+use mathlib.Core.Path.{_≡_}
+use mathlib.Core.List.{List, [], _∷_, _++_}
+use lib.ListN.{replicate}
+use Rattle.frames.specs.Stream as Stream
+use Rattle.command.specs.Read.{readOf}
+use Rattle.protocol.specs.Replies.{replyBytes}
+use Rattle.protocol.specs.Answers.{settleDone, settleFailed, allowedOf, deniedOf, droppedOf}
+use Rattle.protocol.specs.Calls.{Acted, acted, telling, readAct}
+use Rattle.protocol.specs.Cuts.{Saying, saying, Move, Output, output}
+use Rattle.protocol.specs.declared.Table.{Table}
+use Rattle.protocol.specs.declared.Told.the-variants as Told
+use Rattle.protocol.specs.declared.Stepped.{Stepped}
+
+-- ---- moves on a table
+-- what a move gives, the table after it, and what the bytes tell after it
+pub record Moved : Type 0 where
+  pub output : Output
+  pub table : Table
+  pub rest : List Stream.Told
+
+abbrev pub moved : Output → Table → List Stream.Told → Moved
+moved o t ds = record { output = o; table = t; rest = ds }
+
+-- a thing told by the bytes, acted on with a scratch of zeros
+abbrev pub zeros : List ℕ
+zeros = replicate 6144 0
+
+abbrev pub textIn : Stream.Told → List ℕ
+textIn (Stream.Told.command text) = text
+textIn Stream.Told.tooLong = []
+textIn Stream.Told.abandoned = []
+
+abbrev pub actOn : Table → Stream.Told → Acted
+actOn t (Stream.Told.command text) = readAct t text (readOf text zeros)
+actOn t Stream.Told.tooLong = acted (telling t (Told.Refused 1)) zeros
+actOn t Stream.Told.abandoned = acted (telling t (Told.Refused 2)) zeros
+
+abbrev pub reported : Table → Stream.Told → Output
+reported t d = output Move.report (textIn d) (saying (actOn t d .step .told) (textIn d) (actOn t d .scratch)) (replyBytes (actOn t d .step .reply))
+
+-- a report is the next thing told; where nothing is, which no call meets, it gives nothing
+abbrev pub moveReport : Table → List Stream.Told → Moved
+moveReport t [] = moved (output Move.report [] Saying.nothing []) t []
+moveReport t (d ∷ ds) = moved (reported t d) (actOn t d .step .table) ds
+
+-- a console call
+abbrev pub answeredBy : Move → Stepped → Output
+answeredBy m s = output m [] (saying (s .told) [] []) (replyBytes (s .reply))
+
+abbrev pub moveBy : Move → Stepped → List Stream.Told → Moved
+moveBy m s ds = moved (answeredBy m s) (s .table) ds
+
+abbrev pub move : Table → Move → List Stream.Told → Moved
+move t Move.report ds = moveReport t ds
+move t (Move.allow id) ds = moveBy (Move.allow id) (allowedOf t id) ds
+move t (Move.deny id) ds = moveBy (Move.deny id) (deniedOf t id) ds
+move t (Move.drop id) ds = moveBy (Move.drop id) (droppedOf t id) ds
+move t Move.done ds = moveBy Move.done (settleDone t (t .owed)) ds
+move t (Move.failed code) ds = moveBy (Move.failed code) (settleFailed t code (t .owed)) ds
+
+-- moves one after another: what they give, and the table after them
+abbrev pub before : Output → List Output × Table → List Output × Table
+before o r = (o ∷ r .0, r .1)
+
+abbrev pub run : Table → List Move → List Stream.Told → List Output × Table
+run t [] ds = ([], t)
+run t (m ∷ ms) ds = before (move t m ds .output) (run (move t m ds .table) ms (move t m ds .rest))
+
+-- from the table t to the table t′: no move, and nothing told; or one move that gives an output, and takes what is told
+pub data Moves (t t′ : Table) : List Output → List Stream.Told → Type 0 where
+  none : t ≡ t′ → Moves t t′ [] []
+  one : (o : Output) (ds : List Stream.Told) → ((rest : List Stream.Told) → move t (o .move) (ds ++ rest) ≡ moved o t′ rest) → Moves t t′ (o ∷ []) ds

@@ -1,0 +1,185 @@
+-- Lists of calls computed whole: the definitions and the claim are not about nothing.
+use Prim.Native.Nat.{ℕ, zero, suc}
+use mathlib.Core.Path.{_≡_, refl}
+use mathlib.Core.List.{List, [], _∷_, _++_}
+use lib.ListN.{length, take, drop, replicate}
+use Rattle.bytes.specs.Bytes.{indexOf, indexAfter}
+use Rattle.octets.specs.Choice.{every}
+use Rattle.octets.specs.Ascii.{ascii}
+use Rattle.octets.specs.Outcome.{Outcome}
+use Rattle.octets.specs.Slices.{equals, startsWith, partOf}
+use Rattle.octets.specs.Split.{split, onto, join}
+use Rattle.base64.specs.Alphabet as Base64
+use Rattle.base64.specs.Decode as Decode
+use Rattle.base64.specs.Encode as Base64Text
+use Rattle.decimal.specs.Write as Decimal
+use Rattle.pathname.specs.Name.{rooted, validComponent, validComponents, validName}
+use Rattle.pathname.specs.Utf8.{followers, sequences}
+use Rattle.frames.specs.Stream.{readByte, stream}
+use Rattle.frames.specs.Framings.{mayBeCommand}
+use Rattle.frames.specs.Steps.{stepOf, walkFrom}
+use Rattle.frames.specs.Carry.{heldOf, carryOf}
+use Rattle.frames.specs.Calls.{reportOf, scanOf, textOf}
+use Rattle.command.specs.Keys.{placeIn}
+use Rattle.command.specs.Letters.{keyByte, safeByte, textByte}
+use Rattle.command.specs.Values.{aliasRead, wordRead, safeRead, valueRead}
+use Rattle.command.specs.Fields.{isKey, fieldRead, fieldsRead, textRead}
+use Rattle.command.specs.Meaning.{meaningOf}
+use Rattle.command.specs.Slots.{actionOf, fileTypeOf, transmissionOf, commandOf}
+use Rattle.command.specs.Read.{kept, readOf}
+use Rattle.protocol.specs.Table.{freshReceiver, first}
+use Rattle.protocol.specs.Actions.{resultIn, kindOf}
+use Rattle.protocol.specs.Replies.{fileReply, statusText, framed, replyBytes, repliedOf}
+use Rattle.protocol.specs.Files.{idIn, countLimit, fileChecked, fileOf, partAsked, dataOf, finishOf}
+use Rattle.protocol.specs.Sessions.{obeyOf}
+use Rattle.protocol.specs.Answers.{settleDone, allowedOf}
+use Rattle.protocol.specs.Calls.{Feeding, scannedFeed, feedOf, guarded, allowOf, doneOf}
+use Rattle.protocol.specs.History.{bytesOf, marksOf, parts, contents}
+use Rattle.protocol.specs.Claim.{Call, World, step, start, stateAt, countAt, keyAt}
+use Rattle.protocol.specs.Cuts.{allGiven, after, AllLent, moves}
+use Rattle.protocol.specs.declared.FileState.the-variants as FileState
+use Rattle.protocol.specs.declared.Status.the-variants as Status
+use Rattle.protocol.specs.declared.Told.{Told}
+use Rattle.protocol.specs.declared.Told.the-variants as Told
+use Rattle.protocol.specs.declared.Answered.{Answered}
+use Rattle.protocol.proofs.Cuts.{cuts-alike}
+
+-- ---- a console that "allows every session at once, answers done always, and writes only replies"
+abbrev scratch₀ : List ℕ
+scratch₀ = replicate 6144 0
+
+abbrev reply₀ : List ℕ
+reply₀ = replicate 124 0
+
+-- the world, all that was written, and what is left of the piece
+record Replay : Type 0 where
+  world : World
+  written : List ℕ
+  rest : List ℕ
+
+abbrev replay : World → List ℕ → List ℕ → Replay
+replay w bs p = record { world = w; written = bs; rest = p }
+
+-- a call made, and its reply written
+abbrev called : Replay → Call → Outcome Answered → Replay
+called r c a = replay (step (r .world) c) (r .written ++ take (a .answer .«reply_len») (a .buffer)) (r .rest)
+
+abbrev answer : Replay → Told → List ℕ → Replay
+answer r Told.Nothing text = r
+answer r (Told.Refused n) text = r
+answer r Told.Ignored text = r
+answer r (Told.Asked c) text = called r (Call.allow (idIn c text) reply₀) (allowOf (r .world .receiver) (idIn c text) reply₀)
+answer r (Told.Ask a c) text = called r (Call.done reply₀) (doneOf (r .world .receiver) reply₀)
+answer r (Told.Status w) text = r
+answer r Told.Withdrawn text = r
+answer r Told.Discarded text = r
+answer r Told.Committed text = r
+
+-- a feed of what is left
+abbrev feed : Replay → Feeding
+feed r = feedOf (r .world .receiver) (r .rest) (r .world .carry) scratch₀ reply₀
+
+abbrev fed : Replay → Replay
+fed r =
+    replay (step (r .world) (Call.feed (r .rest) (r .world .carry) scratch₀ reply₀)) (r .written ++ take (feed r .fed .«reply_len») (feed r .reply))
+    (drop (feed r .fed .consumed) (r .rest))
+
+-- and the answer to what it tells
+abbrev next : Replay → Replay
+next r = answer (fed r) (feed r .fed .told) (textOf (r .rest) (feed r .carry) (feed r .fed .report))
+
+abbrev times : ℕ → Replay → Replay
+times zero r = r
+times (suc n) r = times n (next r)
+
+-- n feeds of a piece
+abbrev play : ℕ → List ℕ → Replay → Replay
+play n p r = times n (replay (r .world) (r .written) p)
+
+abbrev begin : Replay
+begin = replay (start (replicate 8192 0)) [] []
+
+-- ---- document 01's example
+abbrev input : List ℕ
+input =
+    framed (ascii "5113;ac=send;id=m") ++ framed (ascii "5113;ac=file;id=m;fid=a;n=L256") ++ framed (ascii "5113;ac=data;id=m;fid=a;d=YWJj")
+    ++ framed (ascii "5113;ac=end_data;id=m;fid=a") ++ framed (ascii "5113;ac=finish;id=m")
+
+abbrev output : List ℕ
+output =
+    framed (ascii "5113;ac=status;id=m;st=T0s=") ++ framed (ascii "5113;ac=status;id=m;fid=a;st=U1RBUlRFRA==")
+    ++ framed (ascii "5113;ac=status;id=m;fid=a;sz=3;st=UFJPR1JFU1M=") ++ framed (ascii "5113;ac=status;id=m;fid=a;sz=3;st=T0s=")
+
+-- the same in two pieces, cut in the closer of the data command: 1B | 5C
+abbrev first-piece : List ℕ
+first-piece =
+    framed (ascii "5113;ac=send;id=m") ++ framed (ascii "5113;ac=file;id=m;fid=a;n=L256") ++ 0x1B ∷ 0x5D ∷ ascii "5113;ac=data;id=m;fid=a;d=YWJj" ++ 0x1B ∷ []
+
+abbrev second-piece : List ℕ
+second-piece = 0x5C ∷ framed (ascii "5113;ac=end_data;id=m;fid=a") ++ framed (ascii "5113;ac=finish;id=m")
+
+-- the same ids once more, with a file of one byte
+abbrev again : List ℕ
+again =
+    framed (ascii "5113;ac=send;id=m") ++ framed (ascii "5113;ac=file;id=m;fid=a;n=L256") ++ framed (ascii "5113;ac=end_data;id=m;fid=a;d=QQ==")
+
+-- two ways to bring its first command and to allow the session: in one piece, and in two with other bytes in the buffers
+abbrev one-piece : List Call
+one-piece = Call.feed input (replicate 8192 0) scratch₀ reply₀ ∷ Call.allow (ascii "m") reply₀ ∷ []
+
+abbrev ones : List ℕ
+ones = replicate 8192 1
+
+abbrev two-pieces : List Call
+two-pieces =
+    Call.feed (take 10 input) ones ones ones
+    ∷ Call.feed (drop 10 input) (feedOf freshReceiver (take 10 input) ones ones ones .carry) ones ones
+    ∷ Call.allow (ascii "m") ones
+    ∷ []
+
+-- a file whose last part is asked for closes with these contents
+record Closing (w w′ : World) (bytes : List ℕ) : Type 0 where
+  before : stateAt w 0 0 ≡ FileState.Started
+  after : stateAt w′ 0 0 ≡ FileState.Done
+  counted : countAt w′ 0 0 ≡ length bytes
+  handed : parts (keyAt w 0 0) (marksOf (w′ .history)) ≡ bytes
+  contained : contents (keyAt w 0 0) (marksOf (w′ .history)) ≡ bytes
+
+record Computed : Type 0 where
+  -- document 01: "gives exactly"; and its file closes with count 3
+  whole : play 5 input begin .written ≡ output
+  whole-closes : Closing (fed (play 3 input begin) .world) (play 4 input begin .world) (ascii "abc")
+  -- cut in a closer it gives the same; the text then stands in the carry
+  cut : play 3 second-piece (play 3 first-piece begin) .written ≡ output
+  cut-carry : take 30 (play 3 first-piece begin .world .carry) ≡ ascii "5113;ac=data;id=m;fid=a;d=YWJj"
+  cut-closes : Closing (fed (play 1 second-piece (play 3 first-piece begin)) .world) (play 2 second-piece (play 3 first-piece begin) .world) (ascii "abc")
+  -- the ids used again: the second file starts from zero, and closes with its own contents
+  again-starts : countAt (play 2 again (play 5 input begin) .world) 0 0 ≡ 0
+  again-closes : Closing (fed (play 2 again (play 5 input begin)) .world) (play 3 again (play 5 input begin) .world) (ascii "A")
+  -- the premises of the cut theorem hold of the two ways
+  one-lent : AllLent (start (replicate 8192 0)) one-piece
+  two-lent : AllLent (start ones) two-pieces
+  same-bytes : bytesOf (after (start (replicate 8192 0)) one-piece .history) ≡ bytesOf (after (start ones) two-pieces .history)
+  same-moves : moves (allGiven (start (replicate 8192 0)) one-piece) ≡ moves (allGiven (start ones) two-pieces)
+  -- "No reply is longer than 124 bytes": one has as many
+  longest : length (replyBytes (fileReply Status.Progress 0 (replicate 32 105) 32 (replicate 32 102) 32 countLimit)) ≡ 124
+
+computed : Computed
+unfolding indexOf indexAfter every equals startsWith partOf split onto join Base64.valueOf Base64.letterOf Decode.verdictOf Decode.bytesOf Decode.scan Decode.ending Decode.group Base64Text.textOf Decimal.writable Decimal.textOf Decimal.fixed Decimal.widthFrom rooted validComponent validComponents validName followers sequences readByte stream mayBeCommand stepOf walkFrom heldOf carryOf reportOf scanOf textOf placeIn keyByte safeByte textByte aliasRead wordRead safeRead valueRead isKey fieldRead fieldsRead textRead meaningOf actionOf fileTypeOf transmissionOf commandOf kept readOf first resultIn kindOf statusText replyBytes repliedOf fileChecked fileOf partAsked dataOf finishOf obeyOf settleDone allowedOf scannedFeed feedOf guarded allowOf doneOf marksOf
+computed = record {
+  whole = refl;
+  whole-closes = record { before = refl; after = refl; counted = refl; handed = refl; contained = refl };
+  cut = refl;
+  cut-carry = refl;
+  cut-closes = record { before = refl; after = refl; counted = refl; handed = refl; contained = refl };
+  again-starts = refl;
+  again-closes = record { before = refl; after = refl; counted = refl; handed = refl; contained = refl };
+  one-lent = ((λ _. refl), (tt, tt));
+  two-lent = ((λ _. refl), ((λ _. refl), (tt, tt)));
+  same-bytes = refl;
+  same-moves = refl;
+  longest = refl;
+}
+
+alike : allGiven (start (replicate 8192 0)) one-piece ≡ allGiven (start ones) two-pieces
+alike = cuts-alike (replicate 8192 0) ones one-piece two-pieces (computed .one-lent) (computed .two-lent) (computed .same-bytes) (computed .same-moves) .0

@@ -1,0 +1,135 @@
+-- A feed keeps the invariant, and turns no record done.
+use Prim.Native.Nat.{ℕ, _≤_}
+use mathlib.Core.Path.{_≡_, refl}
+use mathlib.Core.Bool.{Bool, true, false}
+use mathlib.Core.List.{List, append-nil}
+use native.Mathlib.Omega.{arith}
+use lib.ListN.{length, take}
+use lib.Dec.{ltb}
+use borrow.Author.Tests.{ltb-false, le-leb, lt-leb}
+use Rattle.octets.specs.Choice.{pick, either}
+use Rattle.frames.specs.Stream.{Mode, stream}
+use Rattle.frames.specs.Calls.{scanOf, textOf}
+use Rattle.frames.specs.Follows.{Follows, toldOf}
+use Rattle.frames.specs.declared.Framing.{Framing}
+use Rattle.frames.specs.declared.Report.{Report}
+use Rattle.frames.specs.declared.Report.the-variants as Report
+use Rattle.frames.proofs.CallLaws.{call-report}
+use Rattle.frames.proofs.Follows.{stream-append, call-follows}
+use Rattle.command.specs.Meaning.{Meaning, meaningOf}
+use Rattle.command.specs.Read.{Answer, readOf}
+use Rattle.protocol.specs.Calls.{isOwed, Feeding, Acted, readAct, reportAct, feedRefused, scannedFeed, isShort, feedOf}
+use Rattle.protocol.specs.History.{hearing, Event, bytesOf, Mark, readMark, toldMarks, hearingMark, modeAfter, marksOf}
+use Rattle.protocol.specs.Claim.{Call, World, isRefusal, Lent, afterFeed, step}
+use Rattle.protocol.specs.declared.Session.{Session}
+use Rattle.protocol.specs.declared.Owed.{Owed}
+use Rattle.protocol.specs.declared.Owed.the-variants as Owed
+use Rattle.protocol.proofs.Laws.{no-way}
+use Rattle.protocol.proofs.Means.{Read, command, refused, text-read}
+use Rattle.protocol.proofs.Invariant.{TableOK}
+use Rattle.protocol.proofs.Puts.{table, not-owed, NoneDone, none-same}
+use Rattle.protocol.proofs.Obeyed.{idle}
+use Rattle.protocol.proofs.ObeyedRule.{obey-kept}
+use Rattle.protocol.proofs.Worlds.{WorldOK}
+
+-- ---- what a report does
+record ActOK (ss : List Session) (m : List Mark) (a : Acted) : Type 0 where
+  ok : TableOK (a .step .table) (hearingMark (hearing (a .step .told) (a .scratch)) m)
+  none : NoneDone (idle ss) (a .step .table)
+  taken : isRefusal (a .step .told) ≡ false
+
+module _ {ss : List Session} {m : List Mark} (same : TableOK (idle ss) m) (scratch : List ℕ) (enough : 6144 ≤ length scratch) (text : List ℕ) where
+  -- a text that is read
+  read-act : ActOK ss (readMark (meaningOf text) m) (readAct (idle ss) text (readOf text scratch))
+  read-act = go (readOf text scratch .answer) (text-read text scratch enough)
+    where
+      go : (a : Answer) {d : Meaning} → Read text (readOf text scratch .buffer) a d
+          → ActOK ss (readMark d m) (readAct (idle ss) text (record { answer = a; buffer = readOf text scratch .buffer }))
+      go (Answer.read c) (command means) = let k = obey-kept means same in record { ok = k .ok; none = k .none; taken = k .taken }
+      go (Answer.refused n) (refused l) =
+          record { ok = same; none = none-same (idle ss) Owed.Nothing; taken = lt-leb 9 n (omega arith) }
+
+  report-act : (r : Report) → (r ≡ Report.ShortCarry → ⊥) → ActOK ss (toldMarks (toldOf r text) m) (reportAct (idle ss) r text scratch)
+  report-act Report.Nothing n = record { ok = same; none = none-same (idle ss) Owed.Nothing; taken = refl }
+  report-act (Report.InPiece start len) n = read-act
+  report-act (Report.InCarry len) n = read-act
+  report-act Report.TooLong n = record { ok = same; none = none-same (idle ss) Owed.Nothing; taken = refl }
+  report-act Report.Abandoned n = record { ok = same; none = none-same (idle ss) Owed.Nothing; taken = refl }
+  report-act Report.ShortCarry n = absurd (n refl)
+
+-- ---- a feed
+pub record FeedOK (w w′ : World) : Type 0 where
+  pub ok : WorldOK w′
+  pub none : NoneDone (w .receiver .table) (w′ .receiver .table)
+
+abbrev pub world : Framing → List Session → Owed → List ℕ → List Event → World
+world g ss o carry h = record { receiver = record { framing = g; table = table ss o }; carry = carry; history = h }
+
+-- one that is not refused with 9 or 10: its carry is the world's
+feed-taken : (g : Framing) (ss : List Session) (kept : List ℕ) (h : List Event) → WorldOK (world g ss Owed.Nothing kept h)
+    → (piece carry scratch reply : List ℕ) → 8192 ≤ length carry → 6144 ≤ length scratch
+    → (isRefusal (scannedFeed (idle ss) piece (scanOf g piece carry) scratch reply .fed .told) ≡ false → carry ≡ kept)
+    → FeedOK (world g ss Owed.Nothing kept h)
+    (afterFeed (world g ss Owed.Nothing kept h) piece (scannedFeed (idle ss) piece (scanOf g piece carry) scratch reply))
+unfolding scannedFeed marksOf
+feed-taken g ss kept h w piece carry scratch reply long enough lent =
+    let k = scanOf g piece carry in
+    let a = report-act (w .table) scratch enough (textOf piece (k .buffer) (k .answer .report)) (k .answer .report) (call-report g piece carry long) in
+    let e : carry ≡ kept = lent (a .taken) in
+    let f : Follows g carry (modeAfter h) = rw e (w .follows) in
+    let c = call-follows piece f in
+    record {
+      ok =
+          record {
+            follows = rw (a .taken, modeAfter, stream-append Mode.outside (bytesOf h) (take (k .answer .consumed) piece)) (c .1);
+            table = rw (c .0) (a .ok);
+          };
+      none = a .none;
+    }
+
+feed-idle : (g : Framing) (ss : List Session) (o : Owed) (kept : List ℕ) (h : List Event) → o ≡ Owed.Nothing → WorldOK (world g ss o kept h)
+    → (piece carry scratch reply : List ℕ) → 8192 ≤ length carry → 6144 ≤ length scratch
+    → (isRefusal (scannedFeed (table ss o) piece (scanOf g piece carry) scratch reply .fed .told) ≡ false → carry ≡ kept)
+    → FeedOK (world g ss o kept h) (afterFeed (world g ss o kept h) piece (scannedFeed (table ss o) piece (scanOf g piece carry) scratch reply))
+feed-idle g ss o kept h n w piece carry scratch reply long enough lent =
+    rw n (feed-taken g ss kept h (rw n at w) piece carry scratch reply long enough (rw n at lent))
+
+-- one refused with 9 or 10
+feed-refused : (w : World) → WorldOK w → (n : ℕ) → 9 ≤ n → (piece carry scratch reply : List ℕ)
+    → FeedOK w (afterFeed w piece (record { fed = feedRefused (w .receiver) n; carry = carry; scratch = scratch; reply = reply }))
+unfolding marksOf stream
+feed-refused w ok n l piece carry scratch reply =
+    record {
+      ok =
+          record {
+            follows = rw (le-leb 9 n l, modeAfter, append-nil (bytesOf (w .history))) (ok .follows);
+            table = ok .table;
+          };
+      none = none-same (w .receiver .table) (w .receiver .table .owed);
+    }
+
+both-long : (a b c : Bool) → either a (either b c) ≡ false → (a ≡ false) × (b ≡ false)
+both-long true b c e = no-way e
+both-long false true c e = no-way e
+both-long false false c e = (refl, refl)
+
+pub feed-ok : (w : World) → WorldOK w → (piece carry scratch reply : List ℕ) → Lent w (Call.feed piece carry scratch reply)
+    → FeedOK w (step w (Call.feed piece carry scratch reply))
+unfolding feedOf
+feed-ok w ok piece carry scratch reply = go (isShort carry scratch reply) refl (isOwed (w .receiver .table .owed)) refl
+  where
+    taken : Feeding
+    taken = scannedFeed (w .receiver .table) piece (scanOf (w .receiver .framing) piece carry) scratch reply
+
+    no : ℕ → Feeding
+    no n = record { fed = feedRefused (w .receiver) n; carry = carry; scratch = scratch; reply = reply }
+
+    go : (s : Bool) → isShort carry scratch reply ≡ s → (b : Bool) → isOwed (w .receiver .table .owed) ≡ b
+        → (isRefusal (pick s (no 9) (pick b (no 10) taken) .fed .told) ≡ false → carry ≡ w .carry)
+        → FeedOK w (afterFeed w piece (pick s (no 9) (pick b (no 10) taken)))
+    go true e b q lent = feed-refused w ok 9 (omega arith) piece carry scratch reply
+    go false e true q lent = feed-refused w ok 10 (omega arith) piece carry scratch reply
+    go false e false q lent =
+        let l = both-long (ltb (length carry) 8192) (ltb (length scratch) 6144) (ltb (length reply) 124) e in
+        feed-idle (w .receiver .framing) (w .receiver .table .sessions) (w .receiver .table .owed) (w .carry) (w .history) (not-owed (w .receiver .table .owed) q) ok
+        piece carry scratch reply (ltb-false _ _ (l .0)) (ltb-false _ _ (l .1)) lent

@@ -1,0 +1,206 @@
+-- What holds of every text that is read: a refusal is one of 1 to 8, and of a command the ids are safe strings of at most 32 bytes, that of
+-- the session not empty.
+use Prim.Native.Nat.{ℕ, zero, suc, _+_, _≤_}
+use mathlib.Core.Path.{_≡_, refl}
+use mathlib.Core.Bool.{Bool, true, false}
+use mathlib.Core.List.{List, [], _∷_}
+use native.Mathlib.Omega.{arith}
+use lib.ListN.{length, getD, drop}
+use lib.Dec.{ltb, eqb, lit≤}
+use borrow.Author.Tests.{ltb-false, eqb-false}
+use Rattle.octets.specs.Choice.{pick, both, either, every}
+use Rattle.octets.specs.Ascii.{ascii}
+use Rattle.octets.specs.Slices.{equals, startsWith}
+use Rattle.octets.specs.Split.{split}
+use Rattle.base64.specs.Decode.{verdictOf, bytesOf}
+use Rattle.base64.specs.declared.Verdict.{Verdict}
+use Rattle.base64.specs.declared.Verdict.the-variants as Verdict
+use Rattle.decimal.specs.Read.{parseOf}
+use Rattle.decimal.specs.declared.Parsed.{Parsed}
+use Rattle.decimal.specs.declared.Parsed.the-variants as Parsed
+use Rattle.command.specs.Keys.{Alias, Kind, Key, keys, kindAt, numberOf, placeIn}
+use Rattle.command.specs.Letters.{safeByte, textByte}
+use Rattle.command.specs.Values.{Value, count, Got, aliasRead, wordRead, over, safeRead, integerRead, base64Read, valueRead}
+use Rattle.command.specs.Fields.{Turn, andThen, Step, isKey, equalsSign, keyOf, valueOf, fieldRead, fieldsRead, textRead}
+use Rattle.command.specs.Meaning.{Field, stored, once, meant, blank, valuesIn, bytesIn, actionCode, idOf, fileIdOf, missing, Meaning, complete, finished, meaningOf}
+use Rattle.protocol.proofs.Laws.{set-any}
+
+-- ---- a reading of which P holds step by step
+-- the state after a turn has P, and a refusal is at most 8
+data Turns {S : Type 0} (P : S → Type 0) : Turn S → Type 0 where
+  on : {s : S} → P s → Turns P (Turn.on s)
+  off : (r : ℕ) {s : S} → r ≤ 8 → Turns P (Turn.off r s)
+
+module _ {S : Type 0} (P : S → Type 0) (step : Step S) (keeps : (n at : ℕ) (v : List ℕ) (s : S) → P s → Turns P (step n at v s)) where
+  field-turns : (at : ℕ) (f : List ℕ) (s : S) → P s → Turns P (fieldRead step at f s)
+  unfolding fieldRead
+  field-turns at f s h = go (both (ltb (equalsSign f) (length f)) (isKey (keyOf f))) (ltb (numberOf keys (keyOf f)) (length keys))
+    where
+      go : (a b : Bool) → Turns P (pick a (pick b (step (numberOf keys (keyOf f)) (at + (equalsSign f + 1)) (valueOf f) s) (Turn.on s)) (Turn.off 4 s))
+      go true true = keeps (numberOf keys (keyOf f)) (at + (equalsSign f + 1)) (valueOf f) s h
+      go true false = on h
+      go false b = off 4 (lit≤ tt)
+
+  fields-turns : (at : ℕ) (fs : List (List ℕ)) (s : S) → P s → Turns P (fieldsRead step at fs s)
+  unfolding fieldsRead
+  fields-turns at [] s h = on h
+  fields-turns at (f ∷ fs) s h = go (field-turns at f s h) (λ s′. fields-turns (at + length f + 1) fs s′)
+    where
+      go : {x : Turn S} → Turns P x → ((s′ : S) → P s′ → Turns P (fieldsRead step (at + length f + 1) fs s′))
+          → Turns P (andThen x (λ s′. fieldsRead step (at + length f + 1) fs s′))
+      go (on {s} p) more = more s p
+      go (off r l) more = off r l
+
+  text-turns : (t : List ℕ) (s : S) → P s → Turns P (textRead step t s)
+  unfolding textRead
+  text-turns t s h = go (ltb 8192 (length t)) (every textByte t) (startsWith t (ascii "5113;"))
+    where
+      go : (a b c : Bool) → Turns P (pick a (Turn.off 1 s) (pick b (pick c (fieldsRead step 5 (split 59 (drop 5 t)) s) (Turn.off 4 s)) (Turn.off 3 s)))
+      go true b c = off 1 (lit≤ tt)
+      go false true true = fields-turns 5 (split 59 (drop 5 t)) s h
+      go false true false = off 4 (lit≤ tt)
+      go false false c = off 3 (lit≤ tt)
+
+-- ---- values
+-- of a safe string that has stood
+abbrev Fit : Kind → Field → Type 0
+Fit (Kind.word first ws aliases) f = Unit {0}
+Fit (Kind.safe short) Field.unseen = Unit {0}
+Fit (Kind.safe short) (Field.seen v) = (every safeByte (bytesIn v) ≡ true) × (short ≡ true → length (bytesIn v) ≤ 32)
+Fit Kind.integer f = Unit {0}
+Fit Kind.base64 f = Unit {0}
+
+-- of what the text of a value reads as
+abbrev FitGot : Kind → Got → Type 0
+FitGot k (Got.got v) = Fit k (Field.seen v)
+FitGot k (Got.refused r) = r ≤ 8
+
+alias-fits : (first : ℕ) (ws : List (List ℕ)) (aliases more : List Alias) (v : List ℕ) → FitGot (Kind.word first ws aliases) (aliasRead more v)
+unfolding aliasRead
+alias-fits first ws aliases [] v = omega arith
+alias-fits first ws aliases (a ∷ more) v = go (equals v (a .text)) (alias-fits first ws aliases more v)
+  where
+    go : (b : Bool) → FitGot (Kind.word first ws aliases) (aliasRead more v)
+        → FitGot (Kind.word first ws aliases) (pick b (Got.got (Value.number (count (a .code)))) (aliasRead more v))
+    go true h = tt
+    go false h = h
+
+value-fits : (k : Kind) (v : List ℕ) → FitGot k (valueRead k v)
+unfolding valueRead wordRead safeRead
+value-fits (Kind.word first ws aliases) v = go (ltb (placeIn ws v) (length ws))
+  where
+    go : (b : Bool) → FitGot (Kind.word first ws aliases) (pick b (Got.got (Value.number (count (first + placeIn ws v)))) (aliasRead aliases v))
+    go true = tt
+    go false = alias-fits first ws aliases aliases v
+value-fits (Kind.safe short) v = go (every safeByte v) refl (over short v) refl
+  where
+    go : (a : Bool) → every safeByte v ≡ a → (b : Bool) → over short v ≡ b
+        → FitGot (Kind.safe short) (pick a (pick b (Got.refused 8) (Got.got (Value.bytes v))) (Got.refused 6))
+    go true p true q = omega arith
+    go true p false q = (p, λ e. ltb-false _ _ (rw e at q))
+    go false p b q = omega arith
+value-fits Kind.integer v = go (parseOf v)
+  where
+    go : (p : Parsed) → FitGot Kind.integer (integerRead p)
+    go (Parsed.Integer n) = tt
+    go Parsed.Malformed = omega arith
+    go Parsed.OutOfRange = omega arith
+value-fits Kind.base64 v = go (verdictOf v)
+  where
+    go : (x : Verdict) → FitGot Kind.base64 (base64Read x (bytesOf v))
+    go (Verdict.Valid padding) = tt
+    go (Verdict.Invalid fault) = omega arith
+
+-- ---- the fields
+abbrev AllFit : List Field → Type 0
+AllFit fs = (n : ℕ) → Fit (kindAt keys n) (getD fs n Field.unseen)
+
+unseen-fits : (k : Kind) → Fit k Field.unseen
+unseen-fits (Kind.word first ws aliases) = tt
+unseen-fits (Kind.safe short) = tt
+unseen-fits Kind.integer = tt
+unseen-fits Kind.base64 = tt
+
+blank-unseen : (ks : List Key) (n : ℕ) → getD (blank ks) n Field.unseen ≡ Field.unseen
+blank-unseen [] n = refl
+blank-unseen (k ∷ ks) zero = refl
+blank-unseen (k ∷ ks) (suc n) = blank-unseen ks n
+
+meant-turns : (n at : ℕ) (v : List ℕ) (s : List Field) → AllFit s → Turns AllFit (meant n at v s)
+meant-turns n at v s h = go (getD s n Field.unseen)
+  where
+    new : (g : Got) → FitGot (kindAt keys n) g → Turns AllFit (stored n s g)
+    new (Got.got x) f = on (λ i. set-any (λ (j : ℕ) (y : Field). Fit (kindAt keys j) y) s n (Field.seen x) Field.unseen f h i)
+    new (Got.refused r) l = off r l
+
+    go : (f : Field) → Turns AllFit (once f (stored n s (valueRead (kindAt keys n) v)) s)
+    go Field.unseen = new (valueRead (kindAt keys n) v) (value-fits (kindAt keys n) v)
+    go (Field.seen x) = off 5 (lit≤ tt)
+
+-- ---- the command
+value-safe : (ks : List Key) (s : List Field) (n : ℕ) → ((i : ℕ) → Fit (kindAt ks i) (getD s i Field.unseen)) → kindAt ks n ≡ Kind.safe true
+    → (every safeByte (bytesIn (getD (valuesIn ks s) n Value.outside)) ≡ true) × (length (bytesIn (getD (valuesIn ks s) n Value.outside)) ≤ 32)
+unfolding every
+value-safe [] s n h e = (refl, omega arith)
+value-safe (k ∷ ks) [] n h e = (refl, omega arith)
+value-safe (k ∷ ks) (Field.unseen ∷ s) zero h e = rw e (refl, omega arith)
+value-safe (k ∷ ks) (Field.seen v ∷ s) zero h e = let f = rw e at (h 0) in (f .0, f .1 refl)
+value-safe (k ∷ ks) (f ∷ s) (suc n) h e = value-safe ks s n (λ i. h (suc i)) e
+
+-- a safe string of 1 to 32 bytes
+pub record IsId (k : List ℕ) : Type 0 where
+  pub safe : every safeByte k ≡ true
+  pub some : 1 ≤ length k
+  pub short : length k ≤ 32
+
+-- of a command that a text means
+pub record Named (d : List Value) : Type 0 where
+  pub acts : actionCode d ≡ 0 → ⊥
+  pub id : IsId (idOf d)
+  pub file-safe : every safeByte (fileIdOf d) ≡ true
+  pub file-short : length (fileIdOf d) ≤ 32
+
+complete-named : (s : List Field) (d : List Value) → AllFit s → complete (valuesIn keys s) ≡ Meaning.command d → Named d
+complete-named s d h e = go (eqb (actionCode v) 0) refl (eqb (length (idOf v)) 0) refl e
+  where
+    v : List Value
+    v = valuesIn keys s
+
+    go : (a : Bool) → eqb (actionCode v) 0 ≡ a → (b : Bool) → eqb (length (idOf v)) 0 ≡ b
+        → pick (either a b) (Meaning.refused 7) (Meaning.command v) ≡ Meaning.command d → Named d
+    go true p b q w = let z : _≡_ {A = ℕ} 0 1 = cc in absurd (omega arith)
+    go false p true q w = let z : _≡_ {A = ℕ} 0 1 = cc in absurd (omega arith)
+    go false p false q w =
+        let z : v ≡ d = cc in
+        let i = value-safe keys s 4 h refl in
+        let f = value-safe keys s 5 h refl in
+        let n : length (idOf v) ≡ 0 → ⊥ = eqb-false _ _ q in
+        rw (← z) (record {
+          acts = eqb-false _ _ p;
+          id = record { safe = i .0; some = omega arith; short = i .1 };
+          file-safe = f .0;
+          file-short = f .1;
+        })
+
+read-turns : (t : List ℕ) → Turns AllFit (textRead meant t (blank keys))
+read-turns t = text-turns AllFit meant meant-turns t (blank keys) (λ n. rw (blank-unseen keys n) (unseen-fits (kindAt keys n)))
+
+pub meaning-named : (t : List ℕ) (d : List Value) → meaningOf t ≡ Meaning.command d → Named d
+unfolding meaningOf
+meaning-named t d e = go (read-turns t) e
+  where
+    go : {x : Turn (List Field)} → Turns AllFit x → finished x ≡ Meaning.command d → Named d
+    go (on {s} h) q = complete-named s d h q
+    go (off r l) q = let z : _≡_ {A = ℕ} 0 1 = cc in absurd (omega arith)
+
+pub meaning-refusal : (t : List ℕ) (n : ℕ) → meaningOf t ≡ Meaning.refused n → n ≤ 8
+unfolding meaningOf
+meaning-refusal t n e = go (read-turns t) e
+  where
+    at-most : (b : Bool) (v : List Value) → pick b (Meaning.refused 7) (Meaning.command v) ≡ Meaning.refused n → n ≤ 8
+    at-most true v q = let z : 7 ≡ n = cc in omega arith
+    at-most false v q = let z : _≡_ {A = ℕ} 0 1 = cc in absurd (omega arith)
+
+    go : {x : Turn (List Field)} → Turns AllFit x → finished x ≡ Meaning.refused n → n ≤ 8
+    go (on {s} h) q = at-most (missing (valuesIn keys s)) (valuesIn keys s) q
+    go (off r l) q = let z : r ≡ n = cc in omega arith

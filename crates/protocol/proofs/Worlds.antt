@@ -1,0 +1,79 @@
+-- The invariant of a world: what a fresh receiver has, and a console call keeps.
+use Prim.Native.Nat.{ℕ}
+use mathlib.Core.Path.{_≡_, refl, sym, _∙_}
+use mathlib.Core.Bool.{Bool, true, false}
+use mathlib.Core.List.{List, [], _∷_}
+use lib.ListN.{length}
+use lib.Dec.{ltb}
+use Rattle.octets.specs.Choice.{pick}
+use Rattle.octets.specs.Outcome.{outcome}
+use Rattle.frames.specs.Stream.{stream}
+use Rattle.frames.specs.Follows.{Follows}
+use Rattle.frames.proofs.Follows.{fresh-follows}
+use Rattle.protocol.specs.Replies.{repliedOf}
+use Rattle.protocol.specs.Answers.{refused}
+use Rattle.protocol.specs.Calls.{answeredBy, replied, guarded}
+use Rattle.protocol.specs.History.{Event, bytesOf, Mark, modeAfter, marksOf}
+use Rattle.protocol.specs.Claim.{World, isRefusal, afterCall, noted, start}
+use Rattle.protocol.specs.declared.Session.{Session}
+use Rattle.protocol.specs.declared.Stepped.{Stepped}
+use Rattle.protocol.specs.declared.Answered.{Answered}
+use Rattle.protocol.proofs.Laws.{no-way, replicate-each}
+use Rattle.protocol.proofs.Invariant.{sessionUsed, SessionOK, TableOK}
+use Rattle.protocol.proofs.Puts.{notedMarks, absent-ok}
+
+-- the framing and the carry are what is kept of all bytes so far, and the table is as the marks say
+pub record WorldOK (w : World) : Type 0 where
+  pub follows : Follows (w .receiver .framing) (w .carry) (modeAfter (w .history))
+  pub table : TableOK (w .receiver .table) (marksOf (w .history))
+
+pub start-ok : (carry : List ℕ) → WorldOK (start carry)
+unfolding marksOf stream
+start-ok carry =
+    record {
+      follows = fresh-follows carry;
+      table =
+          record {
+            alone = λ j j′ p _ _. no-way (sym p ∙ replicate-each (λ (s : Session). sessionUsed s ≡ false) refl refl 4 j);
+            each = replicate-each (λ (s : Session). SessionOK false [] s) absent-ok absent-ok 4;
+            owed = λ e. no-way (sym e);
+            told = tt;
+          };
+    }
+
+-- ---- a console call's step, noted as the event e with its mark x
+module _ {w : World} (ok : WorldOK w) (e : Event) (x : Mark) (bytes : bytesOf (e ∷ w .history) ≡ bytesOf (w .history))
+    (marks : marksOf (e ∷ w .history) ≡ x ∷ marksOf (w .history)) where
+  pub noted-ok : (s : Stepped) (n : ℕ) → TableOK (s .table) (notedMarks (marksOf (w .history)) x s)
+      → WorldOK (afterCall w (answeredBy (w .receiver .framing) s n) (noted (s .told) e (w .history)))
+  noted-ok s n t = record { follows = kept (isRefusal (s .told)); table = moved (isRefusal (s .told)) t }
+    where
+      kept : (b : Bool) → Follows (w .receiver .framing) (w .carry) (modeAfter (pick b (w .history) (e ∷ w .history)))
+      kept true = ok .follows
+      kept false = rw (modeAfter, bytes) (ok .follows)
+
+      moved : (b : Bool) → TableOK (s .table) (pick b (marksOf (w .history)) (x ∷ marksOf (w .history)))
+          → TableOK (s .table) (marksOf (pick b (w .history) (e ∷ w .history)))
+      moved true h = h
+      moved false h = rw marks h
+
+  -- with a reply buffer
+  pub guarded-ok : (s : Stepped) (reply : List ℕ) → TableOK (s .table) (notedMarks (marksOf (w .history)) x s)
+      → let a = guarded (w .receiver) s reply .answer in WorldOK (afterCall w a (noted (a .told) e (w .history)))
+  unfolding guarded
+  guarded-ok s reply t = go (ltb (length reply) 124)
+    where
+      go : (b : Bool) → let a = pick b (outcome (answeredBy (w .receiver .framing) (refused (w .receiver .table) 9) 0) reply) (replied (w .receiver .framing) s reply) .answer in
+          WorldOK (afterCall w a (noted (a .told) e (w .history)))
+      go true = record { follows = ok .follows; table = ok .table }
+      go false = noted-ok s (repliedOf (s .reply) reply .answer) t
+
+-- a property of the table that a refusal with 9 has, and the step
+pub by-guard : (P : Answered → Type 0) (w : World) (s : Stepped) (reply : List ℕ) → P (answeredBy (w .receiver .framing) (refused (w .receiver .table) 9) 0)
+    → ((n : ℕ) → P (answeredBy (w .receiver .framing) s n)) → P (guarded (w .receiver) s reply .answer)
+unfolding guarded
+by-guard P w s reply short taken = go (ltb (length reply) 124)
+  where
+    go : (b : Bool) → P (pick b (outcome (answeredBy (w .receiver .framing) (refused (w .receiver .table) 9) 0) reply) (replied (w .receiver .framing) s reply) .answer)
+    go true = short
+    go false = taken (repliedOf (s .reply) reply .answer)

@@ -1,0 +1,75 @@
+-- The action table, "the whole rule for the three session states".
+use Prim.Native.Nat.{ℕ}
+use mathlib.Core.Bool.{Bool, true, false}
+use mathlib.Core.List.{List, [], _∷_}
+use lib.Dec.{eqb}
+use Rattle.octets.specs.Choice.{pick, both}
+use Rattle.command.specs.Slots.{actionCode}
+use Rattle.command.specs.declared.Action.{Action}
+use Rattle.command.specs.declared.Action.the-variants as Action
+use Rattle.protocol.specs.declared.SessionState.{SessionState}
+use Rattle.protocol.specs.declared.SessionState.the-variants as SessionState
+use Rattle.protocol.specs.declared.Kind.{Kind}
+use Rattle.protocol.specs.declared.Kind.the-variants as Kind
+
+abbrev pub stateNumber : SessionState → ℕ
+stateNumber SessionState.Absent = 0
+stateNumber SessionState.Asked = 1
+stateNumber SessionState.Open = 2
+
+-- the commands that a row is about: some actions, or the others
+pub data Commands : Type 0 where
+  these : List Action → Commands
+  others : Commands
+
+pub record Row : Type 0 where
+  pub session : SessionState
+  pub commands : Commands
+  pub result : Kind
+
+abbrev pub row : SessionState → Commands → Kind → Row
+row s c k = record { session = s; commands = c; result = k }
+
+-- document 01's rows, in its order. The third last stands for four rows of the text: "file, data, end_data, finish: see below".
+abbrev pub rows : List Row
+rows =
+    row SessionState.Absent (these (Action.Send ∷ [])) Kind.Ask
+    ∷ row SessionState.Absent (these (Action.Receive ∷ [])) Kind.Unsupported
+    ∷ row SessionState.Absent others Kind.Ignore
+    ∷ row SessionState.Asked (these (Action.Cancel ∷ [])) Kind.Cancel
+    ∷ row SessionState.Asked others Kind.Withdraw
+    ∷ row SessionState.Open (these (Action.Send ∷ Action.Receive ∷ [])) Kind.Invalid
+    ∷ row SessionState.Open (these (Action.File ∷ [])) Kind.File
+    ∷ row SessionState.Open (these (Action.Data ∷ [])) Kind.Data
+    ∷ row SessionState.Open (these (Action.EndData ∷ [])) Kind.EndData
+    ∷ row SessionState.Open (these (Action.Finish ∷ [])) Kind.Finish
+    ∷ row SessionState.Open (these (Action.Cancel ∷ [])) Kind.Cancel
+    ∷ row SessionState.Open (these (Action.Status ∷ [])) Kind.Ignore
+    ∷ []
+
+abbrev pub oneOf : List Action → Action → Bool
+oneOf [] a = false
+oneOf (x ∷ xs) a = pick (eqb (actionCode x) (actionCode a)) true (oneOf xs a)
+
+abbrev pub among : Commands → Action → Bool
+among (these xs) a = oneOf xs a
+among others a = true
+
+abbrev pub applies : Row → SessionState → Action → Bool
+applies r s a = both (eqb (stateNumber (r .session)) (stateNumber s)) (among (r .commands) a)
+
+-- the first row that applies; a command without an action, which no text gives, is ignored
+unfoldable pub resultIn : List Row → SessionState → Action → Kind
+resultIn [] s a = Kind.Ignore
+resultIn (r ∷ rs) s a = pick (applies r s a) (r .result) (resultIn rs s a)
+
+unfoldable pub kindOf : SessionState → Action → Kind
+kindOf s Action.None = Kind.Ignore
+kindOf s Action.Send = resultIn rows s Action.Send
+kindOf s Action.Receive = resultIn rows s Action.Receive
+kindOf s Action.File = resultIn rows s Action.File
+kindOf s Action.Data = resultIn rows s Action.Data
+kindOf s Action.EndData = resultIn rows s Action.EndData
+kindOf s Action.Finish = resultIn rows s Action.Finish
+kindOf s Action.Cancel = resultIn rows s Action.Cancel
+kindOf s Action.Status = resultIn rows s Action.Status

@@ -1,0 +1,135 @@
+-- The calls: for any receiver and any lent buffers, the answer and every buffer afterwards.
+use Prim.Native.Nat.{ℕ}
+use mathlib.Core.Bool.{Bool, true, false}
+use mathlib.Core.List.{List}
+use lib.ListN.{length}
+use lib.Dec.{ltb}
+use Rattle.octets.specs.Choice.{pick, either}
+use Rattle.octets.specs.Outcome.{Outcome, outcome}
+use Rattle.frames.specs.Calls.{scanOf, textOf}
+use Rattle.frames.specs.declared.Framing.{Framing}
+use Rattle.frames.specs.declared.Report.{Report}
+use Rattle.frames.specs.declared.Report.the-variants as Report
+use Rattle.frames.specs.declared.Scanned.{Scanned}
+use Rattle.command.specs.Read.{Answer, readOf}
+use Rattle.command.specs.declared.Command.{Command}
+use Rattle.protocol.specs.Replies.{noReply, repliedOf}
+use Rattle.protocol.specs.Files.{stepped}
+use Rattle.protocol.specs.Sessions.{obeyOf}
+use Rattle.protocol.specs.Answers.{refused, settleDone, settleFailed, allowedOf, deniedOf, droppedOf}
+use Rattle.protocol.specs.declared.Owed.{Owed}
+use Rattle.protocol.specs.declared.Owed.the-variants as Owed
+use Rattle.protocol.specs.declared.Table.{Table}
+use Rattle.protocol.specs.declared.Receiver.{Receiver}
+use Rattle.protocol.specs.declared.Failure.{Failure}
+use Rattle.protocol.specs.declared.Told.{Told}
+use Rattle.protocol.specs.declared.Told.the-variants as Told
+use Rattle.protocol.specs.declared.Reply.{Reply}
+use Rattle.protocol.specs.declared.Stepped.{Stepped}
+use Rattle.protocol.specs.declared.Fed.{Fed}
+use Rattle.protocol.specs.declared.Answered.{Answered}
+
+abbrev pub isOwed : Owed → Bool
+isOwed Owed.Nothing = false
+isOwed (Owed.OpenFile i j) = true
+isOwed (Owed.OpenDirectory i j) = true
+isOwed (Owed.Write i j n) = true
+isOwed (Owed.WriteLast i j n) = true
+isOwed (Owed.Commit i) = true
+
+-- ---- feed
+-- what a feed gives: its answer, and the carry, the scratch and the reply buffer afterwards
+pub record Feeding : Type 0 where
+  pub fed : Fed
+  pub carry : List ℕ
+  pub scratch : List ℕ
+  pub reply : List ℕ
+
+abbrev pub feeding : Fed → List ℕ → List ℕ → List ℕ → Feeding
+feeding f c s b = record { fed = f; carry = c; scratch = s; reply = b }
+
+-- a step, and the scratch that reading left
+pub record Acted : Type 0 where
+  pub step : Stepped
+  pub scratch : List ℕ
+
+abbrev pub acted : Stepped → List ℕ → Acted
+acted s scratch = record { step = s; scratch = scratch }
+
+-- nothing but something told: the table as before, no reply
+abbrev pub telling : Table → Told → Stepped
+telling t w = stepped t w noReply
+
+-- a text that was read is obeyed. "Refusals 1 to 8 send no reply" and leave "no session changed".
+abbrev pub readAct : Table → List ℕ → Outcome Answer → Acted
+readAct t text o = go (o .answer)
+  where
+    go : Answer → Acted
+    go (Answer.read c) = acted (obeyOf t c text (o .buffer)) (o .buffer)
+    go (Answer.refused n) = acted (telling t (Told.Refused n)) (o .buffer)
+
+-- what a report does, given its text: a command text is read, a refusal of the frame is told
+abbrev pub reportAct : Table → Report → List ℕ → List ℕ → Acted
+reportAct t Report.Nothing text scratch = acted (telling t Told.Nothing) scratch
+reportAct t (Report.InPiece start n) text scratch = readAct t text (readOf text scratch)
+reportAct t (Report.InCarry n) text scratch = readAct t text (readOf text scratch)
+reportAct t Report.TooLong text scratch = acted (telling t (Told.Refused 1)) scratch
+reportAct t Report.Abandoned text scratch = acted (telling t (Told.Refused 2)) scratch
+reportAct t Report.ShortCarry text scratch = acted (telling t (Told.Refused 9)) scratch
+
+abbrev pub fedBy : Scanned → Stepped → ℕ → Fed
+fedBy k s n =
+    record { receiver = record { framing = k .framing; table = s .table }; consumed = k .consumed; report = k .report; told = s .told; «reply_len» = n }
+
+-- "nothing consumed, all memory as before"
+abbrev pub feedRefused : Receiver → ℕ → Fed
+feedRefused r n = record { receiver = r; consumed = 0; report = Report.Nothing; told = Told.Refused n; «reply_len» = 0 }
+
+-- after the scan k, which left the carry
+unfoldable pub scannedFeed : Table → List ℕ → Outcome Scanned → List ℕ → List ℕ → Feeding
+scannedFeed t piece k scratch reply =
+    let a = reportAct t (k .answer .report) (textOf piece (k .buffer) (k .answer .report)) scratch in
+    let b = repliedOf (a .step .reply) reply in
+    feeding (fedBy (k .answer) (a .step) (b .answer)) (k .buffer) (a .scratch) (b .buffer)
+
+-- "carry under 8,192, scratch under 6,144 or reply buffer under 124 bytes"
+abbrev pub isShort : List ℕ → List ℕ → List ℕ → Bool
+isShort carry scratch reply = either (ltb (length carry) 8192) (either (ltb (length scratch) 6144) (ltb (length reply) 124))
+
+-- 9 first, then 10: "feed while an answer is owed"
+unfoldable pub feedOf : Receiver → List ℕ → List ℕ → List ℕ → List ℕ → Feeding
+feedOf r piece carry scratch reply =
+    pick (isShort carry scratch reply) (feeding (feedRefused r 9) carry scratch reply)
+    (pick (isOwed (r .table .owed)) (feeding (feedRefused r 10) carry scratch reply)
+    (scannedFeed (r .table) piece (scanOf (r .framing) piece carry) scratch reply))
+
+-- ---- the console's calls
+abbrev pub answeredBy : Framing → Stepped → ℕ → Answered
+answeredBy f s n = record { receiver = record { framing = f; table = s .table }; told = s .told; «reply_len» = n }
+
+-- a step taken, its reply stored
+abbrev pub replied : Framing → Stepped → List ℕ → Outcome Answered
+replied f s reply = let b = repliedOf (s .reply) reply in outcome (answeredBy f s (b .answer)) (b .buffer)
+
+-- 9 first: "reply buffer under 124 bytes"
+unfoldable pub guarded : Receiver → Stepped → List ℕ → Outcome Answered
+guarded r s reply =
+    pick (ltb (length reply) 124)
+    (outcome (answeredBy (r .framing) (refused (r .table) 9) 0) reply)
+    (replied (r .framing) s reply)
+
+unfoldable pub allowOf : Receiver → List ℕ → List ℕ → Outcome Answered
+allowOf r id reply = guarded r (allowedOf (r .table) id) reply
+
+unfoldable pub denyOf : Receiver → List ℕ → List ℕ → Outcome Answered
+denyOf r id reply = guarded r (deniedOf (r .table) id) reply
+
+-- drop is lent no buffer
+unfoldable pub dropOf : Receiver → List ℕ → Answered
+dropOf r id = answeredBy (r .framing) (droppedOf (r .table) id) 0
+
+unfoldable pub doneOf : Receiver → List ℕ → Outcome Answered
+doneOf r reply = guarded r (settleDone (r .table) (r .table .owed)) reply
+
+unfoldable pub failedOf : Receiver → Failure → List ℕ → Outcome Answered
+failedOf r e reply = guarded r (settleFailed (r .table) e (r .table .owed)) reply

@@ -1,0 +1,119 @@
+-- "The reports, places apart, are the same however the bytes are cut, given the same console calls after the same reports."
+use Prim.Native.Nat.{ℕ}
+use mathlib.Core.Path.{_≡_}
+use mathlib.Core.Bool.{Bool, true, false}
+use mathlib.Core.List.{List, [], _∷_, _++_}
+use lib.ListN.{length, take}
+use lib.Dec.{ltb}
+use Rattle.octets.specs.Choice.{pick}
+use Rattle.octets.specs.Outcome.{Outcome}
+use Rattle.frames.specs.Calls.{textOf}
+use Rattle.frames.specs.declared.Report.{Report}
+use Rattle.frames.specs.declared.Report.the-variants as Report
+use Rattle.command.specs.Slots.{valuesOf}
+use Rattle.protocol.specs.Calls.{Feeding, feedOf, allowOf, denyOf, dropOf, doneOf, failedOf}
+use Rattle.protocol.specs.History.{Command, Heard, heardAsk, bytesOf}
+use Rattle.protocol.specs.Claim.{Call, World, Lent, step, start}
+use Rattle.protocol.specs.declared.Status.{Status}
+use Rattle.protocol.specs.declared.Failure.{Failure}
+use Rattle.protocol.specs.declared.Told.{Told}
+use Rattle.protocol.specs.declared.Told.the-variants as Told
+use Rattle.protocol.specs.declared.Answered.{Answered}
+
+-- ---- what a call gives, places apart
+-- what is told: a command by its values, and a write by its part
+pub data Saying : Type 0 where
+  nothing : Saying
+  refused : ℕ → Saying
+  ignored : Saying
+  asked : Command → Saying
+  asks : Heard → Command → Saying
+  status : Status → Saying
+  withdrawn : Saying
+  discarded : Saying
+  committed : Saying
+
+-- given the text and the scratch that the places are in
+abbrev pub saying : Told → List ℕ → List ℕ → Saying
+saying Told.Nothing text scratch = Saying.nothing
+saying (Told.Refused n) text scratch = Saying.refused n
+saying Told.Ignored text scratch = Saying.ignored
+saying (Told.Asked c) text scratch = Saying.asked (valuesOf c text scratch)
+saying (Told.Ask a c) text scratch = Saying.asks (heardAsk a scratch) (valuesOf c text scratch)
+saying (Told.Status w) text scratch = Saying.status w
+saying Told.Withdrawn text scratch = Saying.withdrawn
+saying Told.Discarded text scratch = Saying.discarded
+saying Told.Committed text scratch = Saying.committed
+
+-- a report of a feed, or a console call
+pub data Move : Type 0 where
+  report : Move
+  allow : (id : List ℕ) → Move
+  deny : (id : List ℕ) → Move
+  drop : (id : List ℕ) → Move
+  done : Move
+  failed : (code : Failure) → Move
+
+-- what it gives: the reported text, what is told, and the reply
+pub record Output : Type 0 where
+  pub move : Move
+  pub text : List ℕ
+  pub said : Saying
+  pub reply : List ℕ
+
+abbrev pub output : Move → List ℕ → Saying → List ℕ → Output
+output m text said reply = record { move = m; text = text; said = said; reply = reply }
+
+-- ---- call by call
+abbrev pub isReport : Report → Bool
+isReport Report.Nothing = false
+isReport (Report.InPiece start n) = true
+isReport (Report.InCarry n) = true
+isReport Report.TooLong = true
+isReport Report.Abandoned = true
+isReport Report.ShortCarry = false
+
+-- of a feed of that piece: its report; none where there is nothing to report, as of a feed refused with 9 or 10
+abbrev pub reportOf : List ℕ → Feeding → List Output
+reportOf piece f =
+    let text = textOf piece (f .carry) (f .fed .report) in
+    pick (isReport (f .fed .report)) (output Move.report text (saying (f .fed .told) text (f .scratch)) (take (f .fed .«reply_len») (f .reply)) ∷ []) []
+
+-- of a console call that was lent that buffer: its answer; none of one refused with 9
+abbrev pub answerOf : Move → List ℕ → Outcome Answered → List Output
+answerOf m lent a = pick (ltb (length lent) 124) [] (output m [] (saying (a .answer .told) [] []) (take (a .answer .«reply_len») (a .buffer)) ∷ [])
+
+abbrev pub given : World → Call → List Output
+given w (Call.feed piece carry scratch reply) = reportOf piece (feedOf (w .receiver) piece carry scratch reply)
+given w (Call.allow id reply) = answerOf (Move.allow id) reply (allowOf (w .receiver) id reply)
+given w (Call.deny id reply) = answerOf (Move.deny id) reply (denyOf (w .receiver) id reply)
+given w (Call.drop id) = output (Move.drop id) [] (saying (dropOf (w .receiver) id .told) [] []) [] ∷ []
+given w (Call.done reply) = answerOf Move.done reply (doneOf (w .receiver) reply)
+given w (Call.failed code reply) = answerOf (Move.failed code) reply (failedOf (w .receiver) code reply)
+
+-- ---- a list of calls
+abbrev pub allGiven : World → List Call → List Output
+allGiven w [] = []
+allGiven w (c ∷ cs) = given w c ++ allGiven (step w c) cs
+
+abbrev pub after : World → List Call → World
+after w [] = w
+after w (c ∷ cs) = after (step w c) cs
+
+-- each feed not refused is lent the carry as the last one left it
+abbrev pub AllLent : World → List Call → Type 0
+AllLent w [] = Unit {0}
+AllLent w (c ∷ cs) = Lent w c × AllLent (step w c) cs
+
+-- the console calls, each after the reports that it comes after
+abbrev pub moves : List Output → List Move
+moves [] = []
+moves (o ∷ os) = o .move ∷ moves os
+
+-- two lists of calls, from a fresh receiver and any first carry each, that consume the same bytes and make the same console calls after the
+-- same reports: they give the same, and leave the same receiver
+abbrev pub CutsAlike : Type 0
+CutsAlike = (carry₁ carry₂ : List ℕ) (cs₁ cs₂ : List Call) → AllLent (start carry₁) cs₁ → AllLent (start carry₂) cs₂
+    → bytesOf (after (start carry₁) cs₁ .history) ≡ bytesOf (after (start carry₂) cs₂ .history)
+    → moves (allGiven (start carry₁) cs₁) ≡ moves (allGiven (start carry₂) cs₂)
+    → (allGiven (start carry₁) cs₁ ≡ allGiven (start carry₂) cs₂) × (after (start carry₁) cs₁ .receiver ≡ after (start carry₂) cs₂ .receiver)

@@ -1,0 +1,11 @@
+pub mod Table
+pub mod Actions
+pub mod Replies
+pub mod Files
+pub mod Sessions
+pub mod Answers
+pub mod Calls
+pub mod History
+pub mod Claim
+pub mod Cuts
+pub mod Starred

@@ -1,0 +1,141 @@
+-- The table of sessions: room, ids, finding, and what is put back.
+use Prim.Native.Nat.{ℕ, zero, suc}
+use mathlib.Core.Bool.{Bool, true, false}
+use mathlib.Core.List.{List, [], _∷_, _++_}
+use lib.ListN.{take, getD, set, replicate}
+use Rattle.octets.specs.Choice.{pick, both}
+use Rattle.octets.specs.Slices.{equals}
+use Rattle.frames.specs.declared.Framing.the-variants as Framing
+use Rattle.protocol.specs.declared.FileState.{FileState}
+use Rattle.protocol.specs.declared.FileState.the-variants as FileState
+use Rattle.protocol.specs.declared.FileRecord.{FileRecord}
+use Rattle.protocol.specs.declared.SessionState.{SessionState}
+use Rattle.protocol.specs.declared.SessionState.the-variants as SessionState
+use Rattle.protocol.specs.declared.Session.{Session}
+use Rattle.protocol.specs.declared.Owed.{Owed}
+use Rattle.protocol.specs.declared.Owed.the-variants as Owed
+use Rattle.protocol.specs.declared.Table.{Table}
+use Rattle.protocol.specs.declared.Receiver.{Receiver}
+use Rattle.protocol.specs.declared.Found.{Found}
+use Rattle.protocol.specs.declared.Found.the-variants as Found
+
+-- ---- room: "four sessions, each with thirty-two file records"
+abbrev pub zeros : List ℕ
+zeros = replicate 32 0
+
+abbrev pub freeFile : FileRecord
+freeFile = record { state = FileState.Free; id = zeros; «id_len» = 0; count = 0 }
+
+abbrev pub absentSession : Session
+absentSession = record { state = SessionState.Absent; quiet = 0; id = zeros; «id_len» = 0; files = replicate 32 freeFile }
+
+-- "A fresh receiver has no session, no file and nothing owed"
+abbrev pub emptyTable : Table
+emptyTable = record { sessions = replicate 4 absentSession; owed = Owed.Nothing }
+
+abbrev pub freshReceiver : Receiver
+freshReceiver = record { framing = Framing.Plain; table = emptyTable }
+
+-- what stands at a place outside the table: free room
+abbrev pub noFile : FileRecord
+noFile = freeFile
+
+abbrev pub noSession : Session
+noSession = absentSession
+
+abbrev pub sessionAt : Table → ℕ → Session
+sessionAt t i = getD (t .sessions) i noSession
+
+abbrev pub fileAt : Session → ℕ → FileRecord
+fileAt s j = getD (s .files) j noFile
+
+-- ---- ids
+abbrev pub idOf : Session → List ℕ
+idOf s = take (s .«id_len») (s .id)
+
+abbrev pub fileIdOf : FileRecord → List ℕ
+fileIdOf f = take (f .«id_len») (f .id)
+
+-- an id in an array of 32 bytes
+abbrev pub padded : List ℕ → List ℕ
+padded k = take 32 (k ++ zeros)
+
+-- ---- finding
+abbrev pub later : Found → Found
+later Found.Nowhere = Found.Nowhere
+later (Found.At i) = Found.At (suc i)
+
+abbrev pub hereOr : Bool → Found → Found
+hereOr true f = Found.At zero
+hereOr false f = later f
+
+-- the first member of which a test holds
+unfoldable pub first : {A : Type 0} → (A → Bool) → List A → Found
+first p [] = Found.Nowhere
+first p (x ∷ xs) = hereOr (p x) (first p xs)
+
+abbrev pub isPresent : SessionState → Bool
+isPresent SessionState.Absent = false
+isPresent SessionState.Asked = true
+isPresent SessionState.Open = true
+
+abbrev pub isAbsent : Session → Bool
+isAbsent s = pick (isPresent (s .state)) false true
+
+abbrev pub isUsed : FileState → Bool
+isUsed FileState.Free = false
+isUsed FileState.Opening = true
+isUsed FileState.Started = true
+isUsed FileState.Done = true
+isUsed FileState.Failed = true
+
+abbrev pub isFree : FileRecord → Bool
+isFree f = pick (isUsed (f .state)) false true
+
+abbrev pub isStartedState : FileState → Bool
+isStartedState FileState.Free = false
+isStartedState FileState.Opening = false
+isStartedState FileState.Started = true
+isStartedState FileState.Done = false
+isStartedState FileState.Failed = false
+
+abbrev pub isStarted : FileRecord → Bool
+isStarted f = isStartedState (f .state)
+
+-- "Ids match only if length and all bytes agree"
+abbrev pub hasId : List ℕ → Session → Bool
+hasId k s = both (isPresent (s .state)) (equals (idOf s) k)
+
+abbrev pub hasFileId : List ℕ → FileRecord → Bool
+hasFileId k f = both (isUsed (f .state)) (equals (fileIdOf f) k)
+
+-- the place of a session by its id, and of a file of it by its id
+abbrev pub findSession : Table → List ℕ → Found
+findSession t k = first (hasId k) (t .sessions)
+
+abbrev pub findFile : Session → List ℕ → Found
+findFile s k = first (hasFileId k) (s .files)
+
+-- ---- put back
+abbrev pub withOwed : Table → Owed → Table
+withOwed t o = record { sessions = t .sessions; owed = o }
+
+abbrev pub putSession : Table → ℕ → Session → Table
+putSession t i s = record { sessions = set (t .sessions) i s; owed = t .owed }
+
+abbrev pub withState : Session → SessionState → Session
+withState s g = record { state = g; quiet = s .quiet; id = s .id; «id_len» = s .«id_len»; files = s .files }
+
+abbrev pub putFile : Session → ℕ → FileRecord → Session
+putFile s j f = record { state = s .state; quiet = s .quiet; id = s .id; «id_len» = s .«id_len»; files = set (s .files) j f }
+
+-- a file's record in another state, with a count
+abbrev pub moved : FileRecord → FileState → ℕ → FileRecord
+moved f g n = record { state = g; id = f .id; «id_len» = f .«id_len»; count = n }
+
+abbrev pub putFileAt : Table → ℕ → ℕ → FileRecord → Table
+putFileAt t i j f = putSession t i (putFile (sessionAt t i) j f)
+
+-- "dropped": its place is free again
+abbrev pub dropAt : Table → ℕ → Table
+dropAt t i = putSession t i absentSession

@@ -1,0 +1,261 @@
+// The protocol's types and definitions: the receiver, what it tells the console, and the session
+// rule, with the history of calls and the theorem about it.
+//
+// No feed or console call has code here: specs/ says what each gives, for any receiver and any lent
+// buffers, and proofs/ shows what every list of calls from a fresh receiver keeps.
+ghost use mathlib.Core.Path.{_≡_};
+ghost use Rattle.protocol.specs.Claim.{EveryHistory};
+ghost use Rattle.protocol.specs.Cuts.{CutsAlike};
+ghost use Rattle.protocol.specs.Starred.{AllHold, starred};
+ghost use Rattle.protocol.specs.Table.{freshReceiver};
+use command::Command;
+use command::Place;
+use frames::Framing;
+use frames::Report;
+
+// ---- The receiver: nested arrays by value.
+// "four sessions, each with thirty-two file records"
+pub const SESSIONS: usize = 4;
+
+pub const FILES: usize = 32;
+
+pub enum FileState {
+    Free,
+    Opening,
+    Started,
+    Done,
+    Failed,
+}
+
+// A file record: its id is the first id_len bytes of id. It holds no file type: what was opened is
+// told from the command read.
+pub struct FileRecord {
+    pub state: FileState,
+    pub id: [u8; 32],
+    pub id_len: usize,
+    pub count: u64,
+}
+
+pub enum SessionState {
+    Absent,
+    Asked,
+    Open,
+}
+
+pub struct Session {
+    pub state: SessionState,
+    pub quiet: u64,
+    pub id: [u8; 32],
+    pub id_len: usize,
+    pub files: [FileRecord; 32],
+}
+
+// What the console owes an answer to, with the places of the session and its file in the table, and
+// the part's length.
+pub enum Owed {
+    Nothing,
+    OpenFile(usize, usize),
+    OpenDirectory(usize, usize),
+    Write(usize, usize, usize),
+    WriteLast(usize, usize, usize),
+    Commit(usize),
+}
+
+pub struct Table {
+    pub sessions: [Session; 4],
+    pub owed: Owed,
+}
+
+// What a command does, by the action table.
+pub enum Kind {
+    Ignore,
+    Ask,
+    Unsupported,
+    Invalid,
+    Cancel,
+    Withdraw,
+    File,
+    Data,
+    EndData,
+    Finish,
+}
+
+// What the console keeps between calls, beside the carry.
+pub struct Receiver {
+    pub framing: Framing,
+    pub table: Table,
+}
+
+// ---- What a call tells the console.
+// What the console is asked to do: to open the command's file, to write a part of it or its last
+// part (the part's place in the scratch), or to commit the session.
+pub enum Ask {
+    Open,
+    Write(Place),
+    WriteLast(Place),
+    Commit,
+}
+
+// The status words of replies.
+pub enum Status {
+    Ok,
+    Started,
+    Progress,
+    Canceled,
+    Eperm,
+    Eio,
+    Enoent,
+    Enospc,
+    Ebusy,
+    Enotsup,
+    Einval,
+    Eexist,
+    Emfile,
+    Efbig,
+}
+
+// Why the console failed an ask.
+pub enum Failure {
+    Eperm,
+    Eio,
+    Enoent,
+    Enospc,
+}
+
+// What a call tells.
+pub enum Told {
+    Nothing,
+    // A refusal, by its number in document 01.
+    Refused(u8),
+    // A command was read, and the rule ignores it.
+    Ignored,
+    // A new session waits for the user; its command, with places in the text and in the scratch.
+    Asked(Command),
+    // An answer is owed; the ask, and the command that it is for.
+    Ask(Ask, Command),
+    // The call's only outcome is this status, also where quiet holds the reply back.
+    Status(Status),
+    // A session was dropped: one only asked, an open one, or one committed.
+    Withdrawn,
+    Discarded,
+    Committed,
+}
+
+// A reply that is due, or none. Its ids are the first so many bytes of their arrays; a size of 0 is
+// left out, as is an empty file id.
+pub struct Reply {
+    pub due: bool,
+    pub status: Status,
+    pub quiet: u64,
+    pub id: [u8; 32],
+    pub id_len: usize,
+    pub file_id: [u8; 32],
+    pub file_id_len: usize,
+    pub size: u64,
+}
+
+// What a step of the rule gives: the table afterwards, what is told, and the reply.
+pub struct Stepped {
+    pub table: Table,
+    pub told: Told,
+    pub reply: Reply,
+}
+
+// What feed answers: the receiver, how many bytes of the piece it consumed, where the reported text
+// stands, what is told, and the reply's length.
+pub struct Fed {
+    pub receiver: Receiver,
+    pub consumed: usize,
+    pub report: Report,
+    pub told: Told,
+    pub reply_len: usize,
+}
+
+// What a console call answers: the receiver, what is told, and the reply's length.
+pub struct Answered {
+    pub receiver: Receiver,
+    pub told: Told,
+    pub reply_len: usize,
+}
+
+// Where something stands in an array.
+pub enum Found {
+    Nowhere,
+    At(usize),
+}
+
+// ---- Free room, the fresh receiver and the action table.
+impl FileRecord {
+    pub const FREE: FileRecord = FileRecord {
+        state: FileState::Free,
+        id: [0; 32],
+        id_len: 0,
+        count: 0,
+    };
+}
+
+impl Session {
+    pub const ABSENT: Session = Session {
+        state: SessionState::Absent,
+        quiet: 0,
+        id: [0; 32],
+        id_len: 0,
+        files: [FileRecord::FREE; 32],
+    };
+}
+
+impl Table {
+    pub const EMPTY: Table = Table {
+        sessions: [Session::ABSENT; 4],
+        owed: Owed::Nothing,
+    };
+
+    // The action table: a row for each session state, a column for each action: send, receive, file,
+    // data, end_data, finish, cancel, status.
+    pub const ACTIONS: [[Kind; 8]; 3] = [
+        [
+            Kind::Ask,
+            Kind::Unsupported,
+            Kind::Ignore,
+            Kind::Ignore,
+            Kind::Ignore,
+            Kind::Ignore,
+            Kind::Ignore,
+            Kind::Ignore,
+        ],
+        [
+            Kind::Withdraw,
+            Kind::Withdraw,
+            Kind::Withdraw,
+            Kind::Withdraw,
+            Kind::Withdraw,
+            Kind::Withdraw,
+            Kind::Cancel,
+            Kind::Withdraw,
+        ],
+        [
+            Kind::Invalid,
+            Kind::Invalid,
+            Kind::File,
+            Kind::Data,
+            Kind::EndData,
+            Kind::Finish,
+            Kind::Cancel,
+            Kind::Ignore,
+        ],
+    ];
+}
+
+impl Receiver {
+    // "A fresh receiver has no session, no file and nothing owed." What every list of calls from here
+    // keeps (demand 3), that cuts do not matter, and document 01's starred cases stand here too, so that
+    // nobody can drop a theorem unseen.
+    pub fn fresh() -> Receiver
+        ensures { λ r. ⌜ (r ≡ freshReceiver) × EveryHistory × CutsAlike × AllHold starred ⌝ }
+    {
+        Receiver {
+            framing: Framing::Plain,
+            table: Table::EMPTY,
+        }
+    }
+}

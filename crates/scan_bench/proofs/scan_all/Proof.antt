@@ -1,0 +1,85 @@
+use Prim.Native.Nat.{_+_, _-_, _≤_}
+use mathlib.Core.Path.{_≡_}
+use native.Mathlib.Omega.{arith}
+use lib.ListN.{length, take, drop, length-drop, length-take}
+use borrow.Author.Needs.{needs}
+use Rattle.frames.proofs.CallLaws.{consumed-within}
+use Rattle.scan_bench.proofs.scan_all.Statement.{statement}
+use Rattle.scan_bench.proofs.scan_all.Tie as tie
+
+abbrev Inv-loop : tie.InvT-loop
+Inv-loop piece carry₀ framing₀ count₀ at₀ carry framing count at = (at ≤ length piece) × (length carry ≡ length carry₀)
+
+abbrev μ-loop : tie.MeasureT-loop
+μ-loop piece carry₀ framing₀ count₀ at₀ carry framing count at = length piece - at
+
+loop-holds : tie.Need-loop-holds Inv-loop μ-loop
+loop-holds c = search needs
+
+sub-scan : tie.Need-sub-scan Inv-loop μ-loop
+sub-scan c = search needs
+
+part-scan-start : tie.Need-part-scan-start Inv-loop μ-loop
+part-scan-start c = search needs
+
+part-scan-end : tie.Need-part-scan-end Inv-loop μ-loop
+part-scan-end c = search needs
+
+scan-requires : tie.Need-scan-requires Inv-loop μ-loop
+scan-requires c κs = search needs
+
+-- what the call consumed lies within the rest of the piece
+within : (c : tie.After-scan Inv-loop μ-loop) → c .before .before .before .before .loop .at + c .scan .result .consumed ≤ length (c .before .before .before .before .before .before .before .args .piece .now)
+within c =
+    let l = c .before .before .before .before .loop in
+    let piece = c .before .before .before .before .before .before .before .args .piece .now in
+    let part : length (take (length piece - l .at) (drop (l .at) piece)) ≡ length piece - l .at = simp (length-take, length-drop) (omega arith) in
+    omega (arith, consumed-within _ _ _ (c .scan .ensures))
+
+reports-requires : tie.Need-reports-requires Inv-loop μ-loop
+reports-requires c κs = search needs
+
+wrapping-add-u64-requires : tie.Need-wrapping-add-u64-requires Inv-loop μ-loop
+wrapping-add-u64-requires c κs = search needs
+
+add-at : tie.Need-add-at Inv-loop μ-loop
+add-at c = omega (arith, within (c .before .before .before .before .before))
+
+loop-less : tie.Need-loop-less Inv-loop μ-loop
+loop-less c = omega (arith, within (c .before .before .before .before .before))
+
+loop-again : tie.Need-loop-again Inv-loop μ-loop
+loop-again c = (omega (arith, within (c .before .before .before .before .before)), search needs)
+
+same-length : tie.Need-same-length Inv-loop μ-loop
+same-length c = search needs
+
+returns : tie.Need-returns Inv-loop μ-loop
+returns c = search needs
+
+same-length-2 : tie.Need-same-length-2 Inv-loop μ-loop
+same-length-2 c = search needs
+
+returns-2 : tie.Need-returns-2 Inv-loop μ-loop
+returns-2 c = search needs
+
+pub scan-all-spec : {M : Type 1} → statement M
+scan-all-spec =
+    tie.close
+    (tie.spec
+    Inv-loop
+    μ-loop
+    loop-holds
+    sub-scan
+    part-scan-start
+    part-scan-end
+    scan-requires
+    reports-requires
+    wrapping-add-u64-requires
+    add-at
+    loop-less
+    loop-again
+    same-length
+    returns
+    same-length-2
+    returns-2)
