@@ -45,11 +45,11 @@ part-other k d (Heard.writes p) e = rw e
 part-other k d (Heard.writesLast p) e = rw e
 part-other k d Heard.commits e = refl
 
-pub handed-other : (k : Key) (d : Command) (x : Hearing) → isFor k d ≡ false → handed k d x ≡ []
+handed-other : (k : Key) (d : Command) (x : Hearing) → isFor k d ≡ false → handed k d x ≡ []
 handed-other k d Hearing.silence e = refl
 handed-other k d (Hearing.heard a) e = part-other k d a e
 
-pub starts-other : (k : Key) (d : Command) (a : Heard) → isFor k d ≡ false → startsFor k (Question.asks d a) ≡ false
+starts-other : (k : Key) (d : Command) (a : Heard) → isFor k d ≡ false → startsFor k (Question.asks d a) ≡ false
 starts-other k d Heard.opens e = rw (e, both-false (isRegular d))
 starts-other k d (Heard.writes p) e = refl
 starts-other k d (Heard.writesLast p) e = refl
@@ -82,7 +82,7 @@ module _ {m : List Mark} {k : Key} {n : ℕ} where
       }
 
   -- an ask failed that handed over nothing for the file
-  pub file-failed : (q : Question) → lastAsk m ≡ q → partFor k q ≡ [] → FileOK true m k n → FileOK false (Mark.answer false ∷ m) k n
+  file-failed : (q : Question) → lastAsk m ≡ q → partFor k q ≡ [] → FileOK true m k n → FileOK false (Mark.answer false ∷ m) k n
   file-failed q ask e f = record { joined = rw (ask, e) at (f .joined); counted = f .counted; started = f .started }
 
 -- an answer to an ask for another file

@@ -19,6 +19,7 @@ use Rattle.protocol.specs.declared.SessionState.the-variants as SessionS
 use Rattle.protocol.specs.declared.Session.{Session}
 use Rattle.protocol.specs.declared.Owed.{Owed}
 use Rattle.protocol.specs.declared.Owed.the-variants as Owed
+use Rattle.protocol.specs.declared.Table.{Table}
 use Rattle.protocol.specs.declared.Failure.{Failure}
 use Rattle.protocol.specs.declared.Stepped.{Stepped}
 use Rattle.protocol.proofs.Laws.{no-way, equals-same, unique-other}
@@ -27,10 +28,11 @@ use Rattle.protocol.proofs.Marks.{file-other, file-done, file-starts, f
 use Rattle.protocol.proofs.Puts.{table, notedMarks, put-session, drop-session, put-file, free-files, not-owed, NoneDone, none-same, none-free, none-file}
 use Rattle.protocol.proofs.Obeyed.{idle, sessionIn}
 
+-- the file that is owed is the command's
 pub is-for : (s : Session) (j : ℕ) (d : Command) (g : FileState) → idOf s ≡ Meaning.idOf d → AtFile s j d g → isFor (keyOf s (fileAt s j)) d ≡ true
 is-for s j d g id at = rw (equals-same _ _ id, equals-same _ _ (at .file))
 
--- an ask of a part or of an open is no commit
+-- an ask of a part: it commits nothing, starts nothing, and hands over its part for the file
 writes-commit : (last : Bool) (i : List ℕ) (d : Command) (p : List ℕ) → commitsFor i (Question.asks d (writeHeard last p)) ≡ false
 writes-commit true i d p = refl
 writes-commit false i d p = refl
@@ -42,6 +44,10 @@ writes-start false k d p = refl
 writes-part : (last : Bool) (k : Key) (d : Command) (p : List ℕ) → isFor k d ≡ true → partFor k (Question.asks d (writeHeard last p)) ≡ p
 writes-part true k d p e = rw e
 writes-part false k d p e = rw e
+
+-- the table when the file j of the session i is moved to a state with a count, and nothing is owed
+abbrev settledAt : List Session → ℕ → ℕ → FileState → ℕ → Table
+settledAt ss i j g n = table (set ss i (putFile (sessionIn ss i) j (moved (fileAt (sessionIn ss i) j) g n))) Owed.Nothing
 
 module _ {ss : List Session} {o : Owed} {m : List Mark} (ok : TableOK (table ss o) m) (b : isOwed o ≡ true) where
   pub asking : Asking ss (lastAsk m) o
@@ -62,7 +68,7 @@ module _ {ss : List Session} {o : Owed} {m : List Mark} (ok : TableOK (table ss 
   settle-file : (v : Bool) (j : ℕ) (old : FileState) → isUsed old ≡ true → AtFile (sessionIn ss (owing o)) j (asking .command) old
       → ((i : List ℕ) → commitsFor i (Question.asks (asking .command) (asking .heard)) ≡ false) → (g : FileState) (n : ℕ)
       → (g ≡ FileState.Started → FileOK false (Mark.answer v ∷ m) (keyOf (sessionIn ss (owing o)) (fileAt (sessionIn ss (owing o)) j)) n)
-      → TableOK (table (set ss (owing o) (putFile (sessionIn ss (owing o)) j (moved (fileAt (sessionIn ss (owing o)) j) g n))) Owed.Nothing) (Mark.answer v ∷ m)
+      → TableOK (settledAt ss (owing o) j g n) (Mark.answer v ∷ m)
   settle-file v j old u at nc g n here =
       put-session (table ss o) (owing o) (putFile (sessionIn ss (owing o)) j f) Owed.Nothing ok (asking .inside)
       (λ p i r q e. r (ok .alone i (owing o) q p e)) (others-ok v)
@@ -93,20 +99,20 @@ module _ {ss : List Session} {o : Owed} {m : List Mark} (ok : TableOK (table ss 
       differs i r w =
           unique-other fileUsed fileIdOf noFile (sessionIn ss (owing o) .files) j (Meaning.fileIdOf (asking .command)) (s-ok .alone) was (at .file) i r (ap isUsed w)
 
-  -- an open: the file is in the state g
+  -- to an open
   settle-open : (type : ℕ) (v : Bool) (j : ℕ) → OpenAsked type (sessionIn ss (owing o)) (asking .command) (asking .heard) j → (g : FileState) (n : ℕ)
       → (g ≡ FileState.Started → FileOK false (Mark.answer v ∷ m) (keyOf (sessionIn ss (owing o)) (fileAt (sessionIn ss (owing o)) j)) n)
-      → TableOK (table (set ss (owing o) (putFile (sessionIn ss (owing o)) j (moved (fileAt (sessionIn ss (owing o)) j) g n))) Owed.Nothing) (Mark.answer v ∷ m)
+      → TableOK (settledAt ss (owing o) j g n) (Mark.answer v ∷ m)
   settle-open type v j w g n = settle-file v j FileState.Opening refl (w .at) (λ i. rw (w .heard)) g n
 
-  -- a part
+  -- to a part
   settle-part : (last v : Bool) (j n : ℕ) → PartAsked last (sessionIn ss (owing o)) (asking .command) (asking .heard) j n → (g : FileState) (s : ℕ)
       → (g ≡ FileState.Started → FileOK false (Mark.answer v ∷ m) (keyOf (sessionIn ss (owing o)) (fileAt (sessionIn ss (owing o)) j)) s)
-      → TableOK (table (set ss (owing o) (putFile (sessionIn ss (owing o)) j (moved (fileAt (sessionIn ss (owing o)) j) g s))) Owed.Nothing) (Mark.answer v ∷ m)
+      → TableOK (settledAt ss (owing o) j g s) (Mark.answer v ∷ m)
   settle-part last v j n w g s =
       settle-file v j FileState.Started refl (w .at) (λ i. rw (w .heard) (writes-commit last i (asking .command) (w .part))) g s
 
-  -- a commit: the session is dropped
+  -- to a commit: the session is dropped
   settle-commit : (v : Bool) → TableOK (table (set ss (owing o) absentSession) Owed.Nothing) (Mark.answer v ∷ m)
   settle-commit v = drop-session (table ss o) (owing o) Owed.Nothing ok (asking .inside) (others-ok v) (λ e. no-way (sym e)) (ok .told)
 
@@ -118,7 +124,7 @@ module _ {ss : List Session} {o : Owed} {m : List Mark} (ok : TableOK (table ss 
       file-starts (rw (asking .asked, w .heard, w .kind) (is-for (sessionIn ss (owing o)) j (asking .command) FileState.Opening (asking .id) (w .at)))
 
   -- a part answered done: the count grows by its length, and the cap is not met
-  pub part-grown : (last : Bool) (j n : ℕ) → PartAsked last (sessionIn ss (owing o)) (asking .command) (asking .heard) j n
+  part-grown : (last : Bool) (j n : ℕ) → PartAsked last (sessionIn ss (owing o)) (asking .command) (asking .heard) j n
       → grown (table ss o) (owing o) j n ≡ fileAt (sessionIn ss (owing o)) j .count + n
   part-grown last j n w = let f = w .fits in omega arith
 
@@ -194,8 +200,7 @@ failed-noted ss e o {m} ok = go (isOwed o) refl
     go false b = rw (not-owed o b) (rw (not-owed o b) at ok)
 
 -- failed turns no record done
-none-failed : (ss : List Session) (o : Owed) (i j n : ℕ)
-    → NoneDone (table ss o) (table (set ss i (putFile (sessionIn ss i) j (moved (fileAt (sessionIn ss i) j) FileState.Failed n))) Owed.Nothing)
+none-failed : (ss : List Session) (o : Owed) (i j n : ℕ) → NoneDone (table ss o) (settledAt ss i j FileState.Failed n)
 none-failed ss o i j n = none-file (table ss o) i j _ Owed.Nothing (λ (e : FileState.Failed ≡ FileState.Done). let z : _≡_ {A = ℕ} 0 1 = cc in omega arith)
 
 pub failed-none : (ss : List Session) (e : Failure) (o : Owed) → NoneDone (table ss o) (settleFailed (table ss o) e o .table)

@@ -122,7 +122,9 @@ fn c14() {
 
 fn keys() {
     read(b"5113;ac=finished;id=m");
-    read(b"5113;id=m;ac=file;fid=f;ft=directory;tt=rsync;zip=none;pw=x:./@-_;q=2;mod=-1;prm=0644;sz=12;n=L256;st=T0s=;pr=p;d=AQID");
+    read(
+        b"5113;id=m;ac=file;fid=f;ft=directory;tt=rsync;zip=none;pw=x:./@-_;q=2;mod=-1;prm=0644;sz=12;n=L256;st=T0s=;pr=p;d=AQID",
+    );
     read(b"5113;d=AQID;n=L256;st=T0s=;ac=file;id=m");
     read(b"5113;ac=end_data;id=m;d=");
     filled(b"5113;ac=send;id=", b'i', 32, b"");

@@ -94,7 +94,11 @@ fn cut(n: usize, at: usize) {
     out::number(at);
     out::text(b":");
     let framing = feed(Framing::Plain, octets::part(&frame, 0, at), &mut buffer);
-    feed(framing, octets::part(&frame, at, end - least(at, end)), &mut buffer);
+    feed(
+        framing,
+        octets::part(&frame, at, end - least(at, end)),
+        &mut buffer,
+    );
     out::text(b"\n");
 }
 

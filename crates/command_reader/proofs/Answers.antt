@@ -1,0 +1,71 @@
+-- What the code answers for a value is what is kept of it: an action, which may be an alias, and what `decode` answered.
+use Prim.Native.Nat.{ℕ, _+_, _*_, _≤_}
+use mathlib.Core.Path.{_≡_, refl, _∙_, ap}
+use mathlib.Core.Bool.{Bool, true, false}
+use mathlib.Core.List.{List, [], _∷_}
+use native.Mathlib.Omega.{arith}
+use lib.ListN.{length}
+use lib.Dec.{ltb}
+use borrow.Author.Tests.{le-leb}
+use Rattle.octets.specs.Choice.{pick}
+use Rattle.octets.specs.Slices.{equals}
+use Rattle.octets.specs.Outcome.{Outcome}
+use Rattle.octets.specs.Split.{onto, split}
+use Rattle.octets.proofs.Compare.{equals-sound}
+use Rattle.base64.specs.Decode.{verdictOf, bytesOf, decodeOf, decodedBy}
+use Rattle.base64.specs.declared.Verdict.{Verdict}
+use Rattle.base64.specs.declared.Verdict.the-variants as Verdict
+use Rattle.base64.specs.declared.Decoded.{Decoded}
+use Rattle.base64.specs.declared.Decoded.the-variants as Decoded
+use Rattle.command.specs.Keys.{Alias, Kind, finished, placeIn}
+use Rattle.command.specs.Values.{Value, Got, count, aliasRead, wordRead, base64Read, valueRead}
+use Rattle.command.specs.Slots.{placed}
+use Rattle.command.specs.Read.{Reader, keptBy}
+use Rattle.command.specs.declared.Slot.{Slot}
+use Rattle.command.specs.declared.Refusal.the-variants as Refusal
+use Rattle.command_reader.specs.Keeping.{kindOf, keptIn, Keeps, Plain}
+use Rattle.command_reader.specs.declared.values.Kind.the-variants as Kinds
+use Rattle.command_reader.specs.declared.values.Kept.{Kept}
+use Rattle.command_reader.specs.declared.values.Kept.the-variants as Kept
+use Rattle.command_reader.proofs.Room.{bytes-length}
+
+-- the alias is read as its code
+pub alias-read : (v : List ℕ) → equals v (finished .text) ≡ true → valueRead (kindOf Kinds.Action) v ≡ Got.got (Value.number (count 6))
+unfolding valueRead wordRead aliasRead placeIn split onto equals
+alias-read v e = ap (valueRead (kindOf Kinds.Action)) (equals-sound v (finished .text) e)
+
+-- a word that is not the alias is kept as without it
+pub no-alias : (first : ℕ) (ws : List (List ℕ)) (a : Alias) (v : List ℕ) (r : Kept) (at : ℕ) → equals v (a .text) ≡ false
+    → Plain (Kind.word first ws []) at v r → Plain (Kind.word first ws (a ∷ [])) at v r
+unfolding valueRead wordRead aliasRead
+no-alias first ws a v r at e p scratch used n slots =
+    p scratch used n slots ∙ rw e (go (ltb (placeIn ws v) (length ws)))
+  where
+    s : Reader
+    s = record { slots = slots; scratch = scratch; used = used }
+
+    go : (t : Bool) → let g = pick t (Got.got (Value.number (count (first + placeIn ws v)))) (Got.refused 6) in
+        keptBy (Kind.word first ws []) n at s g ≡ keptBy (Kind.word first ws (a ∷ [])) n at s g
+    go true = refl
+    go false = refl
+
+-- what the code makes of an answer of `decode`
+abbrev pub decodedAs : ℕ → Decoded → Kept
+decodedAs used (Decoded.Length n) = Kept.Slot (placed (record { start = used; len = n })) n
+decodedAs used (Decoded.Invalid f) = Kept.Refused Refusal.BadValue
+decodedAs used Decoded.NoRoom = Kept.Refused Refusal.ShortBuffer
+
+-- where there is room, that is what is kept
+pub decoded-kept : (v scratch : List ℕ) (used : ℕ) (o : Outcome Decoded) → 4 * used + 3 * length v ≤ 4 * length scratch → o ≡ decodeOf v scratch used
+    → (at : ℕ) → Keeps Kind.base64 at v scratch used (decodedAs used (o .answer)) (o .buffer)
+unfolding decodeOf valueRead
+decoded-kept v scratch used o h e at n slots =
+    rw e (go (verdictOf v))
+  where
+    s : Reader
+    s = record { slots = slots; scratch = scratch; used = used }
+
+    go : (w : Verdict) → let d = decodedBy w (bytesOf v) scratch used in
+        keptIn n s (d .buffer) (decodedAs used (d .answer)) ≡ keptBy Kind.base64 n at s (base64Read w (bytesOf v))
+    go (Verdict.Valid k) = rw (le-leb (used + length (bytesOf v)) (length scratch) (omega (arith, bytes-length v)))
+    go (Verdict.Invalid f) = refl

@@ -1,0 +1,7 @@
+pub mod Ranges
+pub mod Everys
+pub mod Cuts
+pub mod Room
+pub mod Answers
+pub mod Table
+pub mod Turns

@@ -1,0 +1,89 @@
+use Prim.Native.Nat.{_+_, _-_, _≤_}
+use mathlib.Core.Path.{_≡_, sym, _∙_}
+use native.Mathlib.Omega.{arith}
+use lib.ListN.{length, drop}
+use borrow.Author.Needs.{needs}
+use Rattle.octets.specs.Split.{split}
+use Rattle.command.specs.Keys.{placeIn}
+use Rattle.command_reader.proofs.Cuts.{cut-within, cut-last, cut-more, cut-first, place-here, place-later}
+use Rattle.command_reader.proofs.words.place_in.Statement.{statement}
+use Rattle.command_reader.proofs.words.place_in.Tie as tie
+
+abbrev Inv-loop : tie.InvT-loop
+Inv-loop words word n₀ at₀ n at = (at ≤ length words) × (n ≤ at) × (n + placeIn (split 32 (drop at words)) word ≡ placeIn (split 32 words) word)
+
+abbrev μ-loop : tie.MeasureT-loop
+μ-loop words word n₀ at₀ n at = length words - at
+
+-- the part that a turn looks at ends within the words
+within : (c : tie.After-find Inv-loop μ-loop) → c .find .result ≤ length (c .before .before .before .before .args .words .now)
+within c = cut-within 32 (c .before .before .before .before .args .words .now) (c .before .loop .at) (c .find .result) (c .before .loop .inv .0) (c .find .ensures)
+
+loop-holds : tie.Need-loop-holds Inv-loop μ-loop
+loop-holds c = (omega arith, omega arith, omega arith)
+
+find-requires : tie.Need-find-requires Inv-loop μ-loop
+find-requires c κs = search needs
+
+sub-equal : tie.Need-sub-equal Inv-loop μ-loop
+sub-equal c = omega (arith, within c)
+
+part-equal-start : tie.Need-part-equal-start Inv-loop μ-loop
+part-equal-start c = omega (arith, within c)
+
+part-equal-end : tie.Need-part-equal-end Inv-loop μ-loop
+part-equal-end c = omega (arith, within c)
+
+equal-requires : tie.Need-equal-requires Inv-loop μ-loop
+equal-requires c κs = search needs
+
+returns : tie.Need-returns Inv-loop μ-loop
+returns c =
+    let l = c .before .before .before .before .loop in
+    let g = c .before .before .before .find in
+    let p = cut-first 32 (c .before .before .before .before .before .before .before .args .words .now) (l .at) (g .result) (l .inv .0) (g .ensures) in
+    omega (arith, place-here (c .before .before .before .before .before .before .before .args .word .now) (p .1) (sym (c .before .equal .ensures) ∙ c .if1 .taken))
+
+add-n : tie.Need-add-n Inv-loop μ-loop
+add-n c = omega arith
+
+returns-2 : tie.Need-returns-2 Inv-loop μ-loop
+unfolding placeIn
+returns-2 c =
+    let l = c .before .before .before .before .before .loop in
+    let g = c .before .before .before .before .find in
+    let p = cut-last 32 (c .before .before .before .before .before .before .before .before .args .words .now) (l .at) (g .result) (l .inv .0) (g .ensures) (c .if2 .taken) in
+    omega (arith, place-later (c .before .before .before .before .before .before .before .before .args .word .now) p (sym (c .before .before .equal .ensures) ∙ c .before .if1 .left))
+
+add-at : tie.Need-add-at Inv-loop μ-loop
+add-at c = omega (arith, within (c .before .before .before .before))
+
+loop-less : tie.Need-loop-less Inv-loop μ-loop
+loop-less c = omega (arith, within (c .before .before .before .before))
+
+loop-again : tie.Need-loop-again Inv-loop μ-loop
+loop-again c =
+    let l = c .before .before .before .before .before .loop in
+    let g = c .before .before .before .before .find in
+    let p = cut-more 32 (c .before .before .before .before .before .before .before .before .args .words .now) (l .at) (g .result) (l .inv .0) (g .ensures) (c .if2 .left) in
+    let w = within (c .before .before .before .before) in
+    (omega arith, omega arith, omega (arith, place-later (c .before .before .before .before .before .before .before .before .args .word .now) p (sym (c .before .before .equal .ensures) ∙ c .before .if1 .left)))
+
+pub place-in-spec : {M : Type 1} → statement M
+place-in-spec =
+    tie.close
+    (tie.spec
+    Inv-loop
+    μ-loop
+    loop-holds
+    find-requires
+    sub-equal
+    part-equal-start
+    part-equal-end
+    equal-requires
+    returns
+    add-n
+    returns-2
+    add-at
+    loop-less
+    loop-again)

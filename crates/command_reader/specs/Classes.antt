@@ -1,0 +1,21 @@
+-- The classes of bytes that the code tells apart.
+use Prim.Native.Nat.{ℕ}
+use mathlib.Core.Bool.{Bool, true, false}
+use lib.Dec.{leb, eqb}
+use Rattle.octets.specs.Choice.{pick}
+use Rattle.command.specs.Letters.{textByte, keyByte, safeByte}
+use Rattle.command_reader.specs.declared.letters.Class.{Class}
+use Rattle.command_reader.specs.declared.letters.Class.the-variants as Class
+
+-- the bytes of a class
+abbrev pub byteOf : Class → ℕ → Bool
+byteOf Class.Text = textByte
+byteOf Class.Key = keyByte
+byteOf Class.Safe = safeByte
+
+-- from low to high, from capital to Z, `_`, and from a to z
+unfoldable pub inRanges : ℕ → ℕ → ℕ → ℕ → Bool
+inRanges low high capital c =
+    pick (leb 97 c) (leb c 122)
+    (pick (leb capital c) (pick (leb c 90) true (eqb c 95))
+    (pick (leb low c) (leb c high) false))

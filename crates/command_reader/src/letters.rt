@@ -1,0 +1,66 @@
+// Which bytes may stand where.
+ghost use mathlib.Core.Path.{_≡_};
+ghost use Rattle.octets.specs.Choice.{every};
+ghost use Rattle.command.specs.Letters.{textByte};
+ghost use Rattle.command_reader.specs.Classes.{byteOf, inRanges};
+
+// The bytes of a text, of a key, and of a safe string.
+pub enum Class {
+    Text,
+    Key,
+    Safe,
+}
+
+// Whether each byte of s is of the class.
+pub(crate) fn all(class: Class, s: &[u8]) -> bool
+    ensures { λ r. ⌜ r ≡ every (byteOf class) (now (s .entry)) ⌝ }
+{
+    let mut i = 0;
+    while i < s.len() {
+        if !is(class, s[i]) {
+            return false;
+        }
+        i += 1;
+    }
+    true
+}
+
+// Whether c is of the class. What safe strings have besides keys' bytes stands beside these: `-`, `.`
+// and `/` before 0, `:` after 9, and `@` before A.
+fn is(class: Class, c: u8) -> bool
+    ensures { λ r. ⌜ r ≡ byteOf class c ⌝ }
+{
+    match class {
+        Class::Text => is_text(c),
+        Class::Key => in_ranges(b'0', b'9', b'A', c),
+        Class::Safe => in_ranges(b'-', b':', b'@', c),
+    }
+}
+
+fn is_text(c: u8) -> bool
+    ensures { λ r. ⌜ r ≡ textByte c ⌝ }
+{
+    if c < 0x20 {
+        return false;
+    }
+    c <= 0x7E
+}
+
+// Whether c is from `low` to `high`, from `capital` to Z, `_`, or from a to z.
+fn in_ranges(low: u8, high: u8, capital: u8, c: u8) -> bool
+    ensures { λ r. ⌜ r ≡ inRanges low high capital c ⌝ }
+{
+    if c >= b'a' {
+        return c <= b'z';
+    }
+    if c >= capital {
+        if c <= b'Z' {
+            return true;
+        }
+        return c == b'_';
+    }
+    if c >= low {
+        return c <= high;
+    }
+    false
+}

@@ -1,0 +1,36 @@
+// Reads a command text: its fields left to right, each by its key's kind.
+//
+// The text is not copied: strings are places in it, and Base64 values are decoded into the lent
+// scratch, one after another. Not here: frames, sessions, and what a command does.
+mod fields;
+mod letters;
+mod slots;
+mod values;
+mod words;
+
+ghost use mathlib.Core.Path.{_≡_};
+ghost use Rattle.octets.specs.Outcome.{outcome};
+ghost use Rattle.command.specs.Read.{answered, readOf};
+use crate::letters::Class;
+use command::Reading;
+use command::Refusal;
+
+// The command of a text, or why it has none. 9 comes first, and leaves the scratch as before; after
+// another refusal the scratch holds the values accepted before the refused field.
+pub fn read(text: &[u8], scratch: &mut [u8]) -> Reading
+    ensures { λ r. ⌜ outcome (answered r) (now (scratch .exit)) ≡ readOf (now (text .entry)) (now (scratch .entry)) ⌝ }
+{
+    if scratch.len() < 6144 {
+        return Reading::Refused(Refusal::ShortBuffer);
+    }
+    if text.len() > 8192 {
+        return Reading::Refused(Refusal::TextTooLong);
+    }
+    if !letters::all(Class::Text, text) {
+        return Reading::Refused(Refusal::BadByte);
+    }
+    if !octets::starts_with(text, b"5113;") {
+        return Reading::Refused(Refusal::BadField);
+    }
+    fields::read_fields(text, scratch)
+}

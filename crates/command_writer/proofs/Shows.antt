@@ -1,0 +1,83 @@
+-- A field put, by what becomes of its value.
+use Prim.Native.Nat.{ℕ, zero, suc, _+_, _<_}
+use mathlib.Core.Path.{_≡_, refl}
+use mathlib.Core.Bool.{Bool, true, false}
+use mathlib.Core.List.{List, [], _∷_, _++_}
+use native.Mathlib.Omega.{arith}
+use lib.ListN.{length, getD, take, drop, length-take, length-drop}
+use native.Mathlib.Nat.{add-comm}
+use lib.Seq.{append-snoc, getD-drop}
+use lib.Dec.{leb}
+use borrow.Author.Tests.{lt-ltb, ne-eqb, leb-true}
+use Rattle.octets.specs.Choice.{pick, every}
+use Rattle.base64.specs.Encode as Base64
+use Rattle.base64.proofs.Lengths.{length-text}
+use Rattle.decimal.specs.Write.{textOf, writable}
+use Rattle.decimal.specs.declared.Number.{Number}
+use Rattle.command.specs.Keys.{Kind}
+use Rattle.command.specs.Letters.{isByte}
+use Rattle.command.specs.Values.{Value, Shown, textOr, integerShown, base64Shown, shown}
+use Rattle.command.specs.Slots.{bytesAt}
+use Rattle.command.specs.Write.{Checked}
+use Rattle.command.specs.declared.Place.{Place}
+use Rattle.command.specs.declared.Written.{Written}
+use Rattle.command_writer.specs.Stores.{Put, PutOr}
+use Rattle.command_writer.specs.Pieces.{FieldPut}
+use Rattle.command_writer.proofs.Puts.{put-then}
+
+-- `;key=`, and then the value
+pub field-put : (name v : List ℕ) {l m n : List ℕ} {o p q : ℕ} → Put (59 ∷ name ++ 61 ∷ []) l o p m → Put v m p q n
+    → Put (59 ∷ name ++ 61 ∷ v) l o q n
+field-put name v f g = rw (append-snoc name 61 v) at (put-then f g)
+
+-- the same of a value that may be refused
+pub field-or : (name v : List ℕ) {l m : List ℕ} {o p : ℕ} (n : List ℕ) (r : Written) (w : Bool) → Put (59 ∷ name ++ 61 ∷ []) l o p m
+    → PutOr (pick w Checked.fine (Checked.fault 6)) v m p r n → FieldPut name (pick w (Shown.text v) (Shown.refused 6)) l o r n
+field-or name v n r true f (end, e, g) = (end, e, field-put name v f g)
+field-or name v n r false f e = e
+
+-- ---- strings
+pub text-none : (s : List ℕ) → length s ≡ 0 → textOr s ≡ Shown.leftOut
+text-none [] h = refl
+text-none (x ∷ s) h = absurd (omega arith)
+
+pub text-some : (s : List ℕ) → (length s ≡ 0 → ⊥) → textOr s ≡ Shown.text s
+text-some [] h = absurd (h refl)
+text-some (x ∷ s) h = refl
+
+module _ (l : List ℕ) (p : Place) where
+  pub place-in : leb (p .start + p .len) (length l) ≡ true → bytesAt l p ≡ Value.bytes (take (p .len) (drop (p .start) l))
+  unfolding bytesAt
+  place-in h = rw h
+
+  pub place-out : leb (p .start + p .len) (length l) ≡ false → bytesAt l p ≡ Value.outside
+  unfolding bytesAt
+  place-out h = rw h
+
+-- what stands in a part of a slice are bytes
+pub all-bytes : (l : List ℕ) (m n : ℕ) → ((i : ℕ) → getD l i 0 < 256) → every isByte (take n (drop m l)) ≡ true
+unfolding every
+all-bytes [] zero zero h = refl
+all-bytes [] zero (suc n) h = refl
+all-bytes [] (suc m) zero h = refl
+all-bytes [] (suc m) (suc n) h = refl
+all-bytes (x ∷ l) zero zero h = refl
+all-bytes (x ∷ l) zero (suc n) h = rw (lt-ltb x 256 (h 0)) (all-bytes l zero n (λ i. h (suc i)))
+all-bytes (x ∷ l) (suc m) n h = all-bytes l m n (λ i. h (suc i))
+
+pub base64-some : (l : List ℕ) (p : Place) → ((i : ℕ) → getD l i 0 < 256) → leb (p .start + p .len) (length l) ≡ true → (p .len ≡ 0 → ⊥)
+    → shown Kind.base64 (bytesAt l p) ≡ Shown.text (Base64.textOf (take (p .len) (drop (p .start) l)))
+unfolding shown base64Shown
+base64-some l p b h n =
+    let t = take (p .len) (drop (p .start) l) in
+    rw (place-in l p h, all-bytes l (p .start) (p .len) b)
+    (text-some (Base64.textOf t) (λ e. n (omega (arith, length-text t, leb-true (p .start + p .len) (length l) h, length-take (p .len) (drop (p .start) l), length-drop (p .start) l))))
+
+-- ---- an integer that is not 0
+pub integer-some : (n : Number) → 0 < n .magnitude → integerShown n ≡ pick (writable n) (Shown.text (textOf n)) (Shown.refused 6)
+unfolding integerShown
+integer-some n h = rw (ne-eqb (n .magnitude) 0 (λ e. omega arith))
+
+-- ---- the words of a row stand after its key
+pub word-at : (parts : List (List ℕ)) (i : ℕ) → getD (drop 1 parts) i [] ≡ getD parts (i + 1) []
+word-at parts i = rw (getD-drop 1 parts i [], add-comm 1 i)

@@ -1,0 +1,118 @@
+use Prim.Native.Nat.{ℕ, _-_, _≤_}
+use mathlib.Core.Path.{_≡_, refl, sym, _∙_}
+use mathlib.Core.List.{List}
+use native.Mathlib.Omega.{arith}
+use lib.ListN.{length}
+use borrow.Author.Needs.{needs}
+use Rattle.command.specs.Write.{checkedOf}
+use Rattle.command_writer.specs.Pieces.{pieces}
+use Rattle.command_writer.specs.Stores.{Put}
+use Rattle.command_writer.proofs.Puts.{put-none, put-then}
+use Rattle.command_writer.proofs.Turns.{checkedFrom, piecesFrom, turn-on, turn-off, slots-length, values-all}
+use Rattle.command_writer.proofs.fields.put_fields.Statement.{statement}
+use Rattle.command_writer.proofs.fields.put_fields.Tie as tie
+
+-- whatever puts the pieces that are left has then put all of them, and no field before them is at fault
+abbrev Inv-loop : tie.InvT-loop
+Inv-loop text scratch out₀ slots at₀ k₀ out at k =
+    (k ≤ 15)
+    × (length out ≡ length out₀)
+    × (checkedFrom slots text scratch k ≡ checkedFrom slots text scratch 0)
+    × ((end : ℕ) (after : List ℕ) → Put (piecesFrom slots text scratch k) out at end after → Put (piecesFrom slots text scratch 0) out₀ at₀ end after)
+
+abbrev μ-loop : tie.MeasureT-loop
+μ-loop text scratch out₀ slots at₀ k₀ out at k = 15 - k
+
+slots-requires : tie.Need-slots-requires Inv-loop μ-loop
+slots-requires c κs = search needs
+
+slice-aggregate-put : tie.Need-slice-aggregate-put Inv-loop μ-loop
+slice-aggregate-put c = search needs
+
+put-requires : tie.Need-put-requires Inv-loop μ-loop
+put-requires c κs = search needs
+
+loop-holds : tie.Need-loop-holds Inv-loop μ-loop
+loop-holds c = (omega arith, refl, refl, λ end after p. p)
+
+mul-put-field : tie.Need-mul-put-field Inv-loop μ-loop
+mul-put-field c = search needs
+
+array-copy-out-put-field : tie.Need-array-copy-out-put-field Inv-loop μ-loop
+array-copy-out-put-field c = search needs
+
+put-field-requires : tie.Need-put-field-requires Inv-loop μ-loop
+put-field-requires c κs = search needs
+
+enum-known-end : tie.Need-enum-known-end Inv-loop μ-loop
+enum-known-end c = search needs
+
+enum-known-refusal : tie.Need-enum-known-refusal Inv-loop μ-loop
+enum-known-refusal c = search needs
+
+same-length : tie.Need-same-length Inv-loop μ-loop
+same-length c = search needs
+
+returns : tie.Need-returns Inv-loop μ-loop
+returns c =
+    let s = c .before .before .before .before .before .before .before .before .before .before .before .before .before .before .before .slots in
+    let f = c .before .before .before .before .before .put-field in
+    let e = c .before .refusal in
+    let a = c .before .before .before .before .before .before .before .before .before .before .before .before .before .before .before .before .before .before .before .args in
+    let l = c .before .before .before .before .before .before .before .before .before .loop in
+    let n = slots-length (a .command) (s .result) (s .ensures) in
+    let t = turn-off (s .result) (a .text .now) (a .scratch .now) (l .k) (omega arith) (omega arith) (l .out) (f .last .1 .1 .1 .1 .0) (l .at) (e .given .0 .0) (rw (e .given .1) at (f .ensures)) in
+    rw (values-all (a .command) (s .result) (s .ensures) (a .text .now) (a .scratch .now), sym (l .inv .2) ∙ t)
+
+add-k : tie.Need-add-k Inv-loop μ-loop
+add-k c = omega arith
+
+loop-less : tie.Need-loop-less Inv-loop μ-loop
+loop-less c = omega arith
+
+loop-again : tie.Need-loop-again Inv-loop μ-loop
+loop-again c =
+    let s = c .before .before .before .before .before .before .before .before .before .before .before .before .before .before .before .slots in
+    let f = c .before .before .before .before .before .put-field in
+    let a = c .before .before .before .before .before .before .before .before .before .before .before .before .before .before .before .before .before .before .before .args in
+    let e = c .before .end in
+    let l = c .before .before .before .before .before .before .before .before .before .loop in
+    let n = slots-length (a .command) (s .result) (s .ensures) in
+    let t = turn-on (s .result) (a .text .now) (a .scratch .now) (l .k) (omega arith) (omega arith) (l .out) (f .last .1 .1 .1 .1 .0) (l .at) (e .given .0 .0) (rw (e .given .1) at (f .ensures)) in
+    (omega arith, omega arith, sym (t .0) ∙ l .inv .2, λ end after p. l .inv .3 end after (t .1 end after p))
+
+same-length-2 : tie.Need-same-length-2 Inv-loop μ-loop
+same-length-2 c = search needs
+
+returns-2 : tie.Need-returns-2 Inv-loop μ-loop
+unfolding checkedOf pieces
+returns-2 c =
+    let s = c .before .before .before .before .before .before .before .slots in
+    let a = c .before .before .before .before .before .before .before .before .before .before .before .args in
+    let l = c .before .loop in
+    let e : l .k ≡ 15 = omega arith in
+    let i = rw e at (l .inv) in
+    rw (values-all (a .command) (s .result) (s .ensures) (a .text .now) (a .scratch .now), sym (i .2)) (l .at, refl, put-then (c .before .before .before .before .put .ensures) (i .3 (l .at) (l .out) (put-none (l .out) (l .at))))
+
+pub put-fields-spec : {M : Type 1} → statement M
+put-fields-spec =
+    tie.close
+    (tie.spec
+    Inv-loop
+    μ-loop
+    slots-requires
+    slice-aggregate-put
+    put-requires
+    loop-holds
+    mul-put-field
+    array-copy-out-put-field
+    put-field-requires
+    enum-known-end
+    enum-known-refusal
+    same-length
+    returns
+    add-k
+    loop-less
+    loop-again
+    same-length-2
+    returns-2)

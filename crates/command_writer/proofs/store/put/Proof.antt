@@ -1,0 +1,23 @@
+use Rattle.octets.specs.Slices.{copyAt}
+use Rattle.command_writer.proofs.Puts.{put-stored}
+use borrow.Author.Needs.{needs}
+use Rattle.command_writer.proofs.store.put.Statement.{statement}
+use Rattle.command_writer.proofs.store.put.Tie as tie
+
+copy-at-requires : tie.Need-copy-at-requires
+copy-at-requires c κs = search needs
+
+end-of-requires : tie.Need-end-of-requires
+end-of-requires c κs = search needs
+
+same-length : tie.Need-same-length
+same-length c = search needs
+
+returns : tie.Need-returns
+unfolding copyAt
+returns c =
+    let a = c .before .before .before .before .before .before .before .args in
+    put-stored _ _ (a .s .now) (a .out .now) (a .at) (c .end-of .result) (c .before .before .before .copy-at .ensures) (c .end-of .ensures)
+
+pub put-spec : {M : Type 1} → statement M
+put-spec = tie.close (tie.spec copy-at-requires end-of-requires same-length returns)

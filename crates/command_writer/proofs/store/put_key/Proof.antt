@@ -1,0 +1,41 @@
+use Rattle.command_writer.proofs.Puts.{put-then}
+use borrow.Author.Needs.{needs}
+use Rattle.command_writer.proofs.store.put_key.Statement.{statement}
+use Rattle.command_writer.proofs.store.put_key.Tie as tie
+
+slice-aggregate-put : tie.Need-slice-aggregate-put
+slice-aggregate-put c = search needs
+
+put-requires : tie.Need-put-requires
+put-requires c κs = search needs
+
+part-requires : tie.Need-part-requires
+part-requires c κs = search needs
+
+put-requires-2 : tie.Need-put-requires-2
+put-requires-2 c κs = search needs
+
+slice-aggregate-put-2 : tie.Need-slice-aggregate-put-2
+slice-aggregate-put-2 c = search needs
+
+put-requires-3 : tie.Need-put-requires-3
+put-requires-3 c κs = search needs
+
+same-length : tie.Need-same-length
+same-length c = search needs
+
+returns : tie.Need-returns
+returns c = rw (← c .before .before .before .before .before .before .before .before .before .part .ensures) (put-then (c .before .before .before .before .before .before .before .before .before .before .before .before .put .ensures) (put-then (c .before .before .before .before .before .before .before .put2 .ensures) (c .before .before .put3 .ensures)))
+
+pub put-key-spec : {M : Type 1} → statement M
+put-key-spec =
+    tie.close
+    (tie.spec
+    slice-aggregate-put
+    put-requires
+    part-requires
+    put-requires-2
+    slice-aggregate-put-2
+    put-requires-3
+    same-length
+    returns)

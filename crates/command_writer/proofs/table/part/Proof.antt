@@ -1,0 +1,78 @@
+use Prim.Native.Nat.{_≤_}
+use mathlib.Core.Path.{_≡_, refl, sym, _∙_}
+use mathlib.Core.List.{[]}
+use native.Mathlib.Omega.{arith}
+use lib.ListN.{length, getD, drop}
+use borrow.Author.Needs.{needs}
+use Rattle.octets.specs.Split.{split}
+use Rattle.command_writer.proofs.Parts.{part-end, part-first, part-none, part-after}
+use Rattle.command_writer.proofs.table.part.Statement.{statement}
+use Rattle.command_writer.proofs.table.part.Tie as tie
+
+abbrev Inv-loop : tie.InvT-loop
+Inv-loop s b i from₀ left₀ from left = (from ≤ length s) × (getD (split b (drop from s)) left [] ≡ getD (split b s) i [])
+
+abbrev μ-loop : tie.MeasureT-loop
+μ-loop s b i from₀ left₀ from left = left
+
+loop-holds : tie.Need-loop-holds Inv-loop μ-loop
+loop-holds c = (omega arith, refl)
+
+find-requires : tie.Need-find-requires Inv-loop μ-loop
+find-requires c κs = search needs
+
+sub-result : tie.Need-sub-result Inv-loop μ-loop
+sub-result c = omega arith
+
+part-result-start : tie.Need-part-result-start Inv-loop μ-loop
+part-result-start c = omega arith
+
+part-result-end : tie.Need-part-result-end Inv-loop μ-loop
+part-result-end c = part-end (c .before .before .before .before .args .b) (c .before .before .before .before .args .s .now) (c .before .before .loop .from) (c .before .find .result) (c .before .find .ensures) (c .before .before .loop .inv .0)
+
+returns : tie.Need-returns Inv-loop μ-loop
+returns c = sym (part-first (c .before .before .before .before .before .args .b) (c .before .before .before .before .before .args .s .now) (c .before .before .before .loop .from) (c .before .before .find .result) (c .before .before .find .ensures)) ∙ rw (c .before .if1 .taken) at (c .before .before .before .loop .inv .1)
+
+slice-aggregate-result : tie.Need-slice-aggregate-result Inv-loop μ-loop
+slice-aggregate-result c = search needs
+
+returns-2 : tie.Need-returns-2 Inv-loop μ-loop
+returns-2 c =
+    let l = c .before .before .before .before .loop in
+    sym (part-none (c .before .before .before .before .before .before .args .b) (c .before .before .before .before .before .before .args .s .now) (l .from) (c .before .before .before .find .result) (c .before .before .before .find .ensures) (l .left) (omega arith) (l .inv .0) (c .before .if2 .taken)) ∙ l .inv .1
+
+add-from : tie.Need-add-from Inv-loop μ-loop
+add-from c = omega (arith, part-end (c .before .before .before .before .before .args .b) (c .before .before .before .before .before .args .s .now) (c .before .before .before .loop .from) (c .before .before .find .result) (c .before .before .find .ensures) (c .before .before .before .loop .inv .0))
+
+sub-left : tie.Need-sub-left Inv-loop μ-loop
+sub-left c = omega arith
+
+loop-less : tie.Need-loop-less Inv-loop μ-loop
+loop-less c = omega arith
+
+loop-again : tie.Need-loop-again Inv-loop μ-loop
+loop-again c =
+    let a = c .before .before .before .before .before .args in
+    let l = c .before .before .before .loop in (
+      omega (arith, part-end (a .b) (a .s .now) (l .from) (c .before .before .find .result) (c .before .before .find .ensures) (l .inv .0)),
+      part-after (a .b) (a .s .now) (l .from) (c .before .before .find .result) (c .before .before .find .ensures) (l .left) (omega arith) (l .inv .0) (c .if2 .left) ∙ l .inv .1,
+    )
+
+pub part-spec : {M : Type 1} → statement M
+part-spec =
+    tie.close
+    (tie.spec
+    Inv-loop
+    μ-loop
+    loop-holds
+    find-requires
+    sub-result
+    part-result-start
+    part-result-end
+    returns
+    slice-aggregate-result
+    returns-2
+    add-from
+    sub-left
+    loop-less
+    loop-again)

@@ -1,0 +1,64 @@
+use Prim.Native.Nat.{_+_}
+use mathlib.Core.Path.{_≡_, refl, sym, _∙_}
+use mathlib.Core.Bool.{true}
+use native.Mathlib.Omega.{arith}
+use lib.ListN.{length}
+use lib.Dec.{leb}
+use borrow.Author.Tests.{leb-true, not-true, not-false}
+use Rattle.octets.specs.Choice.{every}
+use Rattle.base64.specs.Encode.{textOf}
+use Rattle.command.specs.Values.{base64Shown, shown}
+use Rattle.command_writer.specs.Table.{nameIn}
+use Rattle.command_writer.proofs.Puts.{put-none}
+use Rattle.command_writer.proofs.Shows.{place-in, place-out, base64-some, field-put}
+use borrow.Author.Needs.{needs}
+use Rattle.command_writer.proofs.values.base64.Statement.{statement}
+use Rattle.command_writer.proofs.values.base64.Tie as tie
+
+-- past the first test the place lies within
+inside : (c : tie.Else1) → let a = c .before .before .before .before .before .args in leb (a .place .start + a .place .len) (length (a .scratch .now)) ≡ true
+inside c = sym (c .before .fits2 .ensures) ∙ not-false (c .before .fits2 .result) (c .if1 .left)
+
+fits-requires : tie.Need-fits-requires
+fits-requires c κs = search needs
+
+returns : tie.Need-returns
+unfolding shown
+returns c = let a = c .before .before .before .before .before .args in rw (place-out (a .scratch .now) (a .place) (sym (c .before .fits2 .ensures) ∙ not-true (c .before .fits2 .result) (c .if1 .taken)))
+
+returns-2 : tie.Need-returns-2
+unfolding shown base64Shown every textOf
+returns-2 c =
+    let a = c .before .before .before .before .before .before .before .args in
+    rw (place-in (a .scratch .now) (a .place) (inside (c .before .before)), c .if2 .taken) (a .at, refl, put-none (a .out .now) (a .at))
+
+put-key-requires : tie.Need-put-key-requires
+put-key-requires c κs = search needs
+
+bytes-at-requires : tie.Need-bytes-at-requires
+bytes-at-requires c κs = leb-true _ _ (inside (c .before .before .before .before .before .before))
+
+put-base64-requires : tie.Need-put-base64-requires
+put-base64-requires c κs = search needs
+
+same-length : tie.Need-same-length
+same-length c = search needs
+
+returns-3 : tie.Need-returns-3
+returns-3 c =
+    let a = c .before .before .before .before .before .before .before .before .before .before .before .before .before .before .before .before .args in
+    rw (base64-some (a .scratch .now) (a .place) (λ i. omega (arith, c .before .before .before .before .before .before .before .before .before .before .before .before .before .before .shared-slice-known2 .given i)) (inside (c .before .before .before .before .before .before .before .before .before .before .before)) (c .before .before .before .before .before .before .before .before .before .if2 .left), ← c .before .before .before .before .bytes-at .ensures)
+    (c .before .before .put-base64 .result, refl, field-put (nameIn (a .row .now)) (textOf (c .before .before .before .before .bytes-at .result .now)) (c .before .before .before .before .before .before .before .put-key .ensures) (c .before .before .put-base64 .ensures))
+
+pub base64-spec : {M : Type 1} → statement M
+base64-spec =
+    tie.close
+    (tie.spec
+    fits-requires
+    returns
+    returns-2
+    put-key-requires
+    bytes-at-requires
+    put-base64-requires
+    same-length
+    returns-3)

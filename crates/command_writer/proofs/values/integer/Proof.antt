@@ -1,0 +1,40 @@
+use mathlib.Core.Path.{_≡_, refl}
+use native.Mathlib.Omega.{arith}
+use Rattle.decimal.specs.Write.{textOf}
+use Rattle.decimal.specs.Write.{writable}
+use Rattle.command.specs.Values.{integerShown}
+use Rattle.command_writer.specs.Table.{nameIn}
+use Rattle.command_writer.proofs.Puts.{put-none}
+use Rattle.command_writer.proofs.Shows.{integer-some, field-or}
+use borrow.Author.Needs.{needs}
+use Rattle.command_writer.proofs.values.integer.Statement.{statement}
+use Rattle.command_writer.proofs.values.integer.Tie as tie
+
+put-key-requires : tie.Need-put-key-requires
+put-key-requires c κs = search needs
+
+put-number-requires : tie.Need-put-number-requires
+put-number-requires c κs = search needs
+
+same-length : tie.Need-same-length
+same-length c = search needs
+
+returns : tie.Need-returns
+returns c =
+    let a = c .before .before .before .before .before .before .before .before .before .before .before .before .args in
+    rw (integer-some (a .n) (omega arith)) (field-or (nameIn (a .row .now)) (textOf (a .n)) _ _ (writable (a .n)) (c .before .before .before .before .before .before .put-key .ensures) (c .before .before .put-number .ensures))
+
+returns-2 : tie.Need-returns-2
+unfolding integerShown writable
+returns-2 c = let z : c .before .before .before .before .before .args .n .magnitude ≡ 0 = omega arith in rw (c .if2 .taken, z)
+
+returns-3 : tie.Need-returns-3
+unfolding integerShown writable
+returns-3 c =
+    let a = c .before .before .before .before .before .args in
+    let z : a .n .magnitude ≡ 0 = omega arith in rw (c .if2 .left, z) (a .at, refl, put-none (a .out .now) (a .at))
+
+pub integer-spec : {M : Type 1} → statement M
+integer-spec =
+    tie.close
+    (tie.spec put-key-requires put-number-requires same-length returns returns-2 returns-3)

@@ -1,0 +1,91 @@
+use Prim.Native.Nat.{_+_}
+use mathlib.Core.Path.{_≡_, refl, sym, _∙_}
+use mathlib.Core.Bool.{true}
+use lib.ListN.{length}
+use lib.Dec.{leb}
+use borrow.Author.Tests.{leb-true, not-true, not-false}
+use Rattle.octets.specs.Choice.{pick}
+use Rattle.command.specs.Keys.{Kind}
+use Rattle.command.specs.Values.{Shown, over, textOr, safeShown, shown}
+use Rattle.command.specs.Slots.{bytesAt}
+use Rattle.command_writer.specs.Table.{nameIn}
+use Rattle.command_writer.proofs.Puts.{put-none}
+use Rattle.command_writer.proofs.Shows.{place-in, place-out, text-none, text-some, field-put}
+use borrow.Author.Needs.{needs}
+use Rattle.command_writer.proofs.values.safe.Statement.{statement}
+use Rattle.command_writer.proofs.values.safe.Tie as tie
+
+-- past the first test the place lies within
+inside : (c : tie.Else1) → let a = c .before .before .before .before .before .args in leb (a .place .start + a .place .len) (length (a .text .now)) ≡ true
+inside c = sym (c .before .fits2 .ensures) ∙ not-false (c .before .fits2 .result) (c .if1 .left)
+
+-- past the second its bytes are safe
+shown-here : (c : tie.Else2) → let a = c .before .before .before .before .before .before .before .before .args in let s = c .before .before .bytes-at .result .now in
+    shown (Kind.safe (a .short)) (bytesAt (a .text .now) (a .place)) ≡ pick (over (a .short) s) (Shown.refused 8) (textOr s)
+unfolding shown safeShown
+shown-here c =
+    let a = c .before .before .before .before .before .before .before .before .args in
+    rw (place-in (a .text .now) (a .place) (inside (c .before .before .before)), ← c .before .before .bytes-at .ensures, ← c .before .is-safe .ensures, not-false (c .before .is-safe .result) (c .if2 .left))
+
+fits-requires : tie.Need-fits-requires
+fits-requires c κs = search needs
+
+returns : tie.Need-returns
+unfolding shown
+returns c = let a = c .before .before .before .before .before .args in rw (place-out (a .text .now) (a .place) (sym (c .before .fits2 .ensures) ∙ not-true (c .before .fits2 .result) (c .if1 .taken)))
+
+bytes-at-requires : tie.Need-bytes-at-requires
+bytes-at-requires c κs = leb-true _ _ (inside c)
+
+is-safe-requires : tie.Need-is-safe-requires
+is-safe-requires c κs = search needs
+
+returns-2 : tie.Need-returns-2
+unfolding shown safeShown
+returns-2 c =
+    let a = c .before .before .before .before .before .before .before .before .args in
+    rw (place-in (a .text .now) (a .place) (inside (c .before .before .before)), ← c .before .before .bytes-at .ensures, ← c .before .is-safe .ensures, not-true (c .before .is-safe .result) (c .if2 .taken))
+
+over-requires : tie.Need-over-requires
+over-requires c κs = search needs
+
+returns-3 : tie.Need-returns-3
+returns-3 c = rw (shown-here (c .before .before), ← c .before .over .ensures, c .if3 .taken)
+
+returns-4 : tie.Need-returns-4
+returns-4 c =
+    let a = c .before .before .before .before .before .before .before .before .before .before .before .args in
+    rw (shown-here (c .before .before .before), ← c .before .before .over .ensures, c .before .if3 .left, text-none (c .before .before .before .before .before .bytes-at .result .now) (c .if4 .taken)) (a .at, refl, put-none (a .out .now) (a .at))
+
+put-key-requires : tie.Need-put-key-requires
+put-key-requires c κs = search needs
+
+put-requires : tie.Need-put-requires
+put-requires c κs = search needs
+
+same-length : tie.Need-same-length
+same-length c = search needs
+
+returns-5 : tie.Need-returns-5
+returns-5 c =
+    let a = c .before .before .before .before .before .before .before .before .before .before .before .before .before .before .before .before .before .before .before .args in
+    let s = c .before .before .before .before .before .before .before .before .before .before .before .before .before .bytes-at .result .now in
+    rw (shown-here (c .before .before .before .before .before .before .before .before .before .before .before), ← c .before .before .before .before .before .before .before .before .before .before .over .ensures, c .before .before .before .before .before .before .before .before .before .if3 .left, text-some s (c .before .before .before .before .before .before .before .before .if4 .left))
+    (c .before .before .put .result, refl, field-put (nameIn (a .row .now)) s (c .before .before .before .before .before .before .put-key .ensures) (c .before .before .put .ensures))
+
+pub safe-spec : {M : Type 1} → statement M
+safe-spec =
+    tie.close
+    (tie.spec
+    fits-requires
+    returns
+    bytes-at-requires
+    is-safe-requires
+    returns-2
+    over-requires
+    returns-3
+    returns-4
+    put-key-requires
+    put-requires
+    same-length
+    returns-5)

@@ -1,0 +1,64 @@
+use Prim.Native.Nat.{_-_}
+use mathlib.Core.Path.{refl}
+use borrow.Author.Tests.{eq-eqb, ne-eqb, le-ltb, lt-ltb}
+use Rattle.octets.specs.Split.{split}
+use Rattle.command.specs.Values.{wordShown}
+use Rattle.command_writer.specs.Table.{nameIn}
+use Rattle.command_writer.proofs.Puts.{put-none}
+use Rattle.command_writer.proofs.Shows.{word-at, field-put}
+use borrow.Author.Needs.{needs}
+use Rattle.command_writer.proofs.values.word.Statement.{statement}
+use Rattle.command_writer.proofs.values.word.Tie as tie
+
+returns : tie.Need-returns
+unfolding wordShown
+returns c = rw (c .if1 .taken)
+
+returns-2 : tie.Need-returns-2
+unfolding wordShown
+returns-2 c =
+    let a = c .before .before .before .before .before .args in
+    rw (c .before .before .if1 .left, eq-eqb _ _ (c .if2 .taken)) (a .at, refl, put-none (a .out .now) (a .at))
+
+sub-i : tie.Need-sub-i
+sub-i c = search needs
+
+returns-3 : tie.Need-returns-3
+unfolding wordShown
+returns-3 c = rw (c .before .before .before .before .if1 .left, ne-eqb _ _ (c .before .before .if2 .left), c .before .before .before .before .before .before .before .pre .1, le-ltb _ _ (c .if3 .taken))
+
+put-key-requires : tie.Need-put-key-requires
+put-key-requires c κs = search needs
+
+add-part : tie.Need-add-part
+add-part c = search needs
+
+part-requires : tie.Need-part-requires
+part-requires c κs = search needs
+
+put-requires : tie.Need-put-requires
+put-requires c κs = search needs
+
+same-length : tie.Need-same-length
+same-length c = search needs
+
+returns-4 : tie.Need-returns-4
+unfolding wordShown
+returns-4 c =
+    let a = c .before .before .before .before .before .before .before .before .before .before .before .before .before .before .before .before .args in
+    rw (c .before .before .before .before .before .before .before .before .before .before .before .before .before .if1 .left, ne-eqb _ _ (c .before .before .before .before .before .before .before .before .before .before .before .if2 .left), c .before .before .before .before .before .before .before .before .before .before .before .before .before .before .before .before .pre .1, lt-ltb _ _ (c .before .before .before .before .before .before .before .before .before .if3 .left), word-at (split 32 (a .row .now)) (a .n .magnitude - a .first), ← c .before .before .before .before .part .ensures) (c .before .before .put .result, refl, field-put (nameIn (a .row .now)) (c .before .before .before .before .part .result .now) (c .before .before .before .before .before .before .before .put-key .ensures) (c .before .before .put .ensures))
+
+pub word-spec : {M : Type 1} → statement M
+word-spec =
+    tie.close
+    (tie.spec
+    returns
+    returns-2
+    sub-i
+    returns-3
+    put-key-requires
+    add-part
+    part-requires
+    put-requires
+    same-length
+    returns-4)

@@ -1,0 +1,50 @@
+use native.Mathlib.Omega.{arith}
+use Rattle.command.specs.Keys.{keys}
+use Rattle.command.specs.Slots.{valuesOf}
+use Rattle.command.specs.Write.{checkedOf}
+use Rattle.command_writer.proofs.Checks.{put-fine, put-fault}
+use Rattle.command_writer.proofs.Ways.{refused-fault}
+use borrow.Author.Needs.{needs}
+use Rattle.command_writer.proofs.write.Statement.{statement}
+use Rattle.command_writer.proofs.write.Tie as tie
+
+slice-aggregate-put-fields : tie.Need-slice-aggregate-put-fields
+slice-aggregate-put-fields c = search needs
+
+put-fields-requires : tie.Need-put-fields-requires
+put-fields-requires c κs = search needs
+
+enum-known-n : tie.Need-enum-known-n
+enum-known-n c = search needs
+
+write-measured-requires : tie.Need-write-measured-requires
+write-measured-requires c κs = let a = c .before .before .before .before .before .before .before .before .before .before .args in
+    let f = put-fine (checkedOf keys (valuesOf (a .command) (a .text .now) (a .scratch .now))) _ _ _ 0 (c .before .before .n .given .0 .0) (rw (c .before .before .n .given .1) at (c .before .before .before .before .before .put-fields .ensures)) in
+    (f .0, omega (arith, f .1 .ends))
+
+enum-known-refusal : tie.Need-enum-known-refusal
+enum-known-refusal c = search needs
+
+same-length : tie.Need-same-length
+same-length c = search needs
+
+returns : tie.Need-returns
+returns c = c .before .before .write-measured .ensures
+
+returns-2 : tie.Need-returns-2
+returns-2 c = let a = c .before .before .before .before .before .before .before .before .before .args in
+    refused-fault (a .command) (a .text .now) (a .scratch .now) (a .out .now) _
+    (put-fault (checkedOf keys (valuesOf (a .command) (a .text .now) (a .scratch .now))) _ _ _ 0 (c .before .refusal .given .0 .0) (rw (c .before .refusal .given .1) at (c .before .before .before .before .put-fields .ensures)))
+
+pub write-spec : {M : Type 1} → statement M
+write-spec =
+    tie.close
+    (tie.spec
+    slice-aggregate-put-fields
+    put-fields-requires
+    enum-known-n
+    write-measured-requires
+    enum-known-refusal
+    same-length
+    returns
+    returns-2)

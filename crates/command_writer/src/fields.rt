@@ -1,0 +1,70 @@
+// The fields of a command, in writing order.
+ghost use Prim.Native.Nat.{_<_};
+ghost use Rattle.command.specs.Keys.{keys, kindAt};
+ghost use Rattle.command.specs.Values.{shown};
+ghost use Rattle.command.specs.Slots.{valueAt, valuesOf};
+ghost use Rattle.command.specs.Write.{checkedOf};
+ghost use Rattle.command_writer.specs.Pieces.{whole, FieldPut};
+ghost use Rattle.command_writer.specs.Stores.{PutOr};
+ghost use Rattle.command_writer.specs.Table.{keyAt};
+use crate::slots::slots;
+use crate::store::put;
+use crate::table::COUNT;
+use crate::table::Kind;
+use crate::table::ROWS;
+use crate::table::kind_at;
+use crate::table::part;
+use crate::values::base64;
+use crate::values::integer;
+use crate::values::safe;
+use crate::values::word;
+use command::Command;
+use command::Slot;
+use command::Written;
+
+// Puts `5113` and then the fields of a command, up to the first that is refused.
+pub(crate) fn put_fields<'a>(
+    command: Command,
+    text: &'a [u8],
+    scratch: &'a [u8],
+    out: &mut [u8],
+) -> Written
+    ensures { λ r. ⌜ PutOr (checkedOf keys (valuesOf command (now (text .entry)) (now (scratch .entry)))) (whole (valuesOf command (now (text .entry)) (now (scratch .entry)))) (now (out .entry)) 0 r (now (out .exit)) ⌝ }
+{
+    let slots = slots(command);
+    let mut at = put(b"5113", out, 0);
+    let mut k = 0;
+    while k < COUNT {
+        match put_field(k, slots[k], text, scratch, out, at) {
+            Written::Length(end) => {
+                at = end;
+            }
+            Written::Refused(refusal) => {
+                return Written::Refused(refusal);
+            }
+        }
+        k += 1;
+    }
+    Written::Length(at)
+}
+
+// Puts the field of the key with number k.
+fn put_field<'a>(
+    k: usize,
+    slot: Slot,
+    text: &'a [u8],
+    scratch: &'a [u8],
+    out: &mut [u8],
+    at: usize,
+) -> Written
+    requires { ⌜ k < 15 ⌝ }
+    ensures { λ r. ⌜ FieldPut (keyAt k .name) (shown (kindAt keys k) (valueAt (kindAt keys k) slot (now (text .entry)) (now (scratch .entry)))) (now (out .entry)) at r (now (out .exit)) ⌝ }
+{
+    let row = part(&ROWS, b';', k);
+    match kind_at(k) {
+        Kind::Word(first, count) => word(row, first, count, slot.number, out, at),
+        Kind::Safe(short) => safe(row, short, text, slot.place, out, at),
+        Kind::Integer => integer(row, slot.number, out, at),
+        Kind::Base64 => base64(row, scratch, slot.place, out, at),
+    }
+}

@@ -1,0 +1,79 @@
+// Writes a command's canonical text, without opener or closer.
+//
+// The fields are gone through twice: first with an empty buffer, which checks every field and
+// measures the text, and then, if nothing is at fault and the text fits, to store it.
+mod fields;
+mod letters;
+mod slots;
+mod store;
+mod table;
+mod values;
+
+ghost use mathlib.Core.Path.{_≡_};
+ghost use lib.ListN.{length};
+ghost use lib.Dec.{ltb, eqb};
+ghost use Rattle.octets.specs.Choice.{either};
+ghost use Rattle.octets.specs.Outcome.{outcome};
+ghost use Rattle.command.specs.Keys.{keys};
+ghost use Rattle.command.specs.Slots.{actionCode, valuesOf};
+ghost use Rattle.command.specs.Write.{Checked, checkedOf, answered, writeOf};
+ghost use Rattle.command_writer.specs.Pieces.{whole};
+ghost use Rattle.command_writer.specs.Stores.{spare};
+use command::Command;
+use command::Refusal;
+use command::Written;
+
+// Stores the canonical text of a command, whose places lie in text and scratch, at the start of out.
+// A refusal leaves out as before.
+pub fn write<'a>(command: Command, text: &'a [u8], scratch: &'a [u8], out: &mut [u8]) -> Written
+    ensures { λ r. ⌜ outcome (answered r) (now (out .exit)) ≡ writeOf (valuesOf command (now (text .entry)) (now (scratch .entry))) (now (out .entry)) ⌝ }
+{
+    let mut empty = [0u8; 0];
+    match fields::put_fields(command, text, scratch, &mut empty) {
+        Written::Length(n) => write_measured(command, text, scratch, out, n),
+        Written::Refused(refusal) => Written::Refused(refusal),
+    }
+}
+
+// Writes a command of which no field is at fault, and whose text has n bytes.
+fn write_measured<'a>(
+    command: Command,
+    text: &'a [u8],
+    scratch: &'a [u8],
+    out: &mut [u8],
+    n: usize,
+) -> Written
+    requires { ⌜ (checkedOf keys (valuesOf command (now text) (now scratch)) ≡ Checked.fine) × (spare n ≡ spare (length (whole (valuesOf command (now text) (now scratch))))) ⌝ }
+    ensures { λ r. ⌜ outcome (answered r) (now (out .exit)) ≡ writeOf (valuesOf command (now (text .entry)) (now (scratch .entry))) (now (out .entry)) ⌝ }
+{
+    let missing = lacks(command);
+    let short = no_room(n, out.len());
+    if missing {
+        return Written::Refused(Refusal::Missing);
+    }
+    if short {
+        return Written::Refused(Refusal::ShortBuffer);
+    }
+    fields::put_fields(command, text, scratch, out)
+}
+
+// Whether a command has no action or an empty id.
+fn lacks(command: Command) -> bool
+    ensures { λ r. ⌜ r ≡ either (eqb (actionCode (command .action)) 0) (eqb (command .id .len) 0) ⌝ }
+{
+    let action = command.action;
+    if slots::action_code(action) == 0 {
+        return true;
+    }
+    command.id.len == 0
+}
+
+// Whether a text of n bytes passes the limit, or a buffer of this length is shorter.
+fn no_room(n: usize, len: usize) -> bool
+    ensures { λ r. ⌜ r ≡ either (ltb 8192 n) (ltb len n) ⌝ }
+{
+    if n > store::LIMIT {
+        return true;
+    }
+    n > len
+}

@@ -1,0 +1,123 @@
+// A field, by the kind of its value: it is put as `;key=value`, or left out, or refused.
+ghost use mathlib.Core.Path.{_≡_};
+ghost use Prim.Native.Nat.{_+_, _≤_};
+ghost use lib.ListN.{length, take, drop};
+ghost use lib.Dec.{ltb};
+ghost use Rattle.octets.specs.Choice.{both};
+ghost use Rattle.command.specs.Keys.{Kind};
+ghost use Rattle.command.specs.Values.{wordShown, integerShown, shown};
+ghost use Rattle.command.specs.Slots.{bytesAt};
+ghost use Rattle.command_writer.specs.Pieces.{FieldPut};
+ghost use Rattle.command_writer.specs.Table.{nameIn, wordsIn};
+use crate::letters::is_safe;
+use crate::store::put;
+use crate::store::put_base64;
+use crate::store::put_key;
+use crate::store::put_number;
+use crate::table::part;
+use command::Place;
+use command::Refusal;
+use command::Written;
+use decimal::Number;
+
+// The word of a code. The words stand in the row, after its key; `first` is the code of the first.
+pub(crate) fn word(
+    row: &[u8],
+    first: u64,
+    count: u64,
+    n: Number,
+    out: &mut [u8],
+    at: usize,
+) -> Written
+    requires { ⌜ (first ≤ 1) × (length (wordsIn (now row)) ≡ count) ⌝ }
+    ensures { λ r. ⌜ FieldPut (nameIn (now (row .entry))) (wordShown first (wordsIn (now (row .entry))) n) (now (out .entry)) at r (now (out .exit)) ⌝ }
+{
+    if n.negative {
+        return Written::Refused(Refusal::BadValue);
+    }
+    if n.magnitude == 0 {
+        return Written::Length(at);
+    }
+    let i = n.magnitude - first;
+    if i >= count {
+        return Written::Refused(Refusal::BadValue);
+    }
+    let value = put_key(row, out, at);
+    Written::Length(put(part(row, b' ', i as usize + 1), out, value))
+}
+
+// An integer.
+pub(crate) fn integer(row: &[u8], n: Number, out: &mut [u8], at: usize) -> Written
+    ensures { λ r. ⌜ FieldPut (nameIn (now (row .entry))) (integerShown n) (now (out .entry)) at r (now (out .exit)) ⌝ }
+{
+    if n.magnitude > 0 {
+        let value = put_key(row, out, at);
+        return put_number(n, out, value);
+    }
+    if n.negative {
+        return Written::Refused(Refusal::BadValue);
+    }
+    Written::Length(at)
+}
+
+// A safe string, which stands in the text.
+pub(crate) fn safe(
+    row: &[u8],
+    short: bool,
+    text: &[u8],
+    place: Place,
+    out: &mut [u8],
+    at: usize,
+) -> Written
+    ensures { λ r. ⌜ FieldPut (nameIn (now (row .entry))) (shown (Kind.safe short) (bytesAt (now (text .entry)) place)) (now (out .entry)) at r (now (out .exit)) ⌝ }
+{
+    if !octets::fits(place.start, place.len, text.len()) {
+        return Written::Refused(Refusal::BadValue);
+    }
+    let s = bytes_at(text, place);
+    if !is_safe(s) {
+        return Written::Refused(Refusal::BadValue);
+    }
+    if over(short, s.len()) {
+        return Written::Refused(Refusal::TooLong);
+    }
+    if s.len() == 0 {
+        return Written::Length(at);
+    }
+    let value = put_key(row, out, at);
+    Written::Length(put(s, out, value))
+}
+
+// Whether a string is not "at most 32 bytes", where that is asked.
+fn over(short: bool, len: usize) -> bool
+    ensures { λ r. ⌜ r ≡ both short (ltb 32 len) ⌝ }
+{
+    if short {
+        return len > 32;
+    }
+    false
+}
+
+// The Base64 of bytes, which stand in the scratch.
+pub(crate) fn base64(row: &[u8], scratch: &[u8], place: Place, out: &mut [u8], at: usize) -> Written
+    ensures { λ r. ⌜ FieldPut (nameIn (now (row .entry))) (shown Kind.base64 (bytesAt (now (scratch .entry)) place)) (now (out .entry)) at r (now (out .exit)) ⌝ }
+{
+    if !octets::fits(place.start, place.len, scratch.len()) {
+        return Written::Refused(Refusal::BadValue);
+    }
+    if place.len == 0 {
+        return Written::Length(at);
+    }
+    let value = put_key(row, out, at);
+    Written::Length(put_base64(bytes_at(scratch, place), out, value))
+}
+
+// The bytes of a place.
+fn bytes_at(buffer: &[u8], place: Place) -> &[u8]
+    requires { ⌜ place .start + place .len ≤ length (now buffer) ⌝ }
+    ensures { λ r. ⌜ now r ≡ take (place .len) (drop (place .start) (now (buffer .entry))) ⌝ }
+{
+    let start = place.start;
+    let end = start + place.len;
+    &buffer[start..end]
+}

@@ -1,0 +1,241 @@
+// The console's state between the calls of a script, and each operation.
+ghost use Prim.Native.Nat.{_≤_};
+use crate::line;
+use crate::script;
+use frames::Report;
+use protocol::Answered;
+use protocol::Failure;
+use protocol::Fed;
+use protocol::Receiver;
+
+// The receiver, how much of each buffer is lent, and the latest feed: its piece's place in the script
+// and its report.
+pub struct Console {
+    pub receiver: Receiver,
+    pub carry: usize,
+    pub scratch: usize,
+    pub reply: usize,
+    pub piece: usize,
+    pub piece_len: usize,
+    pub report: Report,
+}
+
+// A fresh receiver, every buffer lent whole, no feed made yet.
+pub(crate) fn fresh() -> Console {
+    Console {
+        receiver: Receiver::fresh(),
+        carry: 8256,
+        scratch: 6208,
+        reply: 192,
+        piece: 0,
+        piece_len: 0,
+        report: Report::Nothing,
+    }
+}
+
+// The operation of n bytes at a place of the script.
+pub(crate) fn perform(
+    console: Console,
+    bytes: &[u8],
+    at: usize,
+    n: usize,
+    carry: &mut [u8],
+    scratch: &mut [u8],
+    reply: &mut [u8],
+) -> Console {
+    let letter = script::byte(bytes, at);
+    match letter {
+        b'f' => feed(console, bytes, at, n, carry, scratch, reply),
+        b't' => text(console, bytes, carry),
+        b'n' => anew(carry, scratch, reply),
+        b'c' => lend(console, letter, script::number(bytes, at, 1)),
+        b's' => lend(console, letter, script::number(bytes, at, 1)),
+        b'r' => lend(console, letter, script::number(bytes, at, 1)),
+        _ => call(console, octets::part(bytes, at, n), carry, scratch, reply),
+    }
+}
+
+// One feed of the operation's piece, once.
+fn feed(
+    console: Console,
+    bytes: &[u8],
+    at: usize,
+    n: usize,
+    carry: &mut [u8],
+    scratch: &mut [u8],
+    reply: &mut [u8],
+) -> Console {
+    let receiver = console.receiver;
+    let start = within(at, 3, bytes.len());
+    let len = less(n, 3);
+    let fed = feed_lent(
+        receiver,
+        octets::part(bytes, start, len),
+        carry,
+        console.carry,
+        scratch,
+        console.scratch,
+        reply,
+        console.reply,
+    );
+    let told = fed.told;
+    line::call(
+        b'f',
+        fed.consumed,
+        told,
+        octets::part(reply, 0, fed.reply_len),
+    );
+    line::sums(carry, scratch, reply);
+    let next = fed.receiver;
+    let report = fed.report;
+    Console {
+        receiver: next,
+        carry: console.carry,
+        scratch: console.scratch,
+        reply: console.reply,
+        piece: start,
+        piece_len: len,
+        report: report,
+    }
+}
+
+// A feed that is lent the first bytes of each buffer.
+fn feed_lent(
+    receiver: Receiver,
+    piece: &[u8],
+    carry: &mut [u8],
+    carry_len: usize,
+    scratch: &mut [u8],
+    scratch_len: usize,
+    reply: &mut [u8],
+    reply_len: usize,
+) -> Fed {
+    let c = least(carry_len, carry.len());
+    let s = least(scratch_len, scratch.len());
+    let r = least(reply_len, reply.len());
+    receiver::feed(
+        receiver,
+        piece,
+        &mut carry[..c],
+        &mut scratch[..s],
+        &mut reply[..r],
+    )
+}
+
+// The text of the latest feed's report, given that feed's piece and the carry as lent now.
+fn text(console: Console, bytes: &[u8], carry: &mut [u8]) -> Console {
+    let report = console.report;
+    let c = least(console.carry, carry.len());
+    let piece = octets::part(bytes, console.piece, console.piece_len);
+    line::text(b"t ");
+    line::hex(frames::text(piece, octets::part(carry, 0, c), report));
+    line::text(b"\n");
+    console
+}
+
+// Starts anew: a fresh receiver, and the buffers as at first.
+fn anew(carry: &mut [u8], scratch: &mut [u8], reply: &mut [u8]) -> Console {
+    fill(carry);
+    fill(scratch);
+    fill(reply);
+    fresh()
+}
+
+fn fill(buffer: &mut [u8]) {
+    let mut i = 0;
+    while i < buffer.len() {
+        buffer[i] = 0xA5;
+        i += 1;
+    }
+}
+
+// From now on only the first n bytes of a buffer are lent.
+fn lend(console: Console, letter: u8, n: usize) -> Console {
+    let receiver = console.receiver;
+    let report = console.report;
+    Console {
+        receiver: receiver,
+        carry: if letter == b'c' {
+            least(n, 8256)
+        } else {
+            console.carry
+        },
+        scratch: if letter == b's' {
+            least(n, 6208)
+        } else {
+            console.scratch
+        },
+        reply: if letter == b'r' {
+            least(n, 192)
+        } else {
+            console.reply
+        },
+        piece: console.piece,
+        piece_len: console.piece_len,
+        report: report,
+    }
+}
+
+// Allow, deny, drop, done or failed, which print alike.
+fn call<'a>(
+    console: Console,
+    operation: &[u8],
+    carry: &'a [u8],
+    scratch: &'a [u8],
+    reply: &mut [u8],
+) -> Console {
+    let receiver = console.receiver;
+    let report = console.report;
+    let letter = script::byte(operation, 0);
+    let r = least(console.reply, reply.len());
+    let answered = call_lent(receiver, letter, operation, &mut reply[..r]);
+    let told = answered.told;
+    line::call(letter, 0, told, octets::part(reply, 0, answered.reply_len));
+    line::sums(carry, scratch, reply);
+    let next = answered.receiver;
+    Console {
+        receiver: next,
+        carry: console.carry,
+        scratch: console.scratch,
+        reply: console.reply,
+        piece: console.piece,
+        piece_len: console.piece_len,
+        report: report,
+    }
+}
+
+fn call_lent(receiver: Receiver, letter: u8, operation: &[u8], reply: &mut [u8]) -> Answered {
+    let id = octets::part(operation, 2, less(operation.len(), 2));
+    match letter {
+        b'a' => receiver::allow(receiver, id, reply),
+        b'd' => receiver::deny(receiver, id, reply),
+        b'x' => receiver::drop(receiver, id),
+        b'k' => receiver::done(receiver, reply),
+        _ => receiver::failed(receiver, failure(script::byte(operation, 1)), reply),
+    }
+}
+
+fn failure(code: u8) -> Failure {
+    match code {
+        1 => Failure::Eperm,
+        2 => Failure::Eio,
+        3 => Failure::Enoent,
+        _ => Failure::Enospc,
+    }
+}
+
+fn least(a: usize, b: usize) -> usize
+    ensures { λ r. ⌜ r ≤ b ⌝ }
+{
+    if a < b { a } else { b }
+}
+
+// a - b, or 0 where b is more.
+fn less(a: usize, b: usize) -> usize {
+    if a < b { 0 } else { a - b }
+}
+
+// The place k after another, if it is within the first n.
+fn within(at: usize, k: usize, n: usize) -> usize {
+    if octets::fits(at, k, n) { at + k } else { n }
+}

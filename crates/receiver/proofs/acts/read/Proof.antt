@@ -1,0 +1,48 @@
+use borrow.Author.Needs.{needs}
+use Rattle.receiver.proofs.acts.read.Statement.{statement}
+use Rattle.receiver.proofs.acts.read.Tie as tie
+
+read-requires : tie.Need-read-requires
+read-requires c κs = search needs
+
+enum-known-command : tie.Need-enum-known-command
+enum-known-command c = search needs
+
+obey-requires : tie.Need-obey-requires
+obey-requires c κs = search needs
+
+enum-known-refusal : tie.Need-enum-known-refusal
+enum-known-refusal c = search needs
+
+number-requires : tie.Need-number-requires
+number-requires c κs = search needs
+
+tell-requires : tie.Need-tell-requires
+tell-requires c κs = search needs
+
+same-length : tie.Need-same-length
+same-length c = search needs
+
+returns : tie.Need-returns
+returns c = rw (← c .before .before .before .before .before .before .before .read .ensures, c .before .before .before .command .given .1, c .obey .ensures)
+
+same-length-2 : tie.Need-same-length-2
+same-length-2 c = search needs
+
+returns-2 : tie.Need-returns-2
+returns-2 c = rw (← c .before .before .before .before .before .before .before .read .ensures, c .before .before .before .refusal .given .1, c .tell .ensures, c .before .number .ensures)
+
+pub read-spec : {M : Type 1} → statement M
+read-spec =
+    tie.close
+    (tie.spec
+    read-requires
+    enum-known-command
+    obey-requires
+    enum-known-refusal
+    number-requires
+    tell-requires
+    same-length
+    returns
+    same-length-2
+    returns-2)

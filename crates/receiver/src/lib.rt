@@ -1,0 +1,89 @@
+// The console's calls on a receiver: feed, allow, deny, drop, done, failed.
+//
+// A call takes the receiver by value and answers with the receiver afterwards. Each is equal to its
+// definition in `protocol`, for any receiver and any lent buffers, so what `protocol` proves of every
+// list of calls holds of these. The text of a report is had from `frames::text`.
+//
+// Not here: opening and writing files, and sending the reply; these are the console's.
+mod acts;
+mod replies;
+
+ghost use mathlib.Core.Path.{_≡_};
+ghost use Rattle.octets.specs.Outcome.{outcome};
+ghost use Rattle.protocol.specs.Calls.{feeding, feedOf, allowOf, denyOf, dropOf, doneOf, failedOf};
+use acts::act;
+use protocol::Answered;
+use protocol::Failure;
+use protocol::Fed;
+use protocol::Receiver;
+use replies::answered;
+use replies::fed;
+use replies::guarded;
+use replies::is_short;
+use replies::refused;
+
+// Takes one piece through the first thing to report. 9 and then 10 consume nothing.
+pub fn feed(
+    receiver: Receiver,
+    piece: &[u8],
+    carry: &mut [u8],
+    scratch: &mut [u8],
+    reply: &mut [u8],
+) -> Fed
+    ensures { λ f. ⌜ feeding f (now (carry .exit)) (now (scratch .exit)) (now (reply .exit)) ≡ feedOf receiver (now (piece .entry)) (now (carry .entry)) (now (scratch .entry)) (now (reply .entry)) ⌝ }
+{
+    let framing = receiver.framing;
+    let table = receiver.table;
+    if is_short(carry.len(), scratch.len(), reply.len()) {
+        return refused(receiver, 9);
+    }
+    let owed = table.owed;
+    if sessions::is_owed(owed) {
+        return refused(receiver, 10);
+    }
+    let scanned = frames::scan(framing, piece, carry);
+    let report = scanned.report;
+    let step = act(table, report, frames::text(piece, carry, report), scratch);
+    fed(scanned, step, reply)
+}
+
+// The user lets the asked session with this id be open: reply OK.
+pub fn allow(receiver: Receiver, id: &[u8], reply: &mut [u8]) -> Answered
+    ensures { λ a. ⌜ outcome a (now (reply .exit)) ≡ allowOf receiver (now (id .entry)) (now (reply .entry)) ⌝ }
+{
+    let table = receiver.table;
+    guarded(receiver, sessions::allow(table, id), reply)
+}
+
+// The user turns the asked session with this id away: reply EPERM.
+pub fn deny(receiver: Receiver, id: &[u8], reply: &mut [u8]) -> Answered
+    ensures { λ a. ⌜ outcome a (now (reply .exit)) ≡ denyOf receiver (now (id .entry)) (now (reply .entry)) ⌝ }
+{
+    let table = receiver.table;
+    guarded(receiver, sessions::deny(table, id), reply)
+}
+
+// The console drops the session with this id, asked or open, and what it owed is cleared.
+pub fn drop(receiver: Receiver, id: &[u8]) -> Answered
+    ensures { λ a. ⌜ a ≡ dropOf receiver (now (id .entry)) ⌝ }
+{
+    let framing = receiver.framing;
+    let table = receiver.table;
+    answered(framing, sessions::drop(table, id), 0)
+}
+
+// The console has done what it was asked last.
+pub fn done(receiver: Receiver, reply: &mut [u8]) -> Answered
+    ensures { λ a. ⌜ outcome a (now (reply .exit)) ≡ doneOf receiver (now (reply .entry)) ⌝ }
+{
+    let table = receiver.table;
+    guarded(receiver, sessions::done(table), reply)
+}
+
+// The console has failed to do what it was asked last.
+pub fn failed(receiver: Receiver, failure: Failure, reply: &mut [u8]) -> Answered
+    ensures { λ a. ⌜ outcome a (now (reply .exit)) ≡ failedOf receiver failure (now (reply .entry)) ⌝ }
+{
+    let table = receiver.table;
+    guarded(receiver, sessions::failed(table, failure), reply)
+}

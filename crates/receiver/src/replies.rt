@@ -1,0 +1,98 @@
+// A step's end: its reply stored in the lent buffer, and the answer put together.
+ghost use mathlib.Core.Path.{_≡_};
+ghost use Prim.Native.Nat.{ℕ};
+ghost use lib.Dec.{ltb};
+ghost use Rattle.octets.specs.Choice.{either};
+ghost use Rattle.octets.specs.Outcome.{outcome};
+ghost use Rattle.protocol.specs.Answers as Answers;
+ghost use Rattle.protocol.specs.Calls as Calls;
+ghost use Rattle.protocol.specs.Replies.{repliedOf};
+ghost use Rattle.receiver.specs.Fed.{fedWith};
+use frames::Framing;
+use frames::Report;
+use frames::Scanned;
+use protocol::Answered;
+use protocol::Fed;
+use protocol::Receiver;
+use protocol::Stepped;
+use protocol::Told;
+
+// Whether a buffer is too short for a feed.
+pub(crate) fn is_short(carry: usize, scratch: usize, reply: usize) -> bool
+    ensures { λ r. ⌜ r ≡ either (ltb carry 8192) (either (ltb scratch 6144) (ltb reply 124)) ⌝ }
+{
+    if carry < 8192 {
+        return true;
+    }
+    if scratch < 6144 {
+        return true;
+    }
+    reply < 124
+}
+
+// A feed that consumes nothing and changes nothing.
+pub(crate) fn refused(receiver: Receiver, number: u8) -> Fed
+    ensures { λ r. ⌜ r ≡ Calls.feedRefused receiver number ⌝ }
+{
+    Fed {
+        receiver: receiver,
+        consumed: 0,
+        report: Report::Nothing,
+        told: Told::Refused(number),
+        reply_len: 0,
+    }
+}
+
+// A feed's end, after its scan and its step.
+pub(crate) fn fed(scanned: Scanned, step: Stepped, buffer: &mut [u8]) -> Fed
+    ensures { λ r. ⌜ outcome r (now (buffer .exit)) ≡ fedWith scanned step (now (buffer .entry)) ⌝ }
+{
+    let framing = scanned.framing;
+    let report = scanned.report;
+    let table = step.table;
+    let told = step.told;
+    let due = step.reply;
+    let n = reply::send(due, buffer);
+    Fed {
+        receiver: Receiver {
+            framing: framing,
+            table: table,
+        },
+        consumed: scanned.consumed,
+        report: report,
+        told: told,
+        reply_len: n,
+    }
+}
+
+// A console call's end: refusal 9 where the buffer is too short, else the step with its reply stored.
+pub(crate) fn guarded(receiver: Receiver, step: Stepped, buffer: &mut [u8]) -> Answered
+    ensures { λ r. ⌜ outcome r (now (buffer .exit)) ≡ Calls.guarded receiver step (now (buffer .entry)) ⌝ }
+{
+    if buffer.len() < 124 {
+        return Answered {
+            receiver: receiver,
+            told: Told::Refused(9),
+            reply_len: 0,
+        };
+    }
+    let framing = receiver.framing;
+    let due = step.reply;
+    let n = reply::send(due, buffer);
+    answered(framing, step, n)
+}
+
+pub(crate) fn answered(framing: Framing, step: Stepped, reply_len: usize) -> Answered
+    ensures { λ r. ⌜ r ≡ Calls.answeredBy framing step «reply_len» ⌝ }
+{
+    let table = step.table;
+    let told = step.told;
+    Answered {
+        receiver: Receiver {
+            framing: framing,
+            table: table,
+        },
+        told: told,
+        reply_len: reply_len,
+    }
+}

@@ -1,0 +1,91 @@
+use mathlib.Core.Path.{_≡_}
+use lib.ListN.{length}
+use borrow.Author.Needs.{needs}
+use Rattle.replay.proofs.main.Statement.{statement}
+use Rattle.replay.proofs.main.Tie as tie
+
+abbrev Inv-loop : tie.InvT-loop
+Inv-loop piece₀ carry₀ scratch₀ reply₀ receiver₀ turns₀ piece carry scratch reply receiver turns =
+    (65536 ≡ length piece) × (8192 ≡ length carry) × (6144 ≡ length scratch) × (124 ≡ length reply)
+
+abbrev μ-loop : tie.MeasureT-loop
+μ-loop piece₀ carry₀ scratch₀ reply₀ receiver₀ turns₀ piece carry scratch reply receiver turns = turns
+
+large-buffer-requires : tie.Need-large-buffer-requires Inv-loop μ-loop
+large-buffer-requires c κs = search needs
+
+fresh-requires : tie.Need-fresh-requires Inv-loop μ-loop
+fresh-requires c κs = search needs
+
+loop-holds : tie.Need-loop-holds Inv-loop μ-loop
+loop-holds c = search needs
+
+slice-aggregate-read : tie.Need-slice-aggregate-read Inv-loop μ-loop
+slice-aggregate-read c = search needs
+
+read-requires : tie.Need-read-requires Inv-loop μ-loop
+read-requires c κs = search needs
+
+slice-aggregate-count : tie.Need-slice-aggregate-count Inv-loop μ-loop
+slice-aggregate-count c = search needs
+
+count-requires : tie.Need-count-requires Inv-loop μ-loop
+count-requires c κs = search needs
+
+array-share-prefix-piece : tie.Need-array-share-prefix-piece Inv-loop μ-loop
+array-share-prefix-piece c = search needs
+
+slice-aggregate-take : tie.Need-slice-aggregate-take Inv-loop μ-loop
+slice-aggregate-take c = search needs
+
+slice-aggregate-take-2 : tie.Need-slice-aggregate-take-2 Inv-loop μ-loop
+slice-aggregate-take-2 c = search needs
+
+slice-aggregate-take-3 : tie.Need-slice-aggregate-take-3 Inv-loop μ-loop
+slice-aggregate-take-3 c = search needs
+
+slice-aggregate-take-4 : tie.Need-slice-aggregate-take-4 Inv-loop μ-loop
+slice-aggregate-take-4 c = search needs
+
+take-requires : tie.Need-take-requires Inv-loop μ-loop
+take-requires c κs = search needs
+
+sub-turns : tie.Need-sub-turns Inv-loop μ-loop
+sub-turns c = search needs
+
+loop-less : tie.Need-loop-less Inv-loop μ-loop
+loop-less c = search needs
+
+loop-again : tie.Need-loop-again Inv-loop μ-loop
+loop-again c = search needs
+
+returns : tie.Need-returns Inv-loop μ-loop
+returns c = search needs
+
+returns-2 : tie.Need-returns-2 Inv-loop μ-loop
+returns-2 c = search needs
+
+pub main-spec : {M : Type 1} → statement M
+main-spec =
+    tie.close
+    (tie.spec
+    Inv-loop
+    μ-loop
+    large-buffer-requires
+    fresh-requires
+    loop-holds
+    slice-aggregate-read
+    read-requires
+    slice-aggregate-count
+    count-requires
+    array-share-prefix-piece
+    slice-aggregate-take
+    slice-aggregate-take-2
+    slice-aggregate-take-3
+    slice-aggregate-take-4
+    take-requires
+    sub-turns
+    loop-less
+    loop-again
+    returns
+    returns-2)

@@ -1,0 +1,5 @@
+pub mod Putting
+pub mod Joined
+pub mod KeyLaws
+pub mod TextLaws
+pub mod Again
