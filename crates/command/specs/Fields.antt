@@ -38,6 +38,7 @@ equalsSign f = indexOf 61 f
 abbrev pub keyOf : List ℕ → List ℕ
 keyOf f = take (equalsSign f) f
 
+-- what follows it: "Values may be empty"
 abbrev pub valueOf : List ℕ → List ℕ
 valueOf f = drop (equalsSign f + 1) f
 
@@ -45,7 +46,7 @@ valueOf f = drop (equalsSign f + 1) f
 abbrev pub known : {S : Type 0} → Step S → ℕ → Step S
 known step count n at v s = pick (ltb n count) (step n at v s) (Turn.on s)
 
--- one field, which stands at place `at`: refusal 4 for a field without `=` or a bad key
+-- one field, which stands at place `at`: refusal 4 for a field without `=` or a bad key; so "an empty field, or none at all, gives 4"
 unfoldable pub fieldRead : {S : Type 0} → Step S → ℕ → List ℕ → S → Turn S
 fieldRead step at f s =
     pick (both (ltb (equalsSign f) (length f)) (isKey (keyOf f)))
