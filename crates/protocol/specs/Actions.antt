@@ -30,7 +30,7 @@ pub record Row : Type 0 where
 abbrev pub row : SessionState → Commands → Kind → Row
 row s c k = record { session = s; commands = c; result = k }
 
--- document 01's rows, in its order. The third last stands for four rows of the text: "file, data, end_data, finish: see below".
+-- document 01's nine rows, in its order. Its row "open | file, data, end_data, finish | see below" is four rows here, one for each rule.
 abbrev pub rows : List Row
 rows =
     row SessionState.Absent (these (Action.Send ∷ [])) Kind.Ask
