@@ -1,6 +1,6 @@
 -- The valid texts as a grammar: groups of four characters, the last of which may end with one or two `=` after unused bits of
 -- zero. `verdictOf` says `Valid` of these and of no other, and the laws on valid texts go by this grammar.
-use Prim.Native.Nat.{ℕ, _%_}
+use Prim.Native.Nat.{ℕ, _<_, _%_}
 use mathlib.Core.Path.{_≡_, refl, _∙_, ap}
 use mathlib.Core.Bool.{Bool, true, false}
 use mathlib.Core.Logic.{_⊎_, inl, inr}
@@ -13,7 +13,7 @@ use Rattle.base64.specs.Alphabet.{pad, valueOf}
 use Rattle.base64.specs.Decode.{unused, ending, scan, verdictOf}
 use Rattle.base64.specs.declared.Fault.{Fault}
 use Rattle.base64.specs.declared.Verdict.the-variants.{Valid, Invalid}
-use Rattle.base64.proofs.Letters.{Letter, is-letter, value-pad}
+use Rattle.base64.proofs.Letters.{Letter, is-letter, value-pad, not-pad}
 
 -- a text with that many padding characters
 pub data Groups : List ℕ → ℕ → Type 0 where
@@ -45,6 +45,13 @@ groups-length none = refl
 groups-length (full ha hb hc hd g) = omega (arith, groups-length g)
 groups-length (pad1 ha hb hc z) = refl
 groups-length (pad2 ha hb z) = refl
+
+-- a group that is not the last has no padding
+pub full-group : {a b c d k : ℕ} {r : List ℕ} → Groups (a ∷ b ∷ c ∷ d ∷ r) k → 0 < length r → (c ≡ pad → ⊥) × (d ≡ pad → ⊥) × Groups r k
+full-group (full {a} {b} {c} {d} ha hb hc hd g) h =
+    ((λ e. eqb-false _ _ (not-pad c hc) e), (λ e. eqb-false _ _ (not-pad d hd) e), g)
+full-group (pad1 ha hb hc z) h = absurd (omega arith)
+full-group (pad2 ha hb z) h = absurd (omega arith)
 
 -- what the grammar makes is valid
 pub groups-valid : {t : List ℕ} {k : ℕ} → Groups t k → verdictOf t ≡ Valid k

@@ -1,14 +1,18 @@
 -- The definitions as the loops take them: what is left at a place, by the character or the group that stands there.
-use Prim.Native.Nat.{ℕ, _+_, _≤_, _<_, _%_}
+use Prim.Native.Nat.{ℕ, zero, suc, _+_, _-_, _≤_, _<_, _%_}
 use mathlib.Core.Path.{_≡_, _∙_, ap}
+use mathlib.Core.Bool.{true}
 use mathlib.Core.List.{List, [], _∷_}
 use native.Mathlib.Omega.{arith}
-use lib.ListN.{length, getD, drop}
+use native.Mathlib.Nat.{add-zero}
+use lib.ListN.{length, getD, take, drop}
 use lib.Dec.{eqb}
-use borrow.Author.Tests.{eq-eqb, ne-eqb}
-use Rattle.octets.specs.Choice.{pick}
+use borrow.Author.Tests.{eq-eqb, ne-eqb, not-true}
+use Rattle.octets.specs.Choice.{pick, every}
 use Rattle.octets.proofs.Lists.{drop-at, drop-end}
+use Rattle.octets.proofs.Below.{both-test}
 use Rattle.base64.specs.Alphabet.{pad, valueOf}
+use Rattle.base64.specs.Letters.{isLetter, valueBefore}
 use Rattle.base64.specs.Decode.{unused, ending, scan, byte1, byte2, byte3, group, bytesOf}
 use Rattle.base64.specs.Encode.{char1, char2, char3, char4, textOf}
 use Rattle.base64.specs.declared.Fault.the-variants as Fault
@@ -22,6 +26,22 @@ pub scan-at : (t : List ℕ) (i p : ℕ) → i < length t
     (scan (valueOf (getD t i 0)) (drop (i + 1) t))
 unfolding scan
 scan-at t i p h = rw (drop-at t i h)
+
+-- n letters from place i on are passed
+before-next : (t : List ℕ) (i : ℕ) → valueBefore t (i + 1) ≡ valueOf (getD t i 0)
+before-next t i = let e : (i + 1) - 1 ≡ i = omega arith in rw (ne-eqb (i + 1) 0 (λ q. omega arith), e)
+
+letter-past : (t : List ℕ) (i : ℕ) → i < length t → isLetter (getD t i 0) ≡ true → scan (valueBefore t i) (drop i t) ≡ scan (valueBefore t (i + 1)) (drop (i + 1) t)
+letter-past t i h e = scan-at t i (valueBefore t i) h ∙ rw (not-true (eqb (valueOf (getD t i 0)) 64) e, before-next t i)
+
+pub letters-past : (n : ℕ) (t : List ℕ) (i : ℕ) → i + n ≤ length t → every isLetter (take n (drop i t)) ≡ true
+    → scan (valueBefore t i) (drop i t) ≡ scan (valueBefore t (i + n)) (drop (i + n) t)
+unfolding every
+letters-past zero t i h e = rw add-zero
+letters-past (suc n) t i h e =
+    let b = both-test _ _ (rw (drop-at t i (omega arith)) at e) in
+    let s : (i + 1) + n ≡ i + suc n = omega arith in
+    letter-past t i (omega arith) (b .0) ∙ letters-past n t (i + 1) (omega arith) (b .1) ∙ rw s
 
 module _ (t : List ℕ) (i p : ℕ) where
   pub ending-none : i ≡ length t → ending p (drop i t) ≡ unused (p % 4) 1
@@ -44,7 +64,7 @@ drop-at-3 t i h =
     let f : i + 2 + 1 ≡ i + 3 = omega arith in
     rw (drop-at t i (omega arith), drop-at t (i + 1) (omega arith), e, drop-at t (i + 2) (omega arith), f)
 
-drop-at-4 : (t : List ℕ) (i : ℕ) → i + 4 ≤ length t
+pub drop-at-4 : (t : List ℕ) (i : ℕ) → i + 4 ≤ length t
     → drop i t ≡ getD t i 0 ∷ getD t (i + 1) 0 ∷ getD t (i + 2) 0 ∷ getD t (i + 3) 0 ∷ drop (i + 4) t
 drop-at-4 t i h =
     let e : i + 3 + 1 ≡ i + 4 = omega arith in
@@ -90,6 +110,11 @@ module _ (t : List ℕ) (i : ℕ) (h : i + 4 ≤ length t) where
         ∷ byte3 (valueOf (getD t (i + 2) 0)) (valueOf (getD t (i + 3) 0))
         ∷ bytesOf (drop (i + 4) t)
     three-bytes e = more-bytes ∙ rw (ne-eqb _ _ e)
+
+-- after the last group there are none
+pub no-bytes : (t : List ℕ) (i : ℕ) → length t ≤ i → bytesOf (drop i t) ≡ []
+unfolding bytesOf
+no-bytes t i h = rw (drop-end t i h)
 
 -- the text of a group of bytes, and of the last one or two
 module _ (s : List ℕ) (i : ℕ) where

@@ -1,19 +1,22 @@
 -- RFC 4648, table 1: the Base64 alphabet.
 use Prim.Native.Nat.{ℕ, _+_, _-_}
 use lib.Dec.{ltb, leb, eqb}
-use Rattle.octets.specs.Choice.{pick}
+use Rattle.octets.specs.Choice.{pick, both}
 
 -- the padding character `=`
 abbrev pub pad : ℕ
 pad = 61
 
+-- a row of the table: the characters from `first` to `last` count from `base` on; v for every other byte
+abbrev pub rowOf : ℕ → ℕ → ℕ → ℕ → ℕ → ℕ
+rowOf first last base c v = pick (both (leb first c) (leb c last)) (base + (c - first)) v
+
+abbrev pub signOf : ℕ → ℕ
+signOf c = pick (eqb c 43) 62 (pick (eqb c 47) 63 64)
+
 -- the value of a character (A to Z, a to z, 0 to 9, + and / count from 0 to 63), and 64 for a byte that is none
 unfoldable pub valueOf : ℕ → ℕ
-valueOf c =
-    pick (leb 97 c) (pick (leb c 122) (c - 71) 64)
-    (pick (leb 65 c) (pick (leb c 90) (c - 65) 64)
-    (pick (leb 48 c) (pick (leb c 57) (c + 4) 64)
-    (pick (eqb c 43) 62 (pick (eqb c 47) 63 64))))
+valueOf c = rowOf 65 90 0 c (rowOf 97 122 26 c (rowOf 48 57 52 c (signOf c)))
 
 -- the character of a value below 64
 unfoldable pub letterOf : ℕ → ℕ

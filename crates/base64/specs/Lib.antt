@@ -1,3 +1,4 @@
 pub mod Alphabet
 pub mod Decode
+pub mod Letters
 pub mod Encode

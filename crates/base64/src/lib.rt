@@ -43,7 +43,7 @@ pub fn decode(text: &[u8], out: &mut [u8], at: usize) -> Decoded
             if !octets::fits(at, n, out.len()) {
                 return Decoded::NoRoom;
             }
-            decoder::fill(text, out, at);
+            decoder::fill(text, padding, out, at);
             Decoded::Length(n)
         }
         Verdict::Invalid(fault) => Decoded::Invalid(fault),

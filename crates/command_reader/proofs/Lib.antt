@@ -1,5 +1,4 @@
 pub mod Ranges
-pub mod Everys
 pub mod Cuts
 pub mod Room
 pub mod Answers

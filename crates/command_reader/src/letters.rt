@@ -11,18 +11,17 @@ pub enum Class {
     Safe,
 }
 
-// Whether each byte of s is of the class.
+// Whether each byte of s is of the class. No early way out, so that many are tested at once.
 pub(crate) fn all(class: Class, s: &[u8]) -> bool
     ensures { λ r. ⌜ r ≡ every (byteOf class) (now (s .entry)) ⌝ }
 {
+    let mut all = true;
     let mut i = 0;
     while i < s.len() {
-        if !is(class, s[i]) {
-            return false;
-        }
+        all = all & is(class, s[i]);
         i += 1;
     }
-    true
+    all
 }
 
 // Whether c is of the class. What safe strings have besides keys' bytes stands beside these: `-`, `.`

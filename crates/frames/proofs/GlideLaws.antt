@@ -1,18 +1,16 @@
--- Bytes passed in blocks, and the walk that goes on where they end.
-use Prim.Native.Nat.{ℕ, zero, suc, _+_, _-_, _<_, _≤_}
+-- The walk over bytes that change nothing but a count, and where it goes on.
+use Prim.Native.Nat.{ℕ, suc, _+_, _-_, _≤_}
 use mathlib.Core.Path.{_≡_, refl, ap, sym, _∙_}
 use mathlib.Core.List.{List, [], _∷_}
-use mathlib.Core.Bool.{Bool, true, false, _||_, not}
-use native.Mathlib.Nat.{add-zero, zero-add, add-assoc, add-sub-cancel-left, not-suc-le-zero, le-of-suc-le-suc}
+use mathlib.Core.Bool.{Bool, true, false}
+use native.Mathlib.Nat.{add-zero}
 use native.Mathlib.Omega.{arith}
-use lib.ListN.{length, getD, take, drop, length-drop}
+use lib.ListN.{length, drop, length-drop}
 use lib.Seq.{drop-drop}
 use lib.Dec.{ltb, eqb}
-use borrow.Author.Tests.{le-ltb, ltb-false, eq-eqb, ne-eqb, eqb-true, eqb-false}
+use borrow.Author.Tests.{le-ltb, ltb-false}
 use Rattle.bytes.specs.Bytes.{indexOf, indexAfter}
 use Rattle.octets.specs.Choice.{pick}
-use Rattle.octets.specs.Slices.{lacks}
-use Rattle.octets.proofs.Lists.{drop-at, drop-end}
 use Rattle.octets.proofs.Finds.{index-le}
 use Rattle.frames.specs.Framings.{count}
 use Rattle.frames.specs.Steps.{stepOf, walkFrom}
@@ -21,49 +19,6 @@ use Rattle.frames.specs.declared.Framing.{Framing}
 use Rattle.frames.specs.declared.Framing.the-variants.{Plain, Escape, Text, TextEscape}
 use Rattle.frames.proofs.Choices.{by-pick}
 
--- ---- blocks without a byte
-lacks-cons : (b x : ℕ) (ys : List ℕ) → lacks b (x ∷ ys) ≡ pick (eqb x b) false (lacks b ys)
-unfolding indexOf indexAfter
-lacks-cons b x ys = by (eqb x b)
-  where
-    one-more : (i l : ℕ) (t : Bool) → eqb i l ≡ t → eqb (suc i) (suc l) ≡ t
-    one-more i l true e = eq-eqb (suc i) (suc l) (ap suc (eqb-true i l e))
-    one-more i l false e = ne-eqb (suc i) (suc l) (λ q. eqb-false i l e (omega arith))
-
-    by : (t : Bool) → eqb (indexAfter t (indexOf b ys)) (suc (length ys)) ≡ pick t false (lacks b ys)
-    by true = ne-eqb 0 (suc (length ys)) (λ q. omega arith)
-    by false = one-more (indexOf b ys) (length ys) _ refl
-
-pub clear-turn : (h : Bool) (s : List ℕ) (k : ℕ) → k < length s
-    → pick h false (lacks 0x1B (drop k s)) ≡ pick (h || eqb (getD s k 0) 0x1B) false (lacks 0x1B (drop (k + 1) s))
-clear-turn true s k l = refl
-clear-turn false s k l = rw (drop-at s k l) (lacks-cons 0x1B (getD s k 0) (drop (k + 1) s))
-
-pub clear-end : (h : Bool) (s : List ℕ) (k : ℕ) → length s ≤ k → pick h false (lacks 0x1B (drop k s)) ≡ not h
-unfolding indexOf
-clear-end true s k l = refl
-clear-end false s k l = rw (drop-end s k l)
-
-index-past : (b n : ℕ) (ys : List ℕ) → n ≤ length ys → lacks b (take n ys) ≡ true → indexOf b ys ≡ n + indexOf b (drop n ys)
-unfolding indexOf indexAfter
-index-past b zero ys l h = sym (zero-add (indexOf b ys))
-index-past b (suc n) [] l h = absurd (not-suc-le-zero l)
-index-past b (suc n) (y ∷ ys) l h = by (eqb y b) (sym (lacks-cons b y (take n ys)) ∙ h) (index-past b n ys (le-of-suc-le-suc l))
-  where
-    by : (t : Bool) → pick t false (lacks b (take n ys)) ≡ true → (lacks b (take n ys) ≡ true → indexOf b ys ≡ n + indexOf b (drop n ys))
-        → indexAfter t (indexOf b ys) ≡ suc n + indexOf b (drop n ys)
-    by true q ih = let z : _≡_ {A = ℕ} 0 1 = cc in absurd (omega arith)
-    by false q ih = omega (arith, ih q)
-
--- a search may start behind a block of k bytes without the byte
-pub block-past : (b k : ℕ) (s : List ℕ) (i : ℕ) → i + k ≤ length s → lacks b (take ((i + k) - i) (drop i s)) ≡ true
-    → (i + k) + indexOf b (drop (i + k) s) ≡ i + indexOf b (drop i s)
-block-past b k s i l h =
-    let m : k ≤ length (drop i s) = simp length-drop (omega arith) in
-    let e : indexOf b (drop i s) ≡ k + indexOf b (drop k (drop i s)) = index-past b k (drop i s) m (rw add-sub-cancel-left at h) in
-    rw (← drop-drop k i s) (rw e (add-assoc i k (indexOf b (drop k (drop i s)))))
-
--- ---- the walk over such bytes
 -- outside of texts they do nothing
 past-plain : (i : ℕ) (ys : List ℕ) → walkFrom Plain i ys ≡ walkFrom Plain (i + indexOf 0x1B ys) (drop (indexOf 0x1B ys) ys)
 unfolding walkFrom stepOf indexOf indexAfter

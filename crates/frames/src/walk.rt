@@ -1,10 +1,8 @@
 // A piece, through the first thing to report. Bytes that change nothing but a count are passed by
 // blocks.
 ghost use mathlib.Core.Path.{_≡_};
-ghost use Prim.Native.Nat.{_+_, _≤_, _<_, _^_};
-ghost use lib.ListN.{length, drop};
-ghost use Rattle.bytes.specs.Bytes.{indexOf};
-ghost use Rattle.octets.specs.Slices.{lacks};
+ghost use Prim.Native.Nat.{_+_, _<_, _^_};
+ghost use lib.ListN.{drop};
 ghost use Rattle.frames.specs.Framings.{count, cappedOf};
 ghost use Rattle.frames.specs.Steps.{walkFrom};
 ghost use Rattle.frames.specs.Glides.{glideOf, passedOf};
@@ -12,9 +10,6 @@ use crate::Framing;
 use crate::step::Event;
 use crate::step::capped;
 use crate::step::step;
-
-// How many bytes are tested at once.
-const BLOCK: usize = 128;
 
 // How many bytes a walk has used, and the last event.
 pub(crate) struct Walked {
@@ -48,13 +43,12 @@ pub(crate) fn walk_piece(framing: Framing, piece: &[u8]) -> Walked
 
 // Where the bytes of s from i on end that change nothing but a count.
 fn glide(f: Framing, s: &[u8], i: usize) -> usize
-    requires { ⌜ i ≤ length (now s) ⌝ }
     ensures { λ r. ⌜ r ≡ i + glideOf f (drop i (now (s .entry))) ⌝ }
 {
     match f {
-        Framing::Plain => next_escape(s, i),
+        Framing::Plain => octets::find(s, i, 0x1B),
         Framing::Escape => i,
-        Framing::Text(n) => if n < 5 { i } else { next_escape(s, i) },
+        Framing::Text(n) => if n < 5 { i } else { octets::find(s, i, 0x1B) },
         Framing::TextEscape(_) => i,
     }
 }
@@ -70,42 +64,4 @@ fn passed(f: Framing, k: usize) -> Framing
         Framing::Text(n) => Framing::Text(n + k),
         Framing::TextEscape(n) => Framing::TextEscape(n),
     }
-}
-
-// Where the first 1B of s at or after `from` stands, or the end of s.
-fn next_escape(s: &[u8], from: usize) -> usize
-    requires { ⌜ from ≤ length (now s) ⌝ }
-    ensures { λ r. ⌜ r ≡ from + indexOf 0x1B (drop from (now (s .entry))) ⌝ }
-{
-    octets::find(s, clear_blocks(s, from), 0x1B)
-}
-
-// Passes blocks without a 1B: a place from which on the search for one finds what it finds from
-// `from` on.
-fn clear_blocks(s: &[u8], from: usize) -> usize
-    requires { ⌜ from ≤ length (now s) ⌝ }
-    ensures { λ r. ⌜ r + indexOf 0x1B (drop r (now (s .entry))) ≡ from + indexOf 0x1B (drop from (now (s .entry))) ⌝ }
-{
-    let mut i = from;
-    while s.len() - i >= BLOCK {
-        let e = i + BLOCK;
-        if !clear(&s[i..e]) {
-            break;
-        }
-        i = e;
-    }
-    i
-}
-
-// Whether s has no 1B. Every byte is tested, with no early way out, so that many are tested at once.
-fn clear(s: &[u8]) -> bool
-    ensures { λ r. ⌜ r ≡ lacks 0x1B (now (s .entry)) ⌝ }
-{
-    let mut hit = false;
-    let mut k = 0;
-    while k < s.len() {
-        hit = hit | (s[k] == 0x1B);
-        k += 1;
-    }
-    !hit
 }

@@ -3,6 +3,8 @@
 // No function here has a `requires`: any slices, any positions and any lengths are answered. What
 // later crates share besides (choices by a test, laws on lists, splitting at a byte) stands in
 // specs/ and proofs/.
+mod blocks;
+
 ghost use mathlib.Core.Path.{_≡_};
 ghost use Prim.Native.Nat.{_+_};
 ghost use lib.Dec.{leb};
@@ -52,7 +54,7 @@ pub fn find(s: &[u8], from: usize, b: u8) -> usize
     if from > s.len() {
         return from;
     }
-    bytes::scan::find(s, from, s.len(), b)
+    bytes::scan::find(s, blocks::pass(s, from, b), s.len(), b)
 }
 
 // The n bytes of s from place `start` on, and none where they pass its end.

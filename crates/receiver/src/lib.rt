@@ -38,7 +38,7 @@ pub fn feed(
         return refused(receiver, 9);
     }
     let owed = table.owed;
-    if sessions::is_owed(owed) {
+    if answers::is_owed(owed) {
         return refused(receiver, 10);
     }
     let scanned = frames::scan(framing, piece, carry);
@@ -52,7 +52,7 @@ pub fn allow(receiver: Receiver, id: &[u8], reply: &mut [u8]) -> Answered
     ensures { λ a. ⌜ outcome a (now (reply .exit)) ≡ allowOf receiver (now (id .entry)) (now (reply .entry)) ⌝ }
 {
     let table = receiver.table;
-    guarded(receiver, sessions::allow(table, id), reply)
+    guarded(receiver, answers::allow(table, id), reply)
 }
 
 // The user turns the asked session with this id away: reply EPERM.
@@ -60,7 +60,7 @@ pub fn deny(receiver: Receiver, id: &[u8], reply: &mut [u8]) -> Answered
     ensures { λ a. ⌜ outcome a (now (reply .exit)) ≡ denyOf receiver (now (id .entry)) (now (reply .entry)) ⌝ }
 {
     let table = receiver.table;
-    guarded(receiver, sessions::deny(table, id), reply)
+    guarded(receiver, answers::deny(table, id), reply)
 }
 
 // The console drops the session with this id, asked or open, and what it owed is cleared.
@@ -69,7 +69,7 @@ pub fn drop(receiver: Receiver, id: &[u8]) -> Answered
 {
     let framing = receiver.framing;
     let table = receiver.table;
-    answered(framing, sessions::drop(table, id), 0)
+    answered(framing, answers::drop(table, id), 0)
 }
 
 // The console has done what it was asked last.
@@ -77,7 +77,7 @@ pub fn done(receiver: Receiver, reply: &mut [u8]) -> Answered
     ensures { λ a. ⌜ outcome a (now (reply .exit)) ≡ doneOf receiver (now (reply .entry)) ⌝ }
 {
     let table = receiver.table;
-    guarded(receiver, sessions::done(table), reply)
+    guarded(receiver, answers::done(table), reply)
 }
 
 // The console has failed to do what it was asked last.
@@ -85,5 +85,5 @@ pub fn failed(receiver: Receiver, failure: Failure, reply: &mut [u8]) -> Answere
     ensures { λ a. ⌜ outcome a (now (reply .exit)) ≡ failedOf receiver failure (now (reply .entry)) ⌝ }
 {
     let table = receiver.table;
-    guarded(receiver, sessions::failed(table, failure), reply)
+    guarded(receiver, answers::failed(table, failure), reply)
 }

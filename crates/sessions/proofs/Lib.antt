@@ -1,6 +1,2 @@
-pub mod ArrayLaws
-pub mod SearchLaws
-pub mod CountLaws
-pub mod PadLaws
 pub mod ActionLaws
 pub mod KindLaws

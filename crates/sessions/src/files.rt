@@ -6,18 +6,6 @@ ghost use Rattle.protocol.specs.Table.{sessionAt, first, isFree, dropAt};
 ghost use Rattle.protocol.specs.Replies.{sessionReply};
 ghost use Rattle.protocol.specs.Files.{stepped, fileStatus, linkLike, isRsync, unsupported, badPermissions, openOwed, opening, fileRoom, fileChecked, fileOf, finishFound, finishOf};
 ghost use Rattle.sessions.specs.Decisions.{admitted};
-use crate::find::find_file;
-use crate::find::free_file;
-use crate::find::started_file;
-use crate::places::drop_at;
-use crate::places::put_file;
-use crate::places::session_at;
-use crate::places::with_owed;
-use crate::replies::asking;
-use crate::replies::file_reply;
-use crate::replies::padded;
-use crate::replies::session_reply;
-use crate::replies::stating;
 use command::Command;
 use command::FileType;
 use command::Transmission;
@@ -32,6 +20,18 @@ use protocol::Status;
 use protocol::Stepped;
 use protocol::Table;
 use protocol::Told;
+use tables::find::find_file;
+use tables::find::free_file;
+use tables::find::started_file;
+use tables::places::drop_at;
+use tables::places::put_file;
+use tables::places::session_at;
+use tables::places::with_owed;
+use tables::replies::asking;
+use tables::replies::file_reply;
+use tables::replies::padded;
+use tables::replies::session_reply;
+use tables::replies::stating;
 
 // What is decided of a file command: the status that refuses it, or the place of a free record.
 pub(crate) enum Admission {

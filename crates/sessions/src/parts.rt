@@ -1,21 +1,12 @@
-// The commands data and end_data: the parts of a file, and its count.
-ghost use Prim.Native.Nat.{ℕ, _+_, min};
+// The commands data and end_data: the parts of a file.
+ghost use Prim.Native.Nat.{ℕ};
 ghost use mathlib.Core.Path.{_≡_};
 ghost use mathlib.Core.Bool.{Bool};
 ghost use mathlib.Core.List.{List};
-ghost use lib.Dec.{ltb};
 ghost use Rattle.protocol.specs.Table.{sessionAt, fileAt};
-ghost use Rattle.protocol.specs.Files.{failedFile, writeOwed, writeAsk, countLimit, partAsked, partState, dataOf};
+ghost use Rattle.protocol.specs.Files.{failedFile, writeOwed, writeAsk, partAsked, partState, dataOf};
 ghost use Rattle.sessions.specs.Decisions.{writeAsked, judged};
 use crate::files::file_status;
-use crate::find::find_file;
-use crate::places::file_at;
-use crate::places::moved;
-use crate::places::put_file;
-use crate::places::session_at;
-use crate::places::with_owed;
-use crate::replies::asking;
-use crate::replies::ignored;
 use command::Command;
 use command::Place;
 use protocol::Ask;
@@ -27,11 +18,18 @@ use protocol::Session;
 use protocol::Status;
 use protocol::Stepped;
 use protocol::Table;
+use tables::counts::passes_limit;
+use tables::find::find_file;
+use tables::places::file_at;
+use tables::places::moved;
+use tables::places::put_file;
+use tables::places::session_at;
+use tables::places::with_owed;
+use tables::replies::asking;
+use tables::replies::ignored;
 
-// A part has at most so many bytes, and a file 2^40.
+// A part has at most so many bytes.
 const PART_LIMIT: usize = 4096;
-
-const COUNT_LIMIT: u64 = 1099511627776;
 
 // What is decided of a part: nothing happens, the file at a place fails, or a write to it is asked.
 pub(crate) enum Verdict {
@@ -88,27 +86,6 @@ fn measure(count: u64, j: usize, n: usize) -> Verdict
         return Verdict::Failed(j, Status::Efbig);
     }
     Verdict::At(j)
-}
-
-// Whether a count passes 2^40 with n bytes more.
-fn passes_limit(count: u64, n: usize) -> bool
-    ensures { λ r. ⌜ r ≡ ltb countLimit (count + n) ⌝ }
-{
-    if count > COUNT_LIMIT {
-        return true;
-    }
-    (n as u64) > COUNT_LIMIT - count
-}
-
-// A count with n bytes more, at most 2^40.
-pub(crate) fn grow(count: u64, n: usize) -> u64
-    ensures { λ r. ⌜ r ≡ min (count + n) countLimit ⌝ }
-{
-    if passes_limit(count, n) {
-        COUNT_LIMIT
-    } else {
-        count + (n as u64)
-    }
 }
 
 // The file at place j fails by the rule, with a status.

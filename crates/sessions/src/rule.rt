@@ -10,17 +10,7 @@ ghost use Rattle.protocol.specs.Files.{stepped};
 ghost use Rattle.protocol.specs.Sessions.{absentStatus, askedSession, sendRoom, absentResult, dropTold, canceled, invalid, presentResult};
 use crate::files::file;
 use crate::files::finish;
-use crate::find::free_session;
 use crate::parts::part;
-use crate::places::drop_at;
-use crate::places::put_session;
-use crate::places::session_at;
-use crate::replies::ignored;
-use crate::replies::padded;
-use crate::replies::reply_to;
-use crate::replies::session_reply;
-use crate::replies::stating;
-use crate::replies::telling;
 use command::Action;
 use command::Command;
 use protocol::Found;
@@ -31,6 +21,16 @@ use protocol::Status;
 use protocol::Stepped;
 use protocol::Table;
 use protocol::Told;
+use tables::find::free_session;
+use tables::places::drop_at;
+use tables::places::put_session;
+use tables::places::session_at;
+use tables::replies::ignored;
+use tables::replies::padded;
+use tables::replies::reply_to;
+use tables::replies::session_reply;
+use tables::replies::stating;
+use tables::replies::telling;
 
 // The action table's entry. A command without an action, which no text gives, is ignored.
 fn look_up(state: SessionState, action: Action) -> Kind

@@ -47,7 +47,7 @@ returns c =
 fill-requires : tie.Need-fill-requires
 fill-requires c κs =
     let k = c .before .before .before in
-    (sizes k .0, rw (size k) (leb-true _ _ (sym (c .before .before .fits2 .ensures) ∙ not-false _ (c .before .if1 .left))))
+    (valid k, rw (size k) (leb-true _ _ (sym (c .before .before .fits2 .ensures) ∙ not-false _ (c .before .if1 .left))))
 
 enum-known-fault : tie.Need-enum-known-fault
 enum-known-fault c = search needs

@@ -14,12 +14,15 @@ returns : tie.Need-returns
 unfolding indexOf
 returns c = rw (drop-end (c .before .before .args .s .now) (c .before .before .args .from) (omega arith), add-zero)
 
+pass-requires : tie.Need-pass-requires
+pass-requires c κs = search needs
+
 find-requires : tie.Need-find-requires
 find-requires c κs = search needs
 
 returns-2 : tie.Need-returns-2
 unfolding slice
-returns-2 c = c .find .ensures .0 ∙ rw (take-length (c .before .before .before .args .s .now))
+returns-2 c = c .find .ensures .0 ∙ rw (take-length (c .before .before .before .before .args .s .now)) (c .before .pass .ensures .1)
 
 pub find-spec : {M : Type 1} → statement M
-find-spec = tie.close (tie.spec returns find-requires returns-2)
+find-spec = tie.close (tie.spec returns pass-requires find-requires returns-2)

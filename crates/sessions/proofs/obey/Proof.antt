@@ -5,7 +5,7 @@ use Rattle.sessions.proofs.obey.Tie as tie
 use Rattle.sessions.proofs.obey.Reads as reads
 use Rattle.sessions.proofs.obey.Lts as lts
 use Rattle.octets.proofs.part.Reads as part-reads
-use Rattle.sessions.proofs.find.find_session.Reads as find-session-reads
+use Rattle.tables.proofs.find.find_session.Reads as find-session-reads
 use Rattle.sessions.proofs.rule.absent.Reads as absent-reads
 use Rattle.sessions.proofs.rule.present.Reads as present-reads
 

@@ -11,18 +11,24 @@ use Rattle.base64.proofs.decoder.check.Statement.{statement}
 use Rattle.base64.proofs.decoder.check.Tie as tie
 
 abbrev Inv-loop : tie.InvT-loop
-Inv-loop text p₀ i₀ p i = (i ≤ length text) × (scan p (drop i text) ≡ verdictOf text)
+Inv-loop text i₀ p₀ i p = (i ≤ length text) × (scan p (drop i text) ≡ verdictOf text)
 
 abbrev μ-loop : tie.MeasureT-loop
-μ-loop text p₀ i₀ p i = length text - i
+μ-loop text i₀ p₀ i p = length text - i
 
 returns : tie.Need-returns Inv-loop μ-loop
 unfolding verdictOf
 returns c = rw (ne-eqb _ _ (c .if1 .taken))
 
+pass-letters-requires : tie.Need-pass-letters-requires Inv-loop μ-loop
+pass-letters-requires c κs = search needs
+
+before-requires : tie.Need-before-requires Inv-loop μ-loop
+before-requires c κs = c .pass-letters .ensures .0
+
 loop-holds : tie.Need-loop-holds Inv-loop μ-loop
 unfolding verdictOf
-loop-holds c = (omega arith, rw (eq-eqb _ _ (c .if1 .left)))
+loop-holds c = (c .before .pass-letters .ensures .0, rw (c .before2 .ensures, eq-eqb _ _ (c .before .before .if1 .left)) (c .before .pass-letters .ensures .1))
 
 shared-slice-read-c : tie.Need-shared-slice-read-c Inv-loop μ-loop
 shared-slice-read-c c = omega arith
@@ -68,6 +74,8 @@ check-spec =
     Inv-loop
     μ-loop
     returns
+    pass-letters-requires
+    before-requires
     loop-holds
     shared-slice-read-c
     value-requires

@@ -8,8 +8,8 @@ use Rattle.frames.proofs.walk.glide.Tie as tie
 enum-told : tie.Need-enum-told
 enum-told c = search needs
 
-next-escape-requires : tie.Need-next-escape-requires
-next-escape-requires c κs = search needs
+find-requires : tie.Need-find-requires
+find-requires c κs = search needs
 
 enum-told-2 : tie.Need-enum-told-2
 enum-told-2 c = search needs
@@ -17,14 +17,14 @@ enum-told-2 c = search needs
 enum-known-f : tie.Need-enum-known-f
 enum-known-f c = search needs
 
-next-escape-requires-2 : tie.Need-next-escape-requires-2
-next-escape-requires-2 c κs = search needs
+find-requires-2 : tie.Need-find-requires-2
+find-requires-2 c κs = search needs
 
 enum-told-3 : tie.Need-enum-told-3
 enum-told-3 c = search needs
 
 returns : tie.Need-returns
-returns c = rw (c .before .enum-told .given .1) (c .next-escape .ensures)
+returns c = rw (c .before .enum-told .given .1) (c .find .ensures)
 
 returns-2 : tie.Need-returns-2
 returns-2 c = rw (c .enum-told2 .given .1) (sym (add-zero _))
@@ -33,7 +33,7 @@ returns-3 : tie.Need-returns-3
 returns-3 c = rw (c .before .before .f .given .1, lt-ltb _ _ (c .if1 .taken)) (sym (add-zero _))
 
 returns-4 : tie.Need-returns-4
-returns-4 c = rw (c .before .before .before .f .given .1, le-ltb _ _ (c .before .if1 .left)) (c .next-escape2 .ensures)
+returns-4 c = rw (c .before .before .before .f .given .1, le-ltb _ _ (c .before .if1 .left)) (c .find2 .ensures)
 
 returns-5 : tie.Need-returns-5
 returns-5 c = rw (c .enum-told3 .given .1) (sym (add-zero _))
@@ -43,10 +43,10 @@ glide-spec =
     tie.close
     (tie.spec
     enum-told
-    next-escape-requires
+    find-requires
     enum-told-2
     enum-known-f
-    next-escape-requires-2
+    find-requires-2
     enum-told-3
     returns
     returns-2

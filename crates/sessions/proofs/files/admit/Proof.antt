@@ -7,7 +7,7 @@ use Rattle.sessions.proofs.files.admit.Reads as reads
 use Rattle.sessions.proofs.files.admit.Lts as lts
 use Rattle.octets.proofs.part.Reads as part-reads
 use Rattle.sessions.proofs.files.admit_new.Reads as admit-new-reads
-use Rattle.sessions.proofs.find.find_file.Reads as find-file-reads
+use Rattle.tables.proofs.find.find_file.Reads as find-file-reads
 
 part-requires : tie.Need-part-requires
 part-requires c κs = search needs

@@ -3,8 +3,8 @@ use Rattle.sessions.proofs.files.ask_commit.Statement.{statement}
 use Rattle.sessions.proofs.files.ask_commit.Tie as tie
 use Rattle.sessions.proofs.files.ask_commit.Reads as reads
 use Rattle.sessions.proofs.files.ask_commit.Lts as lts
-use Rattle.sessions.proofs.places.with_owed.Reads as with-owed-reads
-use Rattle.sessions.proofs.replies.asking.Reads as asking-reads
+use Rattle.tables.proofs.places.with_owed.Reads as with-owed-reads
+use Rattle.tables.proofs.replies.asking.Reads as asking-reads
 
 with-owed-requires : tie.Need-with-owed-requires
 with-owed-requires c κs = search needs

@@ -6,9 +6,9 @@ use Rattle.sessions.proofs.files.ask_open.Lts as lts
 use Rattle.octets.proofs.part.Reads as part-reads
 use Rattle.sessions.proofs.files.open_owed.Reads as open-owed-reads
 use Rattle.sessions.proofs.files.opening.Reads as opening-reads
-use Rattle.sessions.proofs.places.put_file.Reads as put-file-reads
-use Rattle.sessions.proofs.places.with_owed.Reads as with-owed-reads
-use Rattle.sessions.proofs.replies.asking.Reads as asking-reads
+use Rattle.tables.proofs.places.put_file.Reads as put-file-reads
+use Rattle.tables.proofs.places.with_owed.Reads as with-owed-reads
+use Rattle.tables.proofs.replies.asking.Reads as asking-reads
 
 part-requires : tie.Need-part-requires
 part-requires c κs = search needs

@@ -3,8 +3,8 @@ use Rattle.sessions.proofs.files.discard.Statement.{statement}
 use Rattle.sessions.proofs.files.discard.Tie as tie
 use Rattle.sessions.proofs.files.discard.Reads as reads
 use Rattle.sessions.proofs.files.discard.Lts as lts
-use Rattle.sessions.proofs.places.drop_at.Reads as drop-at-reads
-use Rattle.sessions.proofs.replies.session_reply.Reads as session-reply-reads
+use Rattle.tables.proofs.places.drop_at.Reads as drop-at-reads
+use Rattle.tables.proofs.replies.session_reply.Reads as session-reply-reads
 
 drop-at-requires : tie.Need-drop-at-requires
 drop-at-requires c κs = search needs

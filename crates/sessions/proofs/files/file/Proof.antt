@@ -7,7 +7,7 @@ use Rattle.sessions.proofs.files.file.Lts as lts
 use Rattle.sessions.proofs.files.admit.Reads as admit-reads
 use Rattle.sessions.proofs.files.ask_open.Reads as ask-open-reads
 use Rattle.sessions.proofs.files.file_status.Reads as file-status-reads
-use Rattle.sessions.proofs.places.session_at.Reads as session-at-reads
+use Rattle.tables.proofs.places.session_at.Reads as session-at-reads
 
 session-at-requires : tie.Need-session-at-requires
 session-at-requires c κs = search needs

@@ -3,7 +3,7 @@ use Rattle.sessions.proofs.files.find_room.Statement.{statement}
 use Rattle.sessions.proofs.files.find_room.Tie as tie
 use Rattle.sessions.proofs.files.find_room.Reads as reads
 use Rattle.sessions.proofs.files.find_room.Lts as lts
-use Rattle.sessions.proofs.find.free_file.Reads as free-file-reads
+use Rattle.tables.proofs.find.free_file.Reads as free-file-reads
 
 free-file-requires : tie.Need-free-file-requires
 free-file-requires c κs = search needs

@@ -6,8 +6,8 @@ use Rattle.sessions.proofs.files.finish.Reads as reads
 use Rattle.sessions.proofs.files.finish.Lts as lts
 use Rattle.sessions.proofs.files.ask_commit.Reads as ask-commit-reads
 use Rattle.sessions.proofs.files.discard.Reads as discard-reads
-use Rattle.sessions.proofs.find.started_file.Reads as started-file-reads
-use Rattle.sessions.proofs.places.session_at.Reads as session-at-reads
+use Rattle.tables.proofs.find.started_file.Reads as started-file-reads
+use Rattle.tables.proofs.places.session_at.Reads as session-at-reads
 
 session-at-requires : tie.Need-session-at-requires
 session-at-requires c κs = search needs

@@ -3,7 +3,7 @@ use Rattle.sessions.proofs.files.opening.Statement.{statement}
 use Rattle.sessions.proofs.files.opening.Tie as tie
 use Rattle.sessions.proofs.files.opening.Reads as reads
 use Rattle.sessions.proofs.files.opening.Lts as lts
-use Rattle.sessions.proofs.replies.padded.Reads as padded-reads
+use Rattle.tables.proofs.replies.padded.Reads as padded-reads
 
 padded-requires : tie.Need-padded-requires
 padded-requires c κs = search needs

@@ -5,8 +5,8 @@ use Rattle.sessions.proofs.parts.ask_write.Reads as reads
 use Rattle.sessions.proofs.parts.ask_write.Lts as lts
 use Rattle.sessions.proofs.parts.write_ask.Reads as write-ask-reads
 use Rattle.sessions.proofs.parts.write_owed.Reads as write-owed-reads
-use Rattle.sessions.proofs.places.with_owed.Reads as with-owed-reads
-use Rattle.sessions.proofs.replies.asking.Reads as asking-reads
+use Rattle.tables.proofs.places.with_owed.Reads as with-owed-reads
+use Rattle.tables.proofs.replies.asking.Reads as asking-reads
 
 write-owed-requires : tie.Need-write-owed-requires
 write-owed-requires c κs = search needs

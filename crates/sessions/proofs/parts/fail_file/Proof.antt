@@ -4,10 +4,10 @@ use Rattle.sessions.proofs.parts.fail_file.Tie as tie
 use Rattle.sessions.proofs.parts.fail_file.Reads as reads
 use Rattle.sessions.proofs.parts.fail_file.Lts as lts
 use Rattle.sessions.proofs.files.file_status.Reads as file-status-reads
-use Rattle.sessions.proofs.places.file_at.Reads as file-at-reads
-use Rattle.sessions.proofs.places.moved.Reads as moved-reads
-use Rattle.sessions.proofs.places.put_file.Reads as put-file-reads
-use Rattle.sessions.proofs.places.session_at.Reads as session-at-reads
+use Rattle.tables.proofs.places.file_at.Reads as file-at-reads
+use Rattle.tables.proofs.places.moved.Reads as moved-reads
+use Rattle.tables.proofs.places.put_file.Reads as put-file-reads
+use Rattle.tables.proofs.places.session_at.Reads as session-at-reads
 
 session-at-requires : tie.Need-session-at-requires
 session-at-requires c κs = search needs

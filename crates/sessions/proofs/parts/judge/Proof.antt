@@ -7,9 +7,9 @@ use Rattle.sessions.proofs.parts.judge.Tie as tie
 use Rattle.sessions.proofs.parts.judge.Reads as reads
 use Rattle.sessions.proofs.parts.judge.Lts as lts
 use Rattle.octets.proofs.part.Reads as part-reads
-use Rattle.sessions.proofs.find.find_file.Reads as find-file-reads
+use Rattle.tables.proofs.find.find_file.Reads as find-file-reads
 use Rattle.sessions.proofs.parts.judge_at.Reads as judge-at-reads
-use Rattle.sessions.proofs.places.file_at.Reads as file-at-reads
+use Rattle.tables.proofs.places.file_at.Reads as file-at-reads
 
 part-requires : tie.Need-part-requires
 part-requires c κs = search needs

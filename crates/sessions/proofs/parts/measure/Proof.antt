@@ -5,7 +5,7 @@ use Rattle.sessions.proofs.parts.measure.Statement.{statement}
 use Rattle.sessions.proofs.parts.measure.Tie as tie
 use Rattle.sessions.proofs.parts.measure.Reads as reads
 use Rattle.sessions.proofs.parts.measure.Lts as lts
-use Rattle.sessions.proofs.parts.passes_limit.Reads as passes-limit-reads
+use Rattle.tables.proofs.counts.passes_limit.Reads as passes-limit-reads
 
 returns : tie.Need-returns
 unfolding partAsked

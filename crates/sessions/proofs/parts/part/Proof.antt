@@ -7,8 +7,8 @@ use Rattle.sessions.proofs.parts.part.Lts as lts
 use Rattle.sessions.proofs.parts.ask_write.Reads as ask-write-reads
 use Rattle.sessions.proofs.parts.fail_file.Reads as fail-file-reads
 use Rattle.sessions.proofs.parts.judge.Reads as judge-reads
-use Rattle.sessions.proofs.places.session_at.Reads as session-at-reads
-use Rattle.sessions.proofs.replies.ignored.Reads as ignored-reads
+use Rattle.tables.proofs.places.session_at.Reads as session-at-reads
+use Rattle.tables.proofs.replies.ignored.Reads as ignored-reads
 
 session-at-requires : tie.Need-session-at-requires
 session-at-requires c κs = search needs

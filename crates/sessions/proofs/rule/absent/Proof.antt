@@ -5,7 +5,7 @@ use Rattle.sessions.proofs.rule.absent.Statement.{statement}
 use Rattle.sessions.proofs.rule.absent.Tie as tie
 use Rattle.sessions.proofs.rule.absent.Reads as reads
 use Rattle.sessions.proofs.rule.absent.Lts as lts
-use Rattle.sessions.proofs.replies.ignored.Reads as ignored-reads
+use Rattle.tables.proofs.replies.ignored.Reads as ignored-reads
 use Rattle.sessions.proofs.rule.absent_status.Reads as absent-status-reads
 use Rattle.sessions.proofs.rule.look_up.Reads as look-up-reads
 use Rattle.sessions.proofs.rule.send.Reads as send-reads

@@ -4,9 +4,9 @@ use Rattle.sessions.proofs.rule.absent_status.Tie as tie
 use Rattle.sessions.proofs.rule.absent_status.Reads as reads
 use Rattle.sessions.proofs.rule.absent_status.Lts as lts
 use Rattle.octets.proofs.part.Reads as part-reads
-use Rattle.sessions.proofs.replies.padded.Reads as padded-reads
-use Rattle.sessions.proofs.replies.reply_to.Reads as reply-to-reads
-use Rattle.sessions.proofs.replies.stating.Reads as stating-reads
+use Rattle.tables.proofs.replies.padded.Reads as padded-reads
+use Rattle.tables.proofs.replies.reply_to.Reads as reply-to-reads
+use Rattle.tables.proofs.replies.stating.Reads as stating-reads
 
 part-requires : tie.Need-part-requires
 part-requires c κs = search needs

@@ -3,8 +3,8 @@ use Rattle.sessions.proofs.rule.ask_user.Statement.{statement}
 use Rattle.sessions.proofs.rule.ask_user.Tie as tie
 use Rattle.sessions.proofs.rule.ask_user.Reads as reads
 use Rattle.sessions.proofs.rule.ask_user.Lts as lts
-use Rattle.sessions.proofs.places.put_session.Reads as put-session-reads
-use Rattle.sessions.proofs.replies.telling.Reads as telling-reads
+use Rattle.tables.proofs.places.put_session.Reads as put-session-reads
+use Rattle.tables.proofs.replies.telling.Reads as telling-reads
 use Rattle.sessions.proofs.rule.asked.Reads as asked-reads
 
 asked-requires : tie.Need-asked-requires

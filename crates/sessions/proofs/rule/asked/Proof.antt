@@ -4,7 +4,7 @@ use Rattle.sessions.proofs.rule.asked.Tie as tie
 use Rattle.sessions.proofs.rule.asked.Reads as reads
 use Rattle.sessions.proofs.rule.asked.Lts as lts
 use Rattle.octets.proofs.part.Reads as part-reads
-use Rattle.sessions.proofs.replies.padded.Reads as padded-reads
+use Rattle.tables.proofs.replies.padded.Reads as padded-reads
 
 part-requires : tie.Need-part-requires
 part-requires c κs = search needs

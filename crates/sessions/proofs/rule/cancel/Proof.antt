@@ -3,8 +3,8 @@ use Rattle.sessions.proofs.rule.cancel.Statement.{statement}
 use Rattle.sessions.proofs.rule.cancel.Tie as tie
 use Rattle.sessions.proofs.rule.cancel.Reads as reads
 use Rattle.sessions.proofs.rule.cancel.Lts as lts
-use Rattle.sessions.proofs.places.drop_at.Reads as drop-at-reads
-use Rattle.sessions.proofs.replies.session_reply.Reads as session-reply-reads
+use Rattle.tables.proofs.places.drop_at.Reads as drop-at-reads
+use Rattle.tables.proofs.replies.session_reply.Reads as session-reply-reads
 use Rattle.sessions.proofs.rule.drop_told.Reads as drop-told-reads
 
 drop-at-requires : tie.Need-drop-at-requires

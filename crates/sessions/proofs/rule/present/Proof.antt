@@ -7,8 +7,8 @@ use Rattle.sessions.proofs.rule.present.Lts as lts
 use Rattle.sessions.proofs.files.file.Reads as file-reads
 use Rattle.sessions.proofs.files.finish.Reads as finish-reads
 use Rattle.sessions.proofs.parts.part.Reads as part-reads
-use Rattle.sessions.proofs.places.session_at.Reads as session-at-reads
-use Rattle.sessions.proofs.replies.ignored.Reads as ignored-reads
+use Rattle.tables.proofs.places.session_at.Reads as session-at-reads
+use Rattle.tables.proofs.replies.ignored.Reads as ignored-reads
 use Rattle.sessions.proofs.rule.cancel.Reads as cancel-reads
 use Rattle.sessions.proofs.rule.look_up.Reads as look-up-reads
 use Rattle.sessions.proofs.rule.reject.Reads as reject-reads

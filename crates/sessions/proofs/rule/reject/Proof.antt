@@ -3,8 +3,8 @@ use Rattle.sessions.proofs.rule.reject.Statement.{statement}
 use Rattle.sessions.proofs.rule.reject.Tie as tie
 use Rattle.sessions.proofs.rule.reject.Reads as reads
 use Rattle.sessions.proofs.rule.reject.Lts as lts
-use Rattle.sessions.proofs.replies.session_reply.Reads as session-reply-reads
-use Rattle.sessions.proofs.replies.stating.Reads as stating-reads
+use Rattle.tables.proofs.replies.session_reply.Reads as session-reply-reads
+use Rattle.tables.proofs.replies.stating.Reads as stating-reads
 
 session-reply-requires : tie.Need-session-reply-requires
 session-reply-requires c κs = search needs

@@ -3,7 +3,7 @@ use Rattle.sessions.proofs.rule.send.Statement.{statement}
 use Rattle.sessions.proofs.rule.send.Tie as tie
 use Rattle.sessions.proofs.rule.send.Reads as reads
 use Rattle.sessions.proofs.rule.send.Lts as lts
-use Rattle.sessions.proofs.find.free_session.Reads as free-session-reads
+use Rattle.tables.proofs.find.free_session.Reads as free-session-reads
 use Rattle.sessions.proofs.rule.absent_status.Reads as absent-status-reads
 use Rattle.sessions.proofs.rule.ask_user.Reads as ask-user-reads
 

@@ -3,8 +3,8 @@ use Rattle.sessions.proofs.rule.withdraw.Statement.{statement}
 use Rattle.sessions.proofs.rule.withdraw.Tie as tie
 use Rattle.sessions.proofs.rule.withdraw.Reads as reads
 use Rattle.sessions.proofs.rule.withdraw.Lts as lts
-use Rattle.sessions.proofs.places.drop_at.Reads as drop-at-reads
-use Rattle.sessions.proofs.replies.telling.Reads as telling-reads
+use Rattle.tables.proofs.places.drop_at.Reads as drop-at-reads
+use Rattle.tables.proofs.replies.telling.Reads as telling-reads
 use Rattle.sessions.proofs.rule.drop_told.Reads as drop-told-reads
 
 drop-at-requires : tie.Need-drop-at-requires

@@ -1,0 +1,145 @@
+use Prim.Native.Nat.{ℕ, _+_, _≤_}
+use mathlib.Core.Path.{_≡_, refl, ap}
+use mathlib.Core.List.{List}
+use native.Mathlib.Omega.{arith}
+use lib.ListN.{length, getD, drop, set, length-set}
+use lib.Seq.{sets}
+use borrow.Author.Needs.{needs}
+use Rattle.octets.proofs.Stores.{put1, put2, put3}
+use Rattle.base64.specs.Alphabet.{pad, valueOf}
+use Rattle.base64.specs.Decode.{byte1, byte2, byte3, bytesOf}
+use Rattle.base64.proofs.Turns.{some-byte, some-bytes, one-byte, two-bytes, three-bytes, no-bytes}
+use Rattle.base64.proofs.decoder.last.Statement.{statement}
+use Rattle.base64.proofs.decoder.last.Tie as tie
+
+-- one, two or three bytes, by the padding
+module _ (l : List ℕ) (o : ℕ) (t : List ℕ) (i : ℕ) (h : i + 4 ≡ length t) where
+  stored1 : getD t (i + 2) 0 ≡ pad → set l o (byte1 (valueOf (getD t i 0)) (valueOf (getD t (i + 1) 0))) ≡ sets l o (bytesOf (drop i t))
+  stored1 e = rw (no-bytes t (i + 4) (omega arith)) at (put1 l o (one-byte t i (omega arith) e) refl)
+
+  stored2 : (getD t (i + 2) 0 ≡ pad → ⊥) → getD t (i + 3) 0 ≡ pad
+      → set (set l o (byte1 (valueOf (getD t i 0)) (valueOf (getD t (i + 1) 0)))) (o + 1) (byte2 (valueOf (getD t (i + 1) 0)) (valueOf (getD t (i + 2) 0)))
+      ≡ sets l o (bytesOf (drop i t))
+  stored2 n e = rw (no-bytes t (i + 4) (omega arith)) at (put2 l o (two-bytes t i (omega arith) n e) refl)
+
+  stored3 : (getD t (i + 2) 0 ≡ pad → ⊥) → (getD t (i + 3) 0 ≡ pad → ⊥)
+      → set (set (set l o (byte1 (valueOf (getD t i 0)) (valueOf (getD t (i + 1) 0)))) (o + 1) (byte2 (valueOf (getD t (i + 1) 0)) (valueOf (getD t (i + 2) 0)))) (o + 2) (byte3 (valueOf (getD t (i + 2) 0)) (valueOf (getD t (i + 3) 0)))
+      ≡ sets l o (bytesOf (drop i t))
+  stored3 n e = rw (no-bytes t (i + 4) (omega arith)) at (put3 l o (three-bytes t i (omega arith) n e) refl)
+
+shared-slice-read-value : tie.Need-shared-slice-read-value
+shared-slice-read-value c = search needs
+
+value-requires : tie.Need-value-requires
+value-requires c κs = search needs
+
+add-value : tie.Need-add-value
+add-value c = search needs
+
+shared-slice-read-value-2 : tie.Need-shared-slice-read-value-2
+shared-slice-read-value-2 c = search needs
+
+value-requires-2 : tie.Need-value-requires-2
+value-requires-2 c κs = search needs
+
+add-c : tie.Need-add-c
+add-c c = search needs
+
+shared-slice-read-c : tie.Need-shared-slice-read-c
+shared-slice-read-c c = search needs
+
+add-d : tie.Need-add-d
+add-d c = search needs
+
+shared-slice-read-d : tie.Need-shared-slice-read-d
+shared-slice-read-d c = search needs
+
+byte1-requires : tie.Need-byte1-requires
+byte1-requires c κs = search needs
+
+slice-write-out : tie.Need-slice-write-out
+slice-write-out c =
+    let a = c .before .before .before .before .before .before .before .before .before .args in
+    omega (arith, some-byte (a .text .now) (a .i) (omega arith))
+
+same-length : tie.Need-same-length
+same-length c = search needs
+
+returns : tie.Need-returns
+returns c =
+    let a = c .before .before .before .before .before .before .before .before .before .before .args in
+    rw (c .before .byte1 .ensures, c .before .before .before .before .before .before .value .ensures .0, c .before .before .before .before .value2 .ensures .0) (stored1 (a .out .now) (a .o) (a .text .now) (a .i) (omega arith) (c .if1 .taken))
+
+value-requires-3 : tie.Need-value-requires-3
+value-requires-3 c κs = search needs
+
+byte2-requires : tie.Need-byte2-requires
+byte2-requires c κs = search needs
+
+add-out : tie.Need-add-out
+add-out c = search needs
+
+slice-write-out-2 : tie.Need-slice-write-out-2
+slice-write-out-2 c =
+    let a = c .before .before .before .before .before .before .before .before .before .before .before .before .args in
+    simp length-set (omega (arith, some-bytes (a .text .now) (a .i) (omega arith) (c .before .before .if1 .left)))
+
+same-length-2 : tie.Need-same-length-2
+same-length-2 c = search needs
+
+returns-2 : tie.Need-returns-2
+returns-2 c =
+    let a = c .before .before .before .before .before .before .before .before .before .before .before .before .before .args in
+    rw (c .before .byte2 .ensures, c .before .before .value3 .ensures .0, c .before .before .before .before .byte1 .ensures, c .before .before .before .before .before .before .before .before .before .value .ensures .0, c .before .before .before .before .before .before .before .value2 .ensures .0) (stored2 (a .out .now) (a .o) (a .text .now) (a .i) (omega arith) (c .before .before .before .if1 .left) (c .if2 .taken))
+
+value-requires-4 : tie.Need-value-requires-4
+value-requires-4 c κs = search needs
+
+byte3-requires : tie.Need-byte3-requires
+byte3-requires c κs = search needs
+
+add-out-2 : tie.Need-add-out-2
+add-out-2 c = search needs
+
+slice-write-out-3 : tie.Need-slice-write-out-3
+slice-write-out-3 c =
+    let a = c .before .before .before .before .before .before .before .before .before .before .before .before .before .before .before .args in
+    simp length-set (omega (arith, ap length (three-bytes (a .text .now) (a .i) (omega arith) (c .before .before .before .before .before .if1 .left) (c .before .before .if2 .left))))
+
+same-length-3 : tie.Need-same-length-3
+same-length-3 c = search needs
+
+returns-3 : tie.Need-returns-3
+returns-3 c =
+    let a = c .before .before .before .before .before .before .before .before .before .before .before .before .before .before .before .args in
+    rw (c .byte3 .ensures, c .before .value4 .ensures .0, c .before .before .before .byte2 .ensures, c .before .before .before .before .value3 .ensures .0, c .before .before .before .before .before .before .byte1 .ensures, c .before .before .before .before .before .before .before .before .before .before .before .value .ensures .0, c .before .before .before .before .before .before .before .before .before .value2 .ensures .0) (stored3 (a .out .now) (a .o) (a .text .now) (a .i) (omega arith) (c .before .before .before .before .before .if1 .left) (c .before .before .if2 .left))
+
+pub last-spec : {M : Type 1} → statement M
+last-spec =
+    tie.close
+    (tie.spec
+    shared-slice-read-value
+    value-requires
+    add-value
+    shared-slice-read-value-2
+    value-requires-2
+    add-c
+    shared-slice-read-c
+    add-d
+    shared-slice-read-d
+    byte1-requires
+    slice-write-out
+    same-length
+    returns
+    value-requires-3
+    byte2-requires
+    add-out
+    slice-write-out-2
+    same-length-2
+    returns-2
+    value-requires-4
+    byte3-requires
+    add-out-2
+    slice-write-out-3
+    same-length-3
+    returns-3)

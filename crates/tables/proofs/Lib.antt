@@ -1,0 +1,4 @@
+pub mod ArrayLaws
+pub mod SearchLaws
+pub mod CountLaws
+pub mod PadLaws
