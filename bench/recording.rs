@@ -1,5 +1,5 @@
 // Writes a recording to standard output: one session with one file, in `PARTS` parts of `SIZE` bytes of data that looks random.
-// With a third word, `base64`, it writes only the data's Base64, a part to a line.
+// With a third word, `base64`, it writes only the data's Base64, a part to a line; with `noise`, screen output before each command.
 use std::io::{self, BufWriter, Write};
 
 const LETTERS: &[u8; 64] = b"ABCDEFGHIJKLMNOPQRSTUVWXYZabcdefghijklmnopqrstuvwxyz0123456789+/";
@@ -25,7 +25,9 @@ fn main() -> io::Result<()> {
     let words: Vec<String> = std::env::args().collect();
     let parts: usize = words[1].parse().unwrap();
     let size: usize = words[2].parse().unwrap();
-    let bare = words.len() > 3;
+    let how = words.get(3).map_or("", String::as_str);
+    let bare = how == "base64";
+    let screen = if how == "noise" { b"\x1b[31msending\x1b[0m the table of owners\r\n".repeat(6) } else { Vec::new() };
     let mut out = BufWriter::new(io::stdout());
     let mut seed: u64 = 1;
     let mut data = vec![0u8; size];
@@ -47,6 +49,7 @@ fn main() -> io::Result<()> {
             out.write_all(&text)?;
             out.write_all(b"\n")?;
         } else {
+            out.write_all(&screen)?;
             frame(&mut out, &text)?;
         }
     }

@@ -1,0 +1,120 @@
+//! Compares the programs under test with the reference; run at the repository's root.
+
+use reference::compare::judge::{expected_of_recording, expected_of_script, Case, Tally, KEEP_IN};
+use reference::compare::mutate::Stored;
+use reference::compare::{programs, special, work};
+use std::process::ExitCode;
+use std::time::{Duration, Instant};
+use std::{env, fs};
+
+const USAGE: &str = "compare quick | long | fuzz SECONDS [SEED] | one KIND SEED
+KIND: script, recording, fuzz-script, fuzz-raw, fuzz-recording";
+
+/// Whether things that never came up are a fault.
+#[derive(PartialEq)]
+enum Cover {
+    Must,
+    May,
+}
+
+fn main() -> ExitCode {
+    let args: Vec<String> = env::args().skip(1).collect();
+    let args: Vec<&str> = args.iter().map(String::as_str).collect();
+    if !programs::present() {
+        println!("{} or {} is missing", programs::DRIVE, programs::REPLAY);
+        return ExitCode::FAILURE;
+    }
+    let start = Instant::now();
+    let number = |text: &str| text.parse::<u64>().ok();
+    match args[..] {
+        ["quick"] => finish(start, generated(2_000, 500), Cover::Must),
+        ["long"] => finish(start, generated(100_000, 20_000), Cover::Must),
+        ["fuzz", seconds] => fuzz(start, number(seconds), Some(1)),
+        ["fuzz", seconds, seed] => fuzz(start, number(seconds), number(seed)),
+        ["one", kind, seed] => number(seed).and_then(|seed| one(kind, seed)).unwrap_or_else(usage),
+        _ => usage(),
+    }
+}
+
+fn usage() -> ExitCode {
+    println!("{USAGE}");
+    ExitCode::FAILURE
+}
+
+fn generated(scripts: u64, recordings: u64) -> Tally {
+    let mut tally = Tally::default();
+    special::judge(&mut tally);
+    tally.join(work::generated(scripts, recordings));
+    tally
+}
+
+fn fuzz(start: Instant, seconds: Option<u64>, seed: Option<u64>) -> ExitCode {
+    let (Some(seconds), Some(seed)) = (seconds, seed) else {
+        return usage();
+    };
+    let tally = work::fuzzed(Duration::from_secs(seconds), seed, &stored());
+    finish(start, tally, Cover::May)
+}
+
+/// The inputs that stand in the repository; those that are missing are left out.
+fn stored() -> Stored {
+    let mut stored = Stored::default();
+    let kept = ["mirror-three", "mirror-parts", "mirror-directory"].map(|name| format!("tests/kitty/recordings/{name}.rec"));
+    for path in kept.iter().map(String::as_str).chain(["crates/replay/stdin"]) {
+        stored.recordings.extend(fs::read(path));
+    }
+    if let Ok(script) = fs::read("crates/drive/stdin") {
+        stored.add_script(&script);
+    }
+    stored
+}
+
+fn finish(start: Instant, tally: Tally, cover: Cover) -> ExitCode {
+    let cases = tally.scripts + tally.recordings;
+    println!("scripts: {}, recordings: {}", tally.scripts, tally.recordings);
+    println!("runs of a program: {}, bytes: {}", tally.runs, tally.bytes);
+    tally.coverage.print();
+    let missing = tally.coverage.missing();
+    if !missing.is_empty() {
+        println!("never came up: {}", missing.join(", "));
+    }
+    println!("seconds: {:.1}", start.elapsed().as_secs_f64());
+    if tally.differ > 0 {
+        println!("the first differing inputs are in {KEEP_IN}");
+    }
+    println!("{} agree, {} differ", cases.saturating_sub(tally.differ), tally.differ);
+    let covered = cover == Cover::May || missing.is_empty();
+    if tally.differ == 0 && covered {
+        ExitCode::SUCCESS
+    } else {
+        ExitCode::FAILURE
+    }
+}
+
+/// Writes one input out with what both sides make of it.
+fn one(kind: &str, seed: u64) -> Option<ExitCode> {
+    let stored = stored();
+    let Case { name, input } = match kind {
+        "script" => work::script_case(seed),
+        "recording" => work::recording_case(seed),
+        "fuzz-script" => work::mutated_script_case(seed, &stored),
+        "fuzz-raw" => work::raw_script_case(seed, &stored),
+        "fuzz-recording" => work::mutated_recording_case(seed, &stored),
+        _ => return None,
+    };
+    let (program, expected) = if kind.ends_with("recording") {
+        (programs::REPLAY, expected_of_recording(&input))
+    } else {
+        (programs::DRIVE, expected_of_script(&input))
+    };
+    let actual = programs::run(program, &input, input.len().max(1));
+    let path = format!("target/reference/{name}");
+    for (end, bytes) in [("in", &input), ("expected", &expected), ("actual", &actual)] {
+        if let Err(error) = fs::write(format!("{path}.{end}"), bytes) {
+            println!("cannot write {path}.{end}: {error}");
+        }
+    }
+    println!("{path}.in, {path}.expected (the reference), {path}.actual ({program})");
+    println!("{}", if actual == expected { "agree" } else { "differ" });
+    Some(if actual == expected { ExitCode::SUCCESS } else { ExitCode::FAILURE })
+}

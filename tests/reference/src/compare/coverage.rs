@@ -1,0 +1,101 @@
+//! Counts what came up in the outputs: refusals, statuses sent, and what the console was told.
+
+use crate::receiver::base64;
+use std::collections::BTreeMap;
+
+#[rustfmt::skip]
+const TOLD: [&str; 11] = [
+    "none", "ignored", "asked", "open", "write", "last", "commit", "withdrawn", "discarded",
+    "committed", "status",
+];
+
+/// The statuses that an input of sensible size reaches; EFBIG needs 2^28 parts.
+#[rustfmt::skip]
+const STATUSES: [&str; 13] = [
+    "OK", "STARTED", "PROGRESS", "CANCELED", "EBUSY", "ENOTSUP", "EINVAL", "EPERM", "EIO",
+    "ENOENT", "ENOSPC", "EEXIST", "EMFILE",
+];
+
+#[derive(Default)]
+pub struct Coverage {
+    refusals: BTreeMap<u8, u64>,
+    told: BTreeMap<String, u64>,
+    statuses: BTreeMap<String, u64>,
+    lines: u64,
+}
+
+impl Coverage {
+    /// Counts in the output of a script.
+    pub fn script(&mut self, output: &[u8]) {
+        for line in output.split(|&b| b == b'\n').filter(|line| !line.is_empty()) {
+            self.lines += 1;
+            let fields: Vec<&[u8]> = line.split(|&b| b == b' ').collect();
+            if fields.len() == 8 {
+                self.answer(&fields);
+            }
+        }
+    }
+
+    fn answer(&mut self, fields: &[&[u8]]) {
+        let number = std::str::from_utf8(fields[1]).ok().and_then(|text| text.parse().ok());
+        *self.refusals.entry(number.unwrap_or(255)).or_default() += 1;
+        let told = fields[3].split(|&b| b == b':').next().unwrap_or_default();
+        *self.told.entry(String::from_utf8_lossy(told).into_owned()).or_default() += 1;
+        self.replies(&unhex(fields[4]));
+    }
+
+    /// Counts the replies in a run of bytes.
+    pub fn replies(&mut self, bytes: &[u8]) {
+        for text in bytes.split(|&b| b == 0x1b) {
+            let Some(place) = text.windows(4).position(|part| part == b";st=") else {
+                continue;
+            };
+            let value = &text[place + 4..];
+            let mut word = vec![0; base64::check(value).unwrap_or(0)];
+            base64::decode(value, &mut word);
+            *self.statuses.entry(String::from_utf8_lossy(&word).into_owned()).or_default() += 1;
+        }
+    }
+
+    pub fn join(&mut self, other: Coverage) {
+        join(&mut self.refusals, other.refusals);
+        join(&mut self.told, other.told);
+        join(&mut self.statuses, other.statuses);
+        self.lines += other.lines;
+    }
+
+    /// What should have come up and did not.
+    pub fn missing(&self) -> Vec<String> {
+        let refusals = (1..=12u8).filter(|no| !self.refusals.contains_key(no));
+        let told = TOLD.iter().filter(|kind| !self.told.contains_key(**kind));
+        let statuses = STATUSES.iter().filter(|word| !self.statuses.contains_key(**word));
+        refusals
+            .map(|no| format!("refusal {no}"))
+            .chain(told.map(|kind| format!("told {kind}")))
+            .chain(statuses.map(|word| format!("status {word}")))
+            .collect()
+    }
+
+    pub fn print(&self) {
+        println!("lines of scripts: {}", self.lines);
+        println!("refusals: {}", listed(&self.refusals));
+        println!("told: {}", listed(&self.told));
+        println!("statuses sent: {}", listed(&self.statuses));
+    }
+}
+
+fn join<K: Ord>(into: &mut BTreeMap<K, u64>, from: BTreeMap<K, u64>) {
+    for (key, count) in from {
+        *into.entry(key).or_default() += count;
+    }
+}
+
+fn listed<K: std::fmt::Display>(counts: &BTreeMap<K, u64>) -> String {
+    let items: Vec<String> = counts.iter().map(|(key, n)| format!("{key} {n}")).collect();
+    items.join(", ")
+}
+
+fn unhex(text: &[u8]) -> Vec<u8> {
+    let digit = |b: u8| (b as char).to_digit(16).unwrap_or(0) as u8;
+    text.chunks_exact(2).map(|pair| digit(pair[0]) << 4 | digit(pair[1])).collect()
+}

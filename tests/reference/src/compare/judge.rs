@@ -1,0 +1,162 @@
+//! Runs a case on both sides, counts, and keeps the cases that differ.
+
+use super::coverage::Coverage;
+use super::programs::{self, DRIVE, REPLAY};
+use super::shrink::shrink;
+use crate::console::{self, LONGEST_SCRIPT};
+use crate::replay::Replay;
+use crate::script::{self, Op, Ops};
+use std::fs;
+use std::sync::atomic::{AtomicUsize, Ordering};
+
+pub const KEEP_IN: &str = "target/reference/differ";
+/// At most so many differing cases are kept.
+const MOST_KEPT: usize = 8;
+
+static KEPT: AtomicUsize = AtomicUsize::new(0);
+
+/// A script or recording with a name that says how it was made.
+pub struct Case {
+    pub name: String,
+    pub input: Vec<u8>,
+}
+
+#[derive(Default)]
+pub struct Tally {
+    pub coverage: Coverage,
+    pub scripts: u64,
+    pub recordings: u64,
+    pub runs: u64,
+    pub bytes: u64,
+    pub differ: u64,
+}
+
+pub fn expected_of_script(input: &[u8]) -> Vec<u8> {
+    let mut out = Vec::new();
+    console::run(input, &mut out);
+    out
+}
+
+pub fn expected_of_recording(input: &[u8]) -> Vec<u8> {
+    let mut out = Vec::new();
+    Replay::default().take(input, &mut out);
+    out
+}
+
+impl Tally {
+    /// Judges scripts, each of which starts anew, joined in as few runs as their length allows.
+    /// Only the last one may be no proper script.
+    pub fn scripts(&mut self, cases: &[Case]) {
+        let mut batch: Vec<&Case> = Vec::new();
+        let mut len = 0;
+        for case in cases {
+            if len + case.input.len() > LONGEST_SCRIPT {
+                self.batch(&batch);
+                batch.clear();
+                len = 0;
+            }
+            len += case.input.len();
+            batch.push(case);
+        }
+        self.batch(&batch);
+    }
+
+    fn batch(&mut self, batch: &[&Case]) {
+        if batch.is_empty() {
+            return;
+        }
+        let input: Vec<u8> = batch.iter().flat_map(|case| case.input.iter().copied()).collect();
+        let outputs: Vec<Vec<u8>> =
+            batch.iter().map(|case| expected_of_script(&case.input)).collect();
+        let expected = outputs.concat();
+        self.scripts += batch.len() as u64;
+        self.runs += 1;
+        self.bytes += input.len() as u64;
+        let actual = programs::run(DRIVE, &input, LONGEST_SCRIPT);
+        self.coverage.script(&actual);
+        if actual == expected {
+            return;
+        }
+        let before = self.differ;
+        for (case, expected) in batch.iter().zip(&outputs) {
+            self.alone(case, expected);
+        }
+        if self.differ == before {
+            // Each agrees alone: the fault lies in how they stand together.
+            self.differ += 1;
+            keep(&format!("{}-batch", batch[0].name), &input, &expected, &actual);
+        }
+    }
+
+    fn alone(&mut self, case: &Case, expected: &[u8]) {
+        let actual = programs::run(DRIVE, &case.input, LONGEST_SCRIPT);
+        if actual == expected {
+            return;
+        }
+        self.differ += 1;
+        if !keep(&case.name, &case.input, expected, &actual) {
+            return;
+        }
+        if let Ok(ops) = Ops::new(&case.input).collect::<Result<Vec<Op>, ()>>() {
+            let small = script::encode(&shrink(ops, |ops| script_differs(&script::encode(ops))));
+            let actual = programs::run(DRIVE, &small, LONGEST_SCRIPT);
+            write(&format!("{}-small", case.name), &small, &expected_of_script(&small), &actual);
+        }
+    }
+
+    /// Judges a recording, written to the program in pieces of `step` bytes.
+    pub fn recording(&mut self, case: &Case, step: usize) {
+        let expected = expected_of_recording(&case.input);
+        let actual = programs::run(REPLAY, &case.input, step);
+        self.recordings += 1;
+        self.runs += 1;
+        self.bytes += case.input.len() as u64;
+        self.coverage.replies(&actual);
+        if actual == expected {
+            return;
+        }
+        self.differ += 1;
+        if keep(&case.name, &case.input, &expected, &actual) {
+            let differs = |input: &[u8]| {
+                programs::run(REPLAY, input, LONGEST_SCRIPT) != expected_of_recording(input)
+            };
+            let small = shrink(case.input.clone(), differs);
+            let actual = programs::run(REPLAY, &small, LONGEST_SCRIPT);
+            write(&format!("{}-small", case.name), &small, &expected_of_recording(&small), &actual);
+        }
+    }
+
+    pub fn join(&mut self, other: Tally) {
+        self.coverage.join(other.coverage);
+        self.scripts += other.scripts;
+        self.recordings += other.recordings;
+        self.runs += other.runs;
+        self.bytes += other.bytes;
+        self.differ += other.differ;
+    }
+}
+
+fn script_differs(input: &[u8]) -> bool {
+    programs::run(DRIVE, input, LONGEST_SCRIPT) != expected_of_script(input)
+}
+
+/// Keeps a differing case unless enough are kept; says whether it did.
+fn keep(name: &str, input: &[u8], expected: &[u8], actual: &[u8]) -> bool {
+    println!("differs: {name}");
+    if KEPT.fetch_add(1, Ordering::Relaxed) >= MOST_KEPT {
+        return false;
+    }
+    write(name, input, expected, actual);
+    true
+}
+
+fn write(name: &str, input: &[u8], expected: &[u8], actual: &[u8]) {
+    let save = |end: &str, bytes: &[u8]| fs::write(format!("{KEEP_IN}/{name}.{end}"), bytes);
+    let saved = fs::create_dir_all(KEEP_IN)
+        .and_then(|()| save("in", input))
+        .and_then(|()| save("expected", expected))
+        .and_then(|()| save("actual", actual));
+    if let Err(error) = saved {
+        println!("cannot keep {name}: {error}");
+    }
+}

@@ -1,0 +1,221 @@
+//! Generated scripts: a stream fed in pieces, with the console's calls, right and wrong ones.
+//!
+//! The reference runs along, so that most calls fit what was told.
+
+use super::rng::Rng;
+use super::streams::{stream, Shape, Stream};
+use crate::console::Console;
+use crate::receiver::{Answer, Refusal, Told};
+use crate::script::{Buffer, Op};
+
+/// A script stops after so many operations or bytes.
+const MOST_OPS: usize = 220;
+const MOST_BYTES: usize = 24_000;
+
+/// How a stream is cut into pieces.
+#[derive(Clone, Copy)]
+enum Cut {
+    /// As the stream was made.
+    Chunks,
+    /// At most so many bytes.
+    Within(usize),
+    /// Just after a 1B.
+    Escapes,
+}
+
+struct Maker<'r> {
+    rng: &'r mut Rng,
+    console: Console,
+    ops: Vec<Op>,
+    bytes: usize,
+    ids: Vec<Vec<u8>>,
+    /// Calls that do not fit, in a hundred.
+    wrong: usize,
+    /// Failures among the answers, in a hundred.
+    failures: usize,
+}
+
+/// The script of a seed.
+pub fn script(seed: u64) -> Vec<Op> {
+    let rng = &mut Rng::new(seed);
+    let shape = Shape {
+        commands: rng.within(1, 14),
+        damage: *rng.pick(&[0, 0, 5, 15]),
+        noise: *rng.pick(&[0, 5, 30]),
+        big: *rng.pick(&[0, 0, 0, 2, 10]),
+    };
+    let Stream { chunks, ids } = stream(rng, &shape);
+    let mut ops = perform(rng, &chunks, ids);
+    ops.insert(0, Op::Anew);
+    ops
+}
+
+/// Feeds the chunks to a fresh receiver, with the console's calls.
+pub fn perform(rng: &mut Rng, chunks: &[Vec<u8>], ids: Vec<Vec<u8>>) -> Vec<Op> {
+    let cut = cut(rng);
+    let (wrong, failures) = (*rng.pick(&[0, 2, 10, 30]), *rng.pick(&[0, 5, 25]));
+    let console = Console::default();
+    let mut maker = Maker { rng, console, ops: Vec::new(), bytes: 0, ids, wrong, failures };
+    maker.perform(chunks, cut);
+    maker.ops
+}
+
+fn cut(rng: &mut Rng) -> Cut {
+    match rng.weighted(&[40, 40, 15, 5]) {
+        0 => Cut::Chunks,
+        1 => Cut::Within(*rng.pick(&[2, 5, 12, 40, 200, 3000, 20_000])),
+        2 => Cut::Escapes,
+        _ => Cut::Within(1),
+    }
+}
+
+/// The length of the next piece; `chunk` is what is left of the chunk it starts in.
+fn piece_len(rng: &mut Rng, cut: Cut, rest: &[u8], chunk: usize) -> usize {
+    let len = match cut {
+        Cut::Chunks => chunk,
+        Cut::Within(most) => rng.within(1, most),
+        Cut::Escapes => {
+            let after = |&b: &u8| b == 0x1b;
+            let place = rest.iter().position(after).map_or(rest.len(), |place| place + 1);
+            place + if rng.chance(20) { 1 } else { 0 }
+        }
+    };
+    len.min(rest.len()).min(u16::MAX as usize)
+}
+
+/// The places where chunks end, in the joined stream.
+fn ends(chunks: &[Vec<u8>]) -> Vec<usize> {
+    let mut end = 0;
+    chunks
+        .iter()
+        .map(|chunk| {
+            end += chunk.len();
+            end
+        })
+        .collect()
+}
+
+impl Maker<'_> {
+    fn perform(&mut self, chunks: &[Vec<u8>], cut: Cut) {
+        let stream = chunks.concat();
+        let ends = ends(chunks);
+        let mut at = 0;
+        while at < stream.len() && self.ops.len() < MOST_OPS && self.bytes < MOST_BYTES {
+            if self.rng.chance(self.wrong) {
+                self.stray();
+            }
+            let chunk = ends.iter().find(|&&end| end > at).map_or(0, |end| end - at);
+            let len = piece_len(self.rng, cut, &stream[at..], chunk);
+            let Some(answer) = self.add(Op::Feed(stream[at..at + len].to_vec())) else {
+                return;
+            };
+            // What was not consumed is fed again, but not always.
+            let again = answer.refusal.is_some_and(|no| no as u8 >= 9) || self.rng.chance(98);
+            at += if again { answer.consumed } else { len };
+            if self.rng.chance(30) {
+                self.add(Op::Text);
+            }
+            self.react(&answer);
+        }
+        for _ in 0..self.rng.weighted(&[60, 20, 20]) {
+            self.stray();
+        }
+    }
+
+    fn add(&mut self, op: Op) -> Option<Answer> {
+        let answer = self.console.apply(&op);
+        self.bytes += match &op {
+            Op::Feed(piece) => piece.len() + 3,
+            _ => 3,
+        };
+        self.ops.push(op);
+        answer
+    }
+
+    /// What a console does after a report.
+    fn react(&mut self, answer: &Answer) {
+        match answer.told {
+            Told::Asked(id) => {
+                let id = id.bytes().to_vec();
+                match self.rng.weighted(&[86, 6, 3, 5]) {
+                    0 => self.add(Op::Allow(id)),
+                    1 => self.add(Op::Deny(id)),
+                    2 => self.add(Op::Drop(id)),
+                    _ => None,
+                };
+            }
+            Told::Open | Told::Write { .. } | Told::Commit => {
+                // Sometimes another call comes first, or a feed that meets refusal 10.
+                if self.rng.chance(self.wrong) {
+                    self.stray();
+                } else if !self.rng.chance(3) {
+                    self.settle();
+                }
+            }
+            _ => self.repair(answer.refusal),
+        }
+    }
+
+    fn settle(&mut self) {
+        let op = if self.rng.chance(self.failures) {
+            Op::Failed(self.rng.within(1, 4) as u8)
+        } else {
+            Op::Done
+        };
+        self.add(op);
+    }
+
+    /// After refusal 9 or 10: makes the next feed possible, most of the time.
+    fn repair(&mut self, refusal: Option<Refusal>) {
+        match refusal {
+            Some(Refusal::ShortBuffer) if self.rng.chance(70) => {
+                self.add(Op::Lend(Buffer::Carry, 8256));
+                self.add(Op::Lend(Buffer::Scratch, 6208));
+                self.add(Op::Lend(Buffer::Reply, 192));
+            }
+            Some(Refusal::AnswerOwed) if self.rng.chance(85) => self.settle(),
+            _ => {}
+        }
+    }
+
+    fn any_id(&mut self) -> Vec<u8> {
+        let mut id = self.rng.pick(&self.ids).clone();
+        match self.rng.weighted(&[80, 5, 5, 5, 5]) {
+            0 => {}
+            1 => id.push(b'm'),
+            2 => id.clear(),
+            3 => id = vec![b'i'; 33 + self.rng.below(223)],
+            _ => id = b"\x00!\xff".to_vec(),
+        }
+        id
+    }
+
+    /// A call that need not fit.
+    fn stray(&mut self) {
+        let op = match self.rng.below(12) {
+            0 | 1 => Op::Allow(self.any_id()),
+            2 => Op::Deny(self.any_id()),
+            3 => Op::Drop(self.any_id()),
+            4 | 5 => Op::Done,
+            6 => Op::Failed(self.rng.within(1, 4) as u8),
+            7 => Op::Text,
+            8 => Op::Feed(Vec::new()),
+            _ => self.lend(),
+        };
+        self.add(op);
+    }
+
+    fn lend(&mut self) -> Op {
+        let (buffer, limit) =
+            *self.rng.pick(&[(Buffer::Carry, 8192), (Buffer::Scratch, 6144), (Buffer::Reply, 124)]);
+        let len = match self.rng.below(6) {
+            0 => limit - 1,
+            1 => limit,
+            2 => limit + 1,
+            3 => self.rng.below(limit as usize) as u16,
+            4 => 0,
+            _ => u16::MAX,
+        };
+        Op::Lend(buffer, len)
+    }
+}

@@ -1,0 +1,48 @@
+//! Cases that no seed makes: scripts at the length limit, scripts that are none, tiny recordings.
+
+use super::judge::{Case, Tally};
+use crate::console::LONGEST_SCRIPT;
+
+/// Judges them all, each in a run of its own.
+pub fn judge(tally: &mut Tally) {
+    for (i, input) in scripts().into_iter().enumerate() {
+        tally.scripts(&[Case { name: format!("special-script-{i}"), input }]);
+    }
+    for (i, input) in recordings().into_iter().enumerate() {
+        tally.recording(&Case { name: format!("special-recording-{i}"), input }, 1);
+    }
+}
+
+fn scripts() -> Vec<Vec<u8>> {
+    #[rustfmt::skip]
+    let faults = [
+        &b""[..], b"z", b"N", b"\x00", b"\xff", b"\n", b"kz", b"ke\x00", b"ke\x05", b"ke\xff", b"te",
+        b"f", b"f\x00", b"f\x01\x00", b"f\x02\x00a", b"a", b"a\x01", b"d\x02m", b"x", b"c", b"c\x00",
+        b"s\x01", b"r\x7b", b"t", b"tkn", b"kkt", b"f\x00\x00t", b"a\x00d\x00x\x00",
+    ];
+    let mut all: Vec<Vec<u8>> = faults.iter().map(|bytes| bytes.to_vec()).collect();
+    all.extend([LONGEST_SCRIPT - 1, LONGEST_SCRIPT, LONGEST_SCRIPT + 1, 70_000].map(long));
+    all
+}
+
+/// A script of the given length: one long feed of noise, then starts anew, then two calls.
+fn long(len: usize) -> Vec<u8> {
+    let mut script = vec![b'f', 0x00, 0xf0];
+    script.resize(3 + 0xf000, b'x');
+    script.resize(len - 2, b'n');
+    script.extend_from_slice(b"kt");
+    script
+}
+
+fn recordings() -> Vec<Vec<u8>> {
+    let example: &[u8] = b"\x1b]5113;ac=send;id=m\x1b\\\x1b]5113;ac=file;id=m;fid=a;n=L256\x1b\\\
+        \x1b]5113;ac=data;id=m;fid=a;d=YWJj\x1b\\\x1b]5113;ac=end_data;id=m;fid=a\x1b\\\
+        \x1b]5113;ac=finish;id=m\x1b\\";
+    let mut all: Vec<Vec<u8>> = [&b""[..], b"\x1b", b"\x1b]", b"\x1b]5113;", b"x", example]
+        .iter()
+        .map(|bytes| bytes.to_vec())
+        .collect();
+    // Every cut of the example, as a recording that ends there.
+    all.extend((1..example.len()).step_by(7).map(|len| example[..len].to_vec()));
+    all
+}

@@ -1,0 +1,109 @@
+//! Shares the cases out to two threads.
+
+use super::judge::{Case, Tally};
+use super::mutate::{mutated_recording, mutated_script, raw_script, Stored};
+use super::recordings::recording;
+use super::scripts::script;
+use crate::script::encode;
+use std::sync::atomic::{AtomicU64, Ordering};
+use std::thread;
+use std::time::{Duration, Instant};
+
+const THREADS: usize = 2;
+/// Cases taken at a time.
+const SCRIPTS: u64 = 100;
+const RECORDINGS: u64 = 10;
+
+/// The sizes in which recordings are written to the program, in turn.
+const STEPS: [usize; 6] = [1_000_000, 65_536, 4096, 1000, 63, 65_535];
+
+fn step(seed: u64, len: usize) -> usize {
+    let step = STEPS[(seed % STEPS.len() as u64) as usize];
+    // Small pieces cost a call each.
+    step.max(len / 50).max(1)
+}
+
+/// Runs `take` on both threads until it says that nothing is left, and joins the tallies.
+fn share(take: impl Fn(&mut Tally) -> bool + Sync) -> Tally {
+    let worker = || {
+        let mut tally = Tally::default();
+        while take(&mut tally) {}
+        tally
+    };
+    thread::scope(|scope| {
+        let handles: Vec<_> = (0..THREADS).map(|_| scope.spawn(worker)).collect();
+        let mut all = Tally::default();
+        for handle in handles {
+            match handle.join() {
+                Ok(tally) => all.join(tally),
+                Err(panic) => std::panic::resume_unwind(panic),
+            }
+        }
+        all
+    })
+}
+
+/// The next seeds of `0..count`, at most `step` of them.
+fn seeds(next: &AtomicU64, count: u64, step: u64) -> std::ops::Range<u64> {
+    let from = next.fetch_add(step, Ordering::Relaxed).min(count);
+    from..(from + step).min(count)
+}
+
+/// The scripts and recordings of the first seeds.
+pub fn generated(scripts: u64, recordings: u64) -> Tally {
+    let (next_script, next_recording) = (AtomicU64::new(0), AtomicU64::new(0));
+    share(|tally| {
+        let a = seeds(&next_script, scripts, SCRIPTS);
+        let b = seeds(&next_recording, recordings, RECORDINGS);
+        let cases: Vec<Case> = a.clone().map(script_case).collect();
+        tally.scripts(&cases);
+        for seed in b.clone() {
+            let case = recording_case(seed);
+            tally.recording(&case, step(seed, case.input.len()));
+        }
+        !a.is_empty() || !b.is_empty()
+    })
+}
+
+/// Mutated cases for a time.
+pub fn fuzzed(time: Duration, seed: u64, stored: &Stored) -> Tally {
+    let end = Instant::now() + time;
+    let next = AtomicU64::new(seed << 32);
+    share(|tally| {
+        let from = next.fetch_add(SCRIPTS, Ordering::Relaxed);
+        let mut cases: Vec<Case> =
+            (from..from + SCRIPTS / 2).map(|seed| mutated_script_case(seed, stored)).collect();
+        // What may be no proper script ends a run, so it stands last in one.
+        let raw = cases.split_off(cases.len() - 5);
+        tally.scripts(&cases);
+        for (i, case) in raw.into_iter().enumerate() {
+            let bad = raw_script_case(from + i as u64, stored);
+            tally.scripts(&[case, bad]);
+        }
+        for seed in from..from + SCRIPTS / 4 {
+            let case = mutated_recording_case(seed, stored);
+            tally.recording(&case, step(seed, case.input.len()));
+        }
+        Instant::now() < end
+    })
+}
+
+pub fn script_case(seed: u64) -> Case {
+    Case { name: format!("script-{seed}"), input: encode(&script(seed)) }
+}
+
+pub fn recording_case(seed: u64) -> Case {
+    Case { name: format!("recording-{seed}"), input: recording(seed) }
+}
+
+pub fn mutated_script_case(seed: u64, stored: &Stored) -> Case {
+    Case { name: format!("fuzz-script-{seed}"), input: mutated_script(seed, stored) }
+}
+
+pub fn raw_script_case(seed: u64, stored: &Stored) -> Case {
+    Case { name: format!("fuzz-raw-{seed}"), input: raw_script(seed, stored) }
+}
+
+pub fn mutated_recording_case(seed: u64, stored: &Stored) -> Case {
+    Case { name: format!("fuzz-recording-{seed}"), input: mutated_recording(seed, stored) }
+}

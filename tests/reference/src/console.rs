@@ -1,0 +1,195 @@
+//! The scripted console: a list of calls on one receiver, every answer printed.
+
+use crate::receiver::{self, Answer, Failure, Receiver, Told};
+use crate::script::{self, Op, Ops};
+use std::io::Write;
+
+pub const LONGEST_SCRIPT: usize = 65_536;
+const BAD: &[u8] = b"bad script\n";
+const FILL: u8 = 0xa5;
+
+/// A buffer of which the first bytes are lent.
+struct Buffer<const N: usize> {
+    bytes: [u8; N],
+    lent: usize,
+}
+
+impl<const N: usize> Buffer<N> {
+    fn new() -> Self {
+        Buffer { bytes: [FILL; N], lent: N }
+    }
+
+    fn lend(&mut self) -> &mut [u8] {
+        &mut self.bytes[..self.lent]
+    }
+
+    fn limit(&mut self, len: u16) {
+        self.lent = N.min(len as usize);
+    }
+
+    /// The sum of (i + 1) times byte i, modulo 65521.
+    fn sum(&self) -> u64 {
+        const BLOCK: usize = 256;
+        let weigh = |sum: (u32, u32), (i, &b): (usize, &u8)| {
+            (sum.0 + b as u32, sum.1 + (i as u32 + 1) * b as u32)
+        };
+        let blocks = self.bytes.chunks(BLOCK).enumerate();
+        let total = blocks.fold(0, |total, (n, block)| {
+            let (plain, weighed) = block.iter().enumerate().fold((0, 0), weigh);
+            total + (n * BLOCK) as u64 * plain as u64 + weighed as u64
+        });
+        total % 65_521
+    }
+}
+
+/// A receiver with its buffers, and the latest feed.
+pub struct Console {
+    receiver: Receiver,
+    carry: Buffer<8256>,
+    scratch: Buffer<6208>,
+    reply: Buffer<192>,
+    piece: Vec<u8>,
+    report: Answer,
+}
+
+/// Runs a script and adds its output to `out`.
+pub fn run(script: &[u8], out: &mut Vec<u8>) {
+    if script.len() > LONGEST_SCRIPT {
+        out.extend_from_slice(BAD);
+        return;
+    }
+    let mut console = Console::default();
+    for op in Ops::new(script) {
+        match op {
+            Ok(op) => console.print(&op, out),
+            Err(()) => out.extend_from_slice(BAD),
+        }
+    }
+}
+
+fn failure(code: u8) -> Failure {
+    match code {
+        1 => Failure::Permission,
+        2 => Failure::Io,
+        3 => Failure::NoEntry,
+        _ => Failure::NoSpace,
+    }
+}
+
+impl Default for Console {
+    fn default() -> Self {
+        Console {
+            receiver: Receiver::default(),
+            carry: Buffer::new(),
+            scratch: Buffer::new(),
+            reply: Buffer::new(),
+            piece: Vec::new(),
+            report: Answer::default(),
+        }
+    }
+}
+
+impl Console {
+    /// Does one operation; gives the answer of those that call the receiver.
+    pub fn apply(&mut self, op: &Op) -> Option<Answer> {
+        let reply = self.reply.lend();
+        Some(match op {
+            Op::Feed(piece) => {
+                self.piece.clone_from(piece);
+                let (carry, scratch) = (self.carry.lend(), self.scratch.lend());
+                self.report = self.receiver.feed(piece, carry, scratch, reply);
+                self.report
+            }
+            Op::Allow(id) => self.receiver.allow(id, reply),
+            Op::Deny(id) => self.receiver.deny(id, reply),
+            Op::Drop(id) => self.receiver.drop(id),
+            Op::Done => self.receiver.done(reply),
+            Op::Failed(code) => self.receiver.failed(failure(*code), reply),
+            Op::Text | Op::Anew | Op::Lend(..) => {
+                self.set(op);
+                return None;
+            }
+        })
+    }
+
+    fn set(&mut self, op: &Op) {
+        match *op {
+            Op::Anew => *self = Console::default(),
+            Op::Lend(script::Buffer::Carry, len) => self.carry.limit(len),
+            Op::Lend(script::Buffer::Scratch, len) => self.scratch.limit(len),
+            Op::Lend(script::Buffer::Reply, len) => self.reply.limit(len),
+            _ => {}
+        }
+    }
+
+    /// The text of the latest feed's report.
+    pub fn text(&mut self) -> &[u8] {
+        receiver::text(&self.piece, self.carry.lend(), &self.report)
+    }
+
+    /// The carry, whole.
+    pub fn carry(&self) -> &[u8] {
+        &self.carry.bytes
+    }
+
+    /// The bytes of an answer's reply.
+    pub fn reply(&self, answer: &Answer) -> &[u8] {
+        &self.reply.bytes[..answer.reply]
+    }
+
+    /// Does one operation and adds its line to `out`.
+    fn print(&mut self, op: &Op, out: &mut Vec<u8>) {
+        if let Some(answer) = self.apply(op) {
+            self.print_answer(op.letter(), &answer, out);
+        } else if *op == Op::Text {
+            out.extend_from_slice(b"t ");
+            hex(self.text(), out);
+            out.push(b'\n');
+        }
+    }
+
+    fn print_answer(&self, letter: u8, answer: &Answer, out: &mut Vec<u8>) {
+        let refusal = answer.refusal.map_or(0, |refusal| refusal as u8);
+        // Writing to a vector does not fail.
+        let _ = write!(out, "{} {} {} ", letter as char, refusal, answer.consumed);
+        told(&answer.told, out);
+        out.push(b' ');
+        hex(self.reply(answer), out);
+        let (carry, scratch, reply) = (self.carry.sum(), self.scratch.sum(), self.reply.sum());
+        let _ = writeln!(out, " {carry} {scratch} {reply}");
+    }
+}
+
+fn told(told: &Told, out: &mut Vec<u8>) {
+    let word = match *told {
+        Told::Nothing => "none",
+        Told::Ignored => "ignored",
+        Told::Asked(_) => "asked",
+        Told::Open => "open",
+        Told::Commit => "commit",
+        Told::Withdrawn => "withdrawn",
+        Told::Discarded => "discarded",
+        Told::Committed => "committed",
+        Told::Status(status) => {
+            out.extend_from_slice(b"status:");
+            status.word()
+        }
+        Told::Write { start, len, last } => {
+            let start = if len == 0 { 0 } else { start };
+            let _ = write!(out, "{}:{start}:{len}", if last { "last" } else { "write" });
+            ""
+        }
+    };
+    out.extend_from_slice(word.as_bytes());
+}
+
+fn hex(bytes: &[u8], out: &mut Vec<u8>) {
+    const DIGITS: &[u8; 16] = b"0123456789abcdef";
+    if bytes.is_empty() {
+        out.push(b'-');
+    }
+    for &b in bytes {
+        out.push(DIGITS[b as usize >> 4]);
+        out.push(DIGITS[b as usize & 15]);
+    }
+}

@@ -1,0 +1,8 @@
+//! An independent receiver, written from document 01, its readings and the scripted console's paper,
+//! and what compares the project's programs with it.
+
+pub mod compare;
+pub mod console;
+pub mod receiver;
+pub mod replay;
+pub mod script;

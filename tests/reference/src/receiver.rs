@@ -1,0 +1,271 @@
+//! The receiver: the calls of document 01 with lent buffers, changed in place.
+
+pub mod base64;
+pub mod command;
+mod frames;
+mod integer;
+pub mod name;
+mod reply;
+mod rules;
+pub mod scan;
+mod session;
+
+pub use reply::Status;
+pub use session::Id;
+
+use frames::{Found, Frames};
+use reply::Reply;
+use session::{SessionState, Table};
+
+pub const LONGEST_TEXT: usize = 8192;
+pub const LONGEST_ID: usize = 32;
+/// The shortest buffers a call may be lent.
+pub const CARRY: usize = 8192;
+pub const SCRATCH: usize = 6144;
+pub const REPLY: usize = 124;
+
+/// Why a call or a text was refused, with document 01's numbers.
+#[derive(Clone, Copy, Debug, PartialEq)]
+#[repr(u8)]
+pub enum Refusal {
+    TooLong = 1,
+    Abandoned = 2,
+    BadByte = 3,
+    BadField = 4,
+    Repeated = 5,
+    BadValue = 6,
+    Missing = 7,
+    LongId = 8,
+    ShortBuffer = 9,
+    AnswerOwed = 10,
+    NothingOwed = 11,
+    WrongSession = 12,
+}
+
+/// Where a reported text stands.
+#[derive(Clone, Copy, Debug, Default, PartialEq)]
+pub enum Place {
+    #[default]
+    Nowhere,
+    Piece {
+        start: usize,
+        len: usize,
+    },
+    Carry {
+        len: usize,
+    },
+}
+
+/// What the console is told.
+#[derive(Clone, Copy, Debug, Default, PartialEq)]
+pub enum Told {
+    #[default]
+    Nothing,
+    Ignored,
+    Asked(Id),
+    Open,
+    /// A part, `len` scratch bytes from `start`; `last` if it is the file's last one.
+    Write {
+        start: usize,
+        len: usize,
+        last: bool,
+    },
+    Commit,
+    Withdrawn,
+    Discarded,
+    Committed,
+    Status(Status),
+}
+
+/// The answer of a call.
+#[derive(Clone, Copy, Debug, Default)]
+pub struct Answer {
+    pub refusal: Option<Refusal>,
+    pub consumed: usize,
+    pub told: Told,
+    /// The reply's length, 0 for none.
+    pub reply: usize,
+    pub text: Place,
+}
+
+impl Answer {
+    fn refused(refusal: Refusal) -> Self {
+        Answer { refusal: Some(refusal), ..Answer::default() }
+    }
+
+    fn told(told: Told, reply: usize) -> Self {
+        Answer { told, reply, ..Answer::default() }
+    }
+}
+
+/// The failure codes a console may give.
+#[derive(Clone, Copy, Debug, PartialEq)]
+pub enum Failure {
+    Permission,
+    Io,
+    NoEntry,
+    NoSpace,
+}
+
+impl Failure {
+    fn status(self) -> Status {
+        match self {
+            Failure::Permission => Status::Denied,
+            Failure::Io => Status::Io,
+            Failure::NoEntry => Status::NoEntry,
+            Failure::NoSpace => Status::NoSpace,
+        }
+    }
+}
+
+/// The ask that waits for the console's answer, with the places of its session and file.
+#[derive(Clone, Copy, Debug)]
+enum Owed {
+    Open { session: usize, file: usize },
+    Write(Part),
+    Commit { session: usize },
+}
+
+/// A part of a file that the console is to write.
+#[derive(Clone, Copy, Debug)]
+struct Part {
+    session: usize,
+    file: usize,
+    len: usize,
+    last: bool,
+}
+
+impl Owed {
+    fn session(self) -> usize {
+        match self {
+            Owed::Open { session, .. } | Owed::Commit { session } => session,
+            Owed::Write(part) => part.session,
+        }
+    }
+}
+
+/// A receiver.
+#[derive(Debug)]
+pub struct Receiver {
+    frames: Frames,
+    sessions: Table,
+    owed: Option<Owed>,
+}
+
+impl Default for Receiver {
+    fn default() -> Self {
+        Receiver { frames: Frames::new(), sessions: Table::default(), owed: None }
+    }
+}
+
+/// The text of a report, given the piece and the carry.
+pub fn text<'a>(piece: &'a [u8], carry: &'a [u8], report: &Answer) -> &'a [u8] {
+    let found = match report.text {
+        Place::Nowhere => None,
+        Place::Piece { start, len } => piece.get(start..start.saturating_add(len)),
+        Place::Carry { len } => carry.get(..len),
+    };
+    found.unwrap_or_default()
+}
+
+impl Receiver {
+    /// Takes one piece and consumes through the first thing to report.
+    pub fn feed(
+        &mut self,
+        piece: &[u8],
+        carry: &mut [u8],
+        scratch: &mut [u8],
+        reply: &mut [u8],
+    ) -> Answer {
+        if carry.len() < CARRY || scratch.len() < SCRATCH || reply.len() < REPLY {
+            return Answer::refused(Refusal::ShortBuffer);
+        }
+        if self.owed.is_some() {
+            return Answer::refused(Refusal::AnswerOwed);
+        }
+        let (consumed, found) = self.frames.advance(piece, carry);
+        match found {
+            Found::Nothing => Answer { consumed, ..Answer::default() },
+            Found::TooLong => Answer { consumed, ..Answer::refused(Refusal::TooLong) },
+            Found::Abandoned => Answer { consumed, ..Answer::refused(Refusal::Abandoned) },
+            Found::Text(place) => {
+                let answer = Answer { text: place, ..Answer::default() };
+                let text = text(piece, carry, &answer);
+                let answer = match command::read(text, scratch) {
+                    Ok(command) => self.act(&command, scratch, reply),
+                    Err(refusal) => Answer::refused(refusal),
+                };
+                Answer { consumed, text: place, ..answer }
+            }
+        }
+    }
+
+    /// Opens an asked session.
+    pub fn allow(&mut self, id: &[u8], reply: &mut [u8]) -> Answer {
+        self.settle(id, reply, Status::Ok)
+    }
+
+    /// Drops an asked session.
+    pub fn deny(&mut self, id: &[u8], reply: &mut [u8]) -> Answer {
+        self.settle(id, reply, Status::Denied)
+    }
+
+    fn settle(&mut self, id: &[u8], reply: &mut [u8], status: Status) -> Answer {
+        if reply.len() < REPLY {
+            return Answer::refused(Refusal::ShortBuffer);
+        }
+        let Some(place) = self.place(id) else {
+            return Answer::refused(Refusal::WrongSession);
+        };
+        let session = self.sessions.at(place);
+        if session.state != SessionState::Asked {
+            return Answer::refused(Refusal::WrongSession);
+        }
+        if status == Status::Ok {
+            session.state = SessionState::Open;
+        } else {
+            session.clear();
+        }
+        let quiet = session.quiet;
+        let reply = Reply { quiet, id, fid: b"", size: 0, status }.write(reply);
+        Answer::told(Told::Nothing, reply)
+    }
+
+    /// Drops any session present, and the ask it owed.
+    pub fn drop(&mut self, id: &[u8]) -> Answer {
+        let Some(place) = self.place(id) else {
+            return Answer::refused(Refusal::WrongSession);
+        };
+        self.sessions.at(place).clear();
+        if self.owed.is_some_and(|owed| owed.session() == place) {
+            self.owed = None;
+        }
+        Answer::default()
+    }
+
+    /// The console did what it was asked.
+    pub fn done(&mut self, reply: &mut [u8]) -> Answer {
+        self.answer(reply, None)
+    }
+
+    /// The console could not do what it was asked.
+    pub fn failed(&mut self, code: Failure, reply: &mut [u8]) -> Answer {
+        self.answer(reply, Some(code.status()))
+    }
+
+    fn answer(&mut self, reply: &mut [u8], failure: Option<Status>) -> Answer {
+        if reply.len() < REPLY {
+            return Answer::refused(Refusal::ShortBuffer);
+        }
+        match self.owed.take() {
+            None => Answer::refused(Refusal::NothingOwed),
+            Some(Owed::Open { session, file }) => self.answer_open(session, file, failure, reply),
+            Some(Owed::Write(part)) => self.answer_write(part, failure, reply),
+            Some(Owed::Commit { session }) => self.answer_commit(session, failure, reply),
+        }
+    }
+
+    fn place(&self, id: &[u8]) -> Option<usize> {
+        self.sessions.find(&Id::new(id)?)
+    }
+}

@@ -1,0 +1,126 @@
+//! Sessions and their file records: fixed room, used again when freed.
+
+use super::command::Command;
+use super::LONGEST_ID;
+
+pub const SESSIONS: usize = 4;
+pub const FILES: usize = 32;
+
+/// A session or file id. The bytes beyond its length are zero, so equality may compare them all.
+#[derive(Clone, Copy, Debug, Default, PartialEq, Eq)]
+pub struct Id {
+    len: u8,
+    bytes: [u8; LONGEST_ID],
+}
+
+impl Id {
+    /// `None` if the bytes are too long to be an id.
+    pub fn new(bytes: &[u8]) -> Option<Id> {
+        let mut id = Id::default();
+        id.bytes.get_mut(..bytes.len())?.copy_from_slice(bytes);
+        id.len = bytes.len() as u8;
+        Some(id)
+    }
+
+    pub fn bytes(&self) -> &[u8] {
+        &self.bytes[..self.len as usize]
+    }
+}
+
+#[derive(Clone, Copy, Debug, Default, PartialEq)]
+pub enum FileState {
+    #[default]
+    Opening,
+    Started,
+    Done,
+    Failed,
+}
+
+#[derive(Clone, Copy, Debug, Default)]
+pub struct File {
+    pub id: Id,
+    pub state: FileState,
+    pub directory: bool,
+    pub count: u64,
+}
+
+#[derive(Clone, Copy, Debug, Default, PartialEq)]
+pub enum SessionState {
+    #[default]
+    Absent,
+    Asked,
+    Open,
+}
+
+#[derive(Debug, Default)]
+pub struct Session {
+    pub state: SessionState,
+    pub quiet: u8,
+    pub id: Id,
+    files: [File; FILES],
+    used: usize,
+}
+
+impl Session {
+    /// Takes free room for a new session.
+    pub fn ask(&mut self, id: Id, quiet: u8) {
+        self.state = SessionState::Asked;
+        self.quiet = quiet;
+        self.id = id;
+        self.used = 0;
+    }
+
+    pub fn clear(&mut self) {
+        self.state = SessionState::Absent;
+        self.used = 0;
+    }
+
+    pub fn find(&self, fid: &Id) -> Option<usize> {
+        self.files[..self.used].iter().position(|file| file.id == *fid)
+    }
+
+    pub fn full(&self) -> bool {
+        self.used == FILES
+    }
+
+    /// Adds a record that is opening and gives its place. The session must not be full.
+    pub fn add(&mut self, id: Id, directory: bool) -> usize {
+        self.files[self.used] = File { id, directory, ..File::default() };
+        self.used += 1;
+        self.used - 1
+    }
+
+    pub fn file(&mut self, place: usize) -> &mut File {
+        &mut self.files[place]
+    }
+
+    pub fn any_started(&self) -> bool {
+        self.files[..self.used].iter().any(|file| file.state == FileState::Started)
+    }
+}
+
+/// The four sessions.
+#[derive(Debug, Default)]
+pub struct Table([Session; SESSIONS]);
+
+impl Table {
+    /// The place of the session with this id, if it is present.
+    pub fn find(&self, id: &Id) -> Option<usize> {
+        let present = |s: &Session| s.state != SessionState::Absent && s.id == *id;
+        self.0.iter().position(present)
+    }
+
+    pub fn free(&self) -> Option<usize> {
+        self.0.iter().position(|s| s.state == SessionState::Absent)
+    }
+
+    pub fn at(&mut self, place: usize) -> &mut Session {
+        &mut self.0[place]
+    }
+
+    /// The place and state for a command's id.
+    pub fn of(&self, command: &Command) -> Option<(usize, SessionState)> {
+        let place = self.find(&Id::new(command.id)?)?;
+        Some((place, self.0[place].state))
+    }
+}

@@ -1,0 +1,242 @@
+//! Runs the examples of the papers through the reference. Each line's expected side was copied from
+//! a paper, or for document 01's cases written from its rules; none was made by the program.
+
+use reference::console::{self, Console};
+use reference::receiver::{command, name, Answer, Refusal, Told};
+use reference::replay::Replay;
+use reference::script::Op;
+
+/// The bytes of an example's notation.
+fn bytes(notation: &str) -> Vec<u8> {
+    let mut out = Vec::new();
+    let mut rest = notation.as_bytes();
+    while let Some(&first) = rest.first() {
+        let end = |closer| rest.iter().position(|&b| b == closer);
+        let inner = |end: usize| std::str::from_utf8(&rest[1..end]).unwrap();
+        let taken = match first {
+            b'^' if rest.get(1) == Some(&b'[') => {
+                out.push(0x1b);
+                2
+            }
+            b'<' => {
+                out.push(u8::from_str_radix(inner(3), 16).unwrap());
+                4
+            }
+            b'{' => {
+                let end = end(b'}').unwrap();
+                let (byte, count) = inner(end).split_once('*').unwrap();
+                out.resize(out.len() + count.parse::<usize>().unwrap(), byte.as_bytes()[0]);
+                end + 1
+            }
+            _ => {
+                out.push(first);
+                1
+            }
+        };
+        rest = &rest[taken..];
+    }
+    out
+}
+
+fn read(text: &str) -> String {
+    let mut scratch = [0; 6144];
+    let refusal = command::read(&bytes(text), &mut scratch).err();
+    refusal.map_or(0, |refusal| refusal as u8).to_string()
+}
+
+fn carry(pieces: &str) -> Vec<u8> {
+    let mut console = Console::default();
+    for piece in pieces.split(" | ") {
+        let mut rest = bytes(piece);
+        while !rest.is_empty() {
+            let answer = console.apply(&Op::Feed(rest.clone())).unwrap();
+            rest.drain(..answer.consumed);
+        }
+    }
+    let carry = console.carry();
+    let len = carry.iter().rposition(|&b| b != 0xa5).map_or(0, |last| last + 1);
+    carry[..len].to_vec()
+}
+
+fn effect(answer: &Answer, quiet_word: &str) -> String {
+    if let Some(refusal) = answer.refusal {
+        return format!("refused {}", refusal as u8);
+    }
+    let word = match answer.told {
+        Told::Nothing => quiet_word,
+        Told::Ignored => "ignored",
+        Told::Asked(_) => "asked",
+        Told::Open => "ask open",
+        Told::Write { last: false, .. } => "ask write",
+        Told::Write { last: true, .. } => "ask write_last",
+        Told::Commit => "ask commit",
+        Told::Withdrawn => "withdrawn",
+        Told::Discarded => "discarded",
+        Told::Committed => "committed",
+        Told::Status(_) => "status",
+    };
+    word.to_string()
+}
+
+/// WORD, `/fid` if it has one, `=sz` if it has one.
+fn reply(bytes: &[u8]) -> String {
+    let text = std::str::from_utf8(bytes).unwrap();
+    let text = text.strip_prefix("\x1b]5113;ac=status;").unwrap().strip_suffix("\x1b\\").unwrap();
+    let value =
+        |key: &str| text.split(';').find_map(|field| field.strip_prefix(key)?.strip_prefix('='));
+    let st = value("st").unwrap().as_bytes();
+    let mut word = vec![0; reference::receiver::base64::check(st).unwrap()];
+    reference::receiver::base64::decode(st, &mut word);
+    let fid = value("fid").map_or(String::new(), |fid| format!("/{fid}"));
+    let size = value("sz").map_or(String::new(), |size| format!("={size}"));
+    format!("{}{fid}{size}", String::from_utf8(word).unwrap())
+}
+
+fn shown(console: &Console, answer: &Answer, quiet_word: &str) -> String {
+    let effect = effect(answer, quiet_word);
+    match console.reply(answer) {
+        [] => effect,
+        bytes => format!("{effect} {}", reply(bytes)),
+    }
+}
+
+fn call(text: &str) -> Op {
+    let (word, operand) = text.split_once(' ').unwrap_or((text, ""));
+    match word {
+        "allow" => Op::Allow(bytes(operand)),
+        "deny" => Op::Deny(bytes(operand)),
+        "drop" => Op::Drop(bytes(operand)),
+        "done" => Op::Done,
+        "failed" => {
+            let codes = ["EPERM", "EIO", "ENOENT", "ENOSPC"];
+            Op::Failed(1 + codes.iter().position(|&code| code == operand).unwrap() as u8)
+        }
+        _ => panic!("no such call: {text}"),
+    }
+}
+
+/// Feeds a piece until it is consumed.
+fn feed(console: &mut Console, mut piece: Vec<u8>) -> String {
+    let mut reports = Vec::new();
+    loop {
+        let answer = console.apply(&Op::Feed(piece.clone())).unwrap();
+        if answer.refusal.is_some() || answer.told != Told::Nothing {
+            reports.push(shown(console, &answer, "-"));
+        }
+        piece.drain(..answer.consumed);
+        let stuck = matches!(answer.refusal, Some(Refusal::ShortBuffer | Refusal::AnswerOwed));
+        if piece.is_empty() || stuck {
+            break;
+        }
+    }
+    if reports.is_empty() {
+        reports.push("-".into());
+    }
+    reports.join(" + ")
+}
+
+fn run(items: &str) -> String {
+    let mut console = Console::default();
+    let results = items.split(" | ").map(|item| {
+        match item.strip_prefix('[').and_then(|item| item.strip_suffix(']')) {
+            Some(text) => {
+                let answer = console.apply(&call(text)).unwrap();
+                shown(&console, &answer, "ok")
+            }
+            None => feed(&mut console, bytes(item)),
+        }
+    });
+    results.collect::<Vec<String>>().join(" | ")
+}
+
+/// Replays the recording in pieces of each of several sizes; the replies must be the same.
+fn replay(recording: &str) -> Vec<u8> {
+    let bytes = bytes(recording);
+    let replies = |step| {
+        let (mut replay, mut out) = (Replay::default(), Vec::new());
+        bytes.chunks(step).for_each(|piece| replay.take(piece, &mut out));
+        out
+    };
+    let whole = replies(bytes.len().max(1));
+    assert!((1..20).all(|step| replies(step) == whole));
+    whole
+}
+
+/// Checks each line of a file and gives their number.
+fn check(file: &str) -> usize {
+    let lines = file.lines().filter(|line| !line.starts_with('#'));
+    let mut count = 0;
+    for line in lines {
+        let (given, expected) = line.split_once(" =>").unwrap();
+        let expected = expected.strip_prefix(' ').unwrap_or(expected);
+        let (kind, given) = given.split_once(' ').unwrap();
+        match kind {
+            "read" => assert_eq!(read(given), expected, "{line}"),
+            "carry" => assert_eq!(carry(given), bytes(expected), "{line}"),
+            "run" => assert_eq!(run(given), expected, "{line}"),
+            "replay" => assert_eq!(replay(given), bytes(expected), "{line}"),
+            "name" => assert_eq!(name::good(&bytes(given)), expected == "good", "{line}"),
+            _ => panic!("no such kind: {line}"),
+        }
+        count += 1;
+    }
+    count
+}
+
+#[test]
+fn the_readings() {
+    assert_eq!(check(include_str!("readings.txt")), READINGS);
+}
+
+#[test]
+fn document_01() {
+    assert_eq!(check(include_str!("document01.txt")), DOCUMENT);
+}
+
+#[test]
+fn the_scripted_console() {
+    let file = include_str!("drive.txt");
+    let mut lines = file.lines().skip(1);
+    let hex = lines.next().unwrap();
+    let script: Vec<u8> = (0..hex.len() / 2)
+        .map(|i| u8::from_str_radix(&hex[2 * i..2 * i + 2], 16).unwrap())
+        .collect();
+    let mut out = Vec::new();
+    console::run(&script, &mut out);
+    let expected: String = lines.map(|line| format!("{line}\n")).collect();
+    assert_eq!(String::from_utf8(out).unwrap(), expected);
+}
+
+#[test]
+fn the_33rd_file() {
+    let mut items = vec!["^[]5113;ac=send;id=m^[\\".to_string(), "[allow m]".into()];
+    let mut results = vec!["asked".to_string(), "ok OK".into()];
+    for i in 0..33 {
+        items.push(format!("^[]5113;ac=file;id=m;fid={i};n=L256^[\\"));
+        if i < 32 {
+            items.push("[done]".into());
+            results.extend(["ask open".into(), format!("status STARTED/{i}")]);
+        }
+    }
+    results.push("status EMFILE/32".into());
+    assert_eq!(run(&items.join(" | ")), results.join(" | "));
+}
+
+#[test]
+fn bad_scripts() {
+    for (script, expected) in [
+        (&b"z"[..], "bad script\n"),
+        (b"e\x05", "bad script\n"),
+        (b"f\x02\x00a", "bad script\n"),
+        (&[b'n'; 65_537], "bad script\n"),
+        (&[b'n'; 65_536], ""),
+    ] {
+        let mut out = Vec::new();
+        console::run(script, &mut out);
+        assert_eq!(String::from_utf8(out).unwrap(), expected);
+    }
+}
+
+/// The number of examples in each file, so that none is lost unseen.
+const READINGS: usize = 146;
+const DOCUMENT: usize = 18;
