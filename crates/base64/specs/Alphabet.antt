@@ -11,6 +11,7 @@ pad = 61
 abbrev pub rowOf : ℕ → ℕ → ℕ → ℕ → ℕ → ℕ
 rowOf first last base c v = pick (both (leb first c) (leb c last)) (base + (c - first)) v
 
+-- the last two characters, `+` and `/`; 64 for every other byte
 abbrev pub signOf : ℕ → ℕ
 signOf c = pick (eqb c 43) 62 (pick (eqb c 47) 63 64)
 

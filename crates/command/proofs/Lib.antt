@@ -1,4 +1,5 @@
 pub mod Every
+mod Ranges
 pub mod Calm
 pub mod Table
 pub mod WrittenValues

@@ -1,5 +1,6 @@
 pub mod Keys
 pub mod Letters
+pub mod Classes
 pub mod Values
 pub mod Fields
 pub mod Meaning

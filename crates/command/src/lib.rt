@@ -1,7 +1,10 @@
 // The command of a text, as values: what reading a command text gives, and what writing one takes.
 //
 // Here stand the types, the definitions of reading and writing (specs/) and the theorems about them
-// (proofs/). The functions that read and write are in `command_reader` and `command_writer`.
+// (proofs/), and the one test of bytes that reading and writing share (`letters`). The functions that
+// read and write are in `command_reader` and `command_writer`.
+pub mod letters;
+
 use decimal::Number;
 
 // "action": none is the case of a command without one, which only a writer can meet.

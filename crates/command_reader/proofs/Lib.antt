@@ -1,4 +1,3 @@
-pub mod Ranges
 pub mod Cuts
 pub mod Room
 pub mod Answers

@@ -10,8 +10,6 @@ ghost use Rattle.octets.specs.Split.{split};
 ghost use Rattle.command.specs.Fields.{isKey, fieldRead, fieldsRead};
 ghost use Rattle.command.specs.Read.{answered, begun, finished, kept};
 ghost use Rattle.command_reader.specs.States.{readerOf, turned};
-use crate::letters;
-use crate::letters::Class;
 use crate::slots::complete;
 use crate::values;
 use crate::values::Kept;
@@ -20,6 +18,8 @@ use command::Place;
 use command::Reading;
 use command::Refusal;
 use command::Slot;
+use command::letters;
+use command::letters::Class;
 use decimal::Number;
 
 // The slots so far, and how many bytes of the scratch are used.

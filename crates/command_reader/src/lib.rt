@@ -3,7 +3,6 @@
 // The text is not copied: strings are places in it, and Base64 values are decoded into the lent
 // scratch, one after another. Not here: frames, sessions, and what a command does.
 mod fields;
-mod letters;
 mod slots;
 mod values;
 mod words;
@@ -11,9 +10,10 @@ mod words;
 ghost use mathlib.Core.Path.{_≡_};
 ghost use Rattle.octets.specs.Outcome.{outcome};
 ghost use Rattle.command.specs.Read.{answered, readOf};
-use crate::letters::Class;
 use command::Reading;
 use command::Refusal;
+use command::letters;
+use command::letters::Class;
 
 // The command of a text, or why it has none. 9 comes first, and leaves the scratch as before; after
 // another refusal the scratch holds the values accepted before the refused field.

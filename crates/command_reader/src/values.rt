@@ -5,8 +5,6 @@ ghost use lib.ListN.{length};
 ghost use Rattle.octets.specs.Split.{split};
 ghost use Rattle.command.specs.Keys as Keys;
 ghost use Rattle.command_reader.specs.Keeping.{kindOf, wordOf, Plain, Keeps};
-use crate::letters;
-use crate::letters::Class;
 use crate::slots::coded;
 use crate::slots::numbered;
 use crate::slots::placed;
@@ -14,6 +12,8 @@ use crate::words::place_in;
 use base64::Decoded;
 use command::Refusal;
 use command::Slot;
+use command::letters;
+use command::letters::Class;
 use decimal::Parsed;
 
 // The kinds of values. Each list of words is a kind of its own; an id is a safe string of at most 32

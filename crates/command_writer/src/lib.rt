@@ -3,7 +3,6 @@
 // The fields are gone through twice: first with an empty buffer, which checks every field and
 // measures the text, and then, if nothing is at fault and the text fits, to store it.
 mod fields;
-mod letters;
 mod slots;
 mod store;
 mod table;

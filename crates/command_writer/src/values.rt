@@ -9,7 +9,6 @@ ghost use Rattle.command.specs.Values.{wordShown, integerShown, shown};
 ghost use Rattle.command.specs.Slots.{bytesAt};
 ghost use Rattle.command_writer.specs.Pieces.{FieldPut};
 ghost use Rattle.command_writer.specs.Table.{nameIn, wordsIn};
-use crate::letters::is_safe;
 use crate::store::put;
 use crate::store::put_base64;
 use crate::store::put_key;
@@ -18,6 +17,8 @@ use crate::table::part;
 use command::Place;
 use command::Refusal;
 use command::Written;
+use command::letters;
+use command::letters::Class;
 use decimal::Number;
 
 // The word of a code. The words stand in the row, after its key; `first` is the code of the first.
@@ -75,7 +76,7 @@ pub(crate) fn safe(
         return Written::Refused(Refusal::BadValue);
     }
     let s = bytes_at(text, place);
-    if !is_safe(s) {
+    if !letters::all(Class::Safe, s) {
         return Written::Refused(Refusal::BadValue);
     }
     if over(short, s.len()) {

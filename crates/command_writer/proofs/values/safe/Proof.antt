@@ -25,7 +25,7 @@ shown-here : (c : tie.Else2) → let a = c .before .before .before .before .befo
 unfolding shown safeShown
 shown-here c =
     let a = c .before .before .before .before .before .before .before .before .args in
-    rw (place-in (a .text .now) (a .place) (inside (c .before .before .before)), ← c .before .before .bytes-at .ensures, ← c .before .is-safe .ensures, not-false (c .before .is-safe .result) (c .if2 .left))
+    rw (place-in (a .text .now) (a .place) (inside (c .before .before .before)), ← c .before .before .bytes-at .ensures, ← c .before .all .ensures, not-false (c .before .all .result) (c .if2 .left))
 
 fits-requires : tie.Need-fits-requires
 fits-requires c κs = search needs
@@ -37,14 +37,14 @@ returns c = let a = c .before .before .before .before .before .args in rw (place
 bytes-at-requires : tie.Need-bytes-at-requires
 bytes-at-requires c κs = leb-true _ _ (inside c)
 
-is-safe-requires : tie.Need-is-safe-requires
-is-safe-requires c κs = search needs
+all-requires : tie.Need-all-requires
+all-requires c κs = search needs
 
 returns-2 : tie.Need-returns-2
 unfolding shown safeShown
 returns-2 c =
     let a = c .before .before .before .before .before .before .before .before .args in
-    rw (place-in (a .text .now) (a .place) (inside (c .before .before .before)), ← c .before .before .bytes-at .ensures, ← c .before .is-safe .ensures, not-true (c .before .is-safe .result) (c .if2 .taken))
+    rw (place-in (a .text .now) (a .place) (inside (c .before .before .before)), ← c .before .before .bytes-at .ensures, ← c .before .all .ensures, not-true (c .before .all .result) (c .if2 .taken))
 
 over-requires : tie.Need-over-requires
 over-requires c κs = search needs
@@ -80,7 +80,7 @@ safe-spec =
     fits-requires
     returns
     bytes-at-requires
-    is-safe-requires
+    all-requires
     returns-2
     over-requires
     returns-3

@@ -3,9 +3,9 @@ use Prim.Native.Nat.{ℕ}
 use mathlib.Core.Bool.{Bool, true, false}
 use lib.Dec.{leb, eqb}
 use Rattle.octets.specs.Choice.{pick}
 use Rattle.command.specs.Letters.{textByte, keyByte, safeByte}
-use Rattle.command_reader.specs.declared.letters.Class.{Class}
-use Rattle.command_reader.specs.declared.letters.Class.the-variants as Class
+use Rattle.command.specs.declared.letters.Class.{Class}
+use Rattle.command.specs.declared.letters.Class.the-variants as Class
 
 -- the bytes of a class
 abbrev pub byteOf : Class → ℕ → Bool

@@ -1,9 +1,9 @@
 use mathlib.Core.Path.{_∙_}
 use native.Mathlib.Omega.{arith}
-use Rattle.command_reader.proofs.Ranges.{key-ranges, safe-ranges}
+use Rattle.command.proofs.Ranges.{key-ranges, safe-ranges}
 use borrow.Author.Needs.{needs}
-use Rattle.command_reader.proofs.letters.is.Statement.{statement}
-use Rattle.command_reader.proofs.letters.is.Tie as tie
+use Rattle.command.proofs.letters.is.Statement.{statement}
+use Rattle.command.proofs.letters.is.Tie as tie
 
 enum-told : tie.Need-enum-told
 enum-told c = search needs

@@ -1,7 +1,7 @@
 use Rattle.octets.proofs.Tests.{tests}
-use Rattle.command_reader.specs.Classes.{inRanges}
-use Rattle.command_reader.proofs.letters.in_ranges.Statement.{statement}
-use Rattle.command_reader.proofs.letters.in_ranges.Tie as tie
+use Rattle.command.specs.Classes.{inRanges}
+use Rattle.command.proofs.letters.in_ranges.Statement.{statement}
+use Rattle.command.proofs.letters.in_ranges.Tie as tie
 
 returns : tie.Need-returns
 unfolding inRanges

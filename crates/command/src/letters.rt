@@ -1,8 +1,8 @@
 // Which bytes may stand where.
 ghost use mathlib.Core.Path.{_≡_};
 ghost use Rattle.octets.specs.Choice.{every};
 ghost use Rattle.command.specs.Letters.{textByte};
-ghost use Rattle.command_reader.specs.Classes.{byteOf, inRanges};
+ghost use Rattle.command.specs.Classes.{byteOf, inRanges};
 
 // The bytes of a text, of a key, and of a safe string.
 pub enum Class {
@@ -12,7 +12,7 @@ pub enum Class {
 }
 
 // Whether each byte of s is of the class. No early way out, so that many are tested at once.
-pub(crate) fn all(class: Class, s: &[u8]) -> bool
+pub fn all(class: Class, s: &[u8]) -> bool
     ensures { λ r. ⌜ r ≡ every (byteOf class) (now (s .entry)) ⌝ }
 {
     let mut all = true;

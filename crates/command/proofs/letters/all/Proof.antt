@@ -5,9 +5,9 @@ use lib.ListN.{length, drop}
 use borrow.Author.Needs.{needs}
 use Rattle.octets.specs.Choice.{both, every}
 use Rattle.octets.proofs.Everys.{every-turn, every-told}
-use Rattle.command_reader.specs.Classes.{byteOf}
-use Rattle.command_reader.proofs.letters.all.Statement.{statement}
-use Rattle.command_reader.proofs.letters.all.Tie as tie
+use Rattle.command.specs.Classes.{byteOf}
+use Rattle.command.proofs.letters.all.Statement.{statement}
+use Rattle.command.proofs.letters.all.Tie as tie
 
 abbrev Inv-loop : tie.InvT-loop
 Inv-loop class s all₀ i₀ all i = every (byteOf class) s ≡ both all (every (byteOf class) (drop i s))

@@ -1,7 +1,7 @@
 use Rattle.octets.proofs.Tests.{tests}
 use Rattle.command.specs.Letters.{textByte}
-use Rattle.command_reader.proofs.letters.is_text.Statement.{statement}
-use Rattle.command_reader.proofs.letters.is_text.Tie as tie
+use Rattle.command.proofs.letters.is_text.Statement.{statement}
+use Rattle.command.proofs.letters.is_text.Tie as tie
 
 returns : tie.Need-returns
 unfolding textByte

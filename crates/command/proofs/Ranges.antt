@@ -5,8 +5,8 @@ use mathlib.Core.Bool.{Bool, true, false, not}
 use native.Mathlib.Omega.{arith}
 use Rattle.bytes.specs.Bytes.{indexOf, indexAfter}
 use Rattle.octets.proofs.Below.{at}
 use Rattle.command.specs.Letters.{keyByte, safeByte}
-use Rattle.command_reader.specs.Classes.{inRanges}
+use Rattle.command.specs.Classes.{inRanges}
 
 -- two tests answer alike
 alike : Bool → Bool → Bool
