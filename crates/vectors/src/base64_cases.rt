@@ -1,49 +1,16 @@
-// RFC 4648, section 10, both ways; document 01's texts; the faults in document 02's order; places.
+// Base64: both ways, the fault of a text, and places of a buffer.
 use crate::out;
 use base64::Decoded;
 use base64::Fault;
 use octets::Stored;
 
 pub(crate) fn run() {
-    rfc4648();
-    document01();
-    faults();
+    decode(b"Zm9v\n");
     places();
 }
 
-fn rfc4648() {
-    both(b"");
-    both(b"f");
-    both(b"fo");
-    both(b"foo");
-    both(b"foob");
-    both(b"fooba");
-    both(b"foobar");
-}
-
-fn document01() {
-    decode(b"AQID");
-    decode(b"c29tZWZpbGU=");
-    decode(b"Q0FOQ0VMRUQ=");
-    decode(b"AQ");
-    decode(b"AR==");
-}
-
-fn faults() {
-    decode(b"A=!=");
-    decode(b"!A=A");
-    decode(b"A===");
-    decode(b"AA=A");
-    decode(b"AR!=");
-    decode(b"!");
-    decode(b"====");
-    decode(b"Zm9v\n");
-    decode(b"AQI-");
-    decode(b"////");
-}
-
 // The text of the bytes, and the bytes of that text.
-fn both(data: &[u8]) {
+pub(crate) fn both(data: &[u8]) {
     let mut buffer = [0u8; 64];
     out::text(b"base64 encode ");
     out::text(data);
@@ -58,7 +25,7 @@ fn both(data: &[u8]) {
     decode(text);
 }
 
-fn decode(text: &[u8]) {
+pub(crate) fn decode(text: &[u8]) {
     let mut buffer = [0u8; 64];
     out::text(b"base64 decode ");
     out::text(text);

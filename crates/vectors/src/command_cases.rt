@@ -1,5 +1,4 @@
-// The command text: every `read` case of READINGS by its entry, each refusal with the scratch that it
-// leaves, and every key read and written again.
+// The command text: its refusal or 0, the scratch that reading leaves, and the text written again.
 ghost use Prim.Native.Nat.{_≤_};
 use crate::out;
 use command::Command;
@@ -8,145 +7,36 @@ use command::Refusal;
 use command::Written;
 
 pub(crate) fn run() {
-    c1();
-    c2();
-    c3();
-    c4();
-    c5();
-    c6();
-    c7();
-    c8();
-    c9();
-    c10();
-    c12();
-    c13();
-    c14();
-    keys();
-    lengths();
-    scratch_left();
+    texts();
+    ids();
+    values();
 }
 
-fn c1() {
-    read(b"5113;ac=send;id=m;q=00");
-    read(b"5113;ac=send;id=m;q=-0");
-    read(b"5113;ac=send;id=m;q=01");
-    read(b"5113;ac=send;id=m;q=");
-}
-
-fn c2() {
-    read(b"5113;ac=;id=m");
-    read(b"5113;ac=send;id=m;zip=");
-    read(b"5113;ac=send;id=m;ft=");
-    read(b"5113;ac=send;id=m;sz=");
-    read(b"5113;ac=send;id=");
-    read(b"5113;ac=send;id=m;fid=;pr=;pw=;n=;st=;d=");
-}
-
-fn c3() {
-    read(b"5113;id=;q=3;ac=send");
-    read(b"5113;id=;nofield");
-    read(b"5113;id=;id=m;ac=send");
-    read(b"5113;ac=send;id=m;q=0;q=0");
-    read(b"5113;ac=send;id=m;zip=none;zip=none");
-    read(b"5113;ac=send;id=m;d=;d=");
-}
-
-fn c4() {
-    read(b"5113;ac=send;id=m;zip=zlib");
-}
-
-fn c5() {
-    read(b"5113;ac=send;id=m;x=a=b");
-    read(b"5113;ac=send;id=a=b");
-    read(b"5113;ac=send;id=m;=x");
-    read(b"5113;ac=send;id=m;==");
-}
-
-fn c6() {
-    read(b"5113;");
-    read(b"5113;ac=send;id=m;");
-    read(b"5113;;ac=send;id=m");
-    read(b"5113;ac=bad;;id=m");
-}
-
-fn c7() {
-    read(b"5113;ac=send;id=m;x=1;x=1");
-    read(b"5113;AC=send;id=m");
-    read(b"5113;action=send;id=m");
-    read(b"5113;ac=send;id=m;ID=!! ??");
-    read(b"5113;ac=send;id=m;ac =x");
-}
-
-fn c8() {
-    read(b"5113; ac=send;id=m");
-    read(b"5113;ac=send ;id=m");
-}
-
-fn c9() {
-    read(b"5113;bad;x=\x7F");
-    read(b"5113;ac=send;id=m;x=\x80");
-    read(b"5113;ac=send;id=m;x=\x1B");
-    read(b"x\x01");
-}
-
-fn c10() {
+// Texts of the longest length, and one byte more.
+fn texts() {
     filled(b"", b'A', 8193, b"");
     filled(b"", b'A', 8192, b"");
-    read(b"5113");
+    filled(b"5113;ac=receive;id=z;x=", b'A', 8168, b"");
+    filled(b"5113;ac=receive;id=z;x=", b'A', 8169, b"");
+    filled(b"5113;ac=receive;id=z;x=", b'A', 8170, b"");
 }
 
-fn c12() {
-    read(b"5113;ac=send;id=m;sz=-0");
-    read(b"5113;ac=send;id=m;sz=007");
-    read(b"5113;ac=send;id=m;sz=0000000000000000000");
-    read(b"5113;ac=send;id=m;sz=00000000000000000000");
-    read(b"5113;ac=send;id=m;sz=-");
-    read(b"5113;ac=send;id=m;sz=+1");
-    read(b"5113;ac=send;id=m;sz=-9223372036854775808");
-    read(b"5113;ac=send;id=m;sz=9223372036854775808");
-}
-
-fn c13() {
+// Ids of 32 and 33 bytes, beside other faults.
+fn ids() {
+    filled(b"5113;ac=send;id=", b'i', 32, b"");
     filled(b"5113;ac=send;id=", b'i', 33, b"");
     filled(b"5113;ac=send;id=", b'i', 33, b"!");
     filled(b"5113;id=", b'i', 33, b";ac=bad");
     filled(b"5113;ac=bad;id=", b'i', 33, b"");
     filled(b"5113;id=m;id=", b'i', 33, b";ac=send");
     filled(b"5113;ac=send;id=m;pr=", b'i', 33, b"");
+}
+
+// Long values, and what a refused id leaves in the scratch.
+fn values() {
     filled(b"5113;ac=send;id=m;pw=", b'i', 3000, b"");
-}
-
-fn c14() {
-    read(b"5113;ac=send;id=m;st=////");
-}
-
-fn keys() {
-    read(b"5113;ac=finished;id=m");
-    read(
-        b"5113;id=m;ac=file;fid=f;ft=directory;tt=rsync;zip=none;pw=x:./@-_;q=2;mod=-1;prm=0644;sz=12;n=L256;st=T0s=;pr=p;d=AQID",
-    );
-    read(b"5113;d=AQID;n=L256;st=T0s=;ac=file;id=m");
-    read(b"5113;ac=end_data;id=m;d=");
-    filled(b"5113;ac=send;id=", b'i', 32, b"");
-}
-
-fn lengths() {
-    filled(b"5113;ac=receive;id=z;x=", b'A', 8168, b"");
-    filled(b"5113;ac=receive;id=z;x=", b'A', 8169, b"");
-    filled(b"5113;ac=receive;id=z;x=", b'A', 8170, b"");
-}
-
-fn scratch_left() {
-    read(b"5113;d=AQID;n=L256;st=T0;ac=file;id=m");
-    read(b"5113;d=AQID;d=AQID;ac=file;id=m");
-    read(b"5113;d=AQID;n;ac=file;id=m");
     filled(b"5113;d=AQID;fid=", b'i', 33, b";ac=file;id=m");
-    read(b"5113;d=AQID;ac=file");
-    read(b"5113;d=AR==;ac=file;id=m");
-    read(b"5113;d=AQ;ac=file;id=m");
-    read(b"5113;d=AQID;n=L256;x=\x7F");
     filled(b"5113;d=", b'A', 8188, b"");
-    read(b"5113;ac=status;id=m;fid=a;sz=3;st=UFJPR1JFU1M=");
 }
 
 // A text that is n times the byte `fill` between two strings.
@@ -173,7 +63,7 @@ fn least(a: usize, b: usize) -> usize
     if a < b { a } else { b }
 }
 
-fn read(text: &[u8]) {
+pub(crate) fn read(text: &[u8]) {
     out::text(b"read ");
     out::text(text);
     answer(text);

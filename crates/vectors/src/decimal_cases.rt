@@ -1,46 +1,15 @@
-// Integers: READINGS C12's texts and the bounds of signed 64 bits, read and written.
+// Integers, read and written.
 use crate::out;
 use decimal::Number;
 use decimal::Parsed;
 use decimal::Written;
 
 pub(crate) fn run() {
-    read_zeros();
-    read_bounds();
-    read_malformed();
     write_numbers();
     write_places();
 }
 
-fn read_zeros() {
-    read(b"0");
-    read(b"-0");
-    read(b"007");
-    read(b"0000000000000000000");
-    read(b"00000000000000000000");
-    read(b"-00000000000000000000");
-}
-
-fn read_bounds() {
-    read(b"9223372036854775807");
-    read(b"9223372036854775808");
-    read(b"-9223372036854775808");
-    read(b"-9223372036854775809");
-    read(b"9999999999999999999");
-    read(b"99999999999999999999");
-}
-
-fn read_malformed() {
-    read(b"");
-    read(b"-");
-    read(b"+1");
-    read(b"--1");
-    read(b"1-");
-    read(b"12a");
-    read(b" 1");
-}
-
-fn read(text: &[u8]) {
+pub(crate) fn read(text: &[u8]) {
     out::text(b"decimal read ");
     out::text(text);
     out::text(b": ");

@@ -1,59 +1,28 @@
-// Frames: every `carry` case of READINGS, with what is reported on the way; an empty piece; texts of
-// 8,192 and 8,193 bytes cut at each edge.
+// Frames: two pieces, what is reported on the way, and the carry; texts of 8,192 and 8,193 bytes cut at
+// each edge.
 ghost use Prim.Native.Nat.{_≤_};
 use crate::out;
 use frames::Framing;
 use frames::Report;
 
 pub(crate) fn run() {
-    closers();
-    openers();
-    short_texts();
-    refusals();
-    empty_pieces();
     cuts(8192);
     cuts(8193);
 }
 
-fn closers() {
-    carry(b"ab\x1B]5113;ac=x\x1B", b"");
-    carry(b"\x1B]5113;ac=x\x1B", b"\\");
-    carry(b"\x1B]5113;\x1B", b"");
+// Two pieces, parted by a bar.
+pub(crate) fn carry(pieces: &[u8]) {
+    let n = octets::find(pieces, 0, b'|');
+    pair(octets::part(pieces, 0, n), rest(pieces, n));
 }
 
-fn openers() {
-    carry(b"\x1B]", b"5113;ac=receive;id=z\x1B\\");
-    carry(b"\x1B", b"]5113;ac=receive;id=z\x1B\\");
-    carry(b"\x1B]5", b"113;ac=receive;id=z\x1B\\");
-}
-
-fn short_texts() {
-    carry(b"\x1B]5", b"1x");
-    carry(b"\x1B]51x", b"");
-    carry(b"\x1B]511", b"");
-    carry(b"\x1B]5", b"");
-    carry(b"\x1B]51", b"\x1B\\zz");
-    carry(b"\x1B]51\x1B\\zz", b"");
-    carry(b"\x1B]5113", b"\x1B\\\x1B]5");
-    carry(b"\x1B]51\x1B", b"");
-    carry(b"\x1B]5", b"1\x1B");
-}
-
-fn refusals() {
-    carry(b"\x1B]5113;a", b"\x1B\\\x1B]xyz");
-    carry(b"\x1B]5113;a", b"b\x1Bx");
-    carry(b"\x1B]5113;ab\x1Bxyz", b"");
-    carry(b"\x1B]5113;ab\x1B", b"]");
-    carry(b"\x1B]5113;x\x1B\x1B]5113;y\x1B\\", b"");
-}
-
-fn empty_pieces() {
-    carry(b"", b"");
-    carry(b"", b"\x1B]5113;a");
+// What stands after place n.
+fn rest(s: &[u8], n: usize) -> &[u8] {
+    if n < s.len() { &s[n + 1..] } else { &s[..0] }
 }
 
 // The reports of two pieces, fed one after the other, and the carry's first bytes.
-fn carry<'a>(first: &'a [u8], second: &'a [u8]) {
+fn pair<'a>(first: &'a [u8], second: &'a [u8]) {
     let mut buffer = [0x2Eu8; 8256];
     out::text(b"carry ");
     out::hex(first);

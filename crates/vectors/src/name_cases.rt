@@ -1,50 +1,8 @@
-// Names: READINGS N1 and N2.
+// Names.
 use crate::out;
 
-pub(crate) fn run() {
-    components();
-    starts();
-    lengths();
-    utf8();
-}
-
-fn starts() {
-    name(b"");
-    name(b"/");
-    name(b"~/");
-    name(b"//");
-    name(b"~");
-    name(b"~a/b");
-    name(b"a");
-}
-
-fn components() {
-    name(b"/nz");
-    name(b"/..");
-    name(b"~/..");
-    name(b"/a/..b");
-    name(b"/...");
-    name(b"/.");
-    name(b"/a/../b");
-    name(b"/a/..");
-}
-
-fn utf8() {
-    name(b"/\xC0\xAF");
-    name(b"/\xC0\x80");
-    name(b"/..\xC0\xAFx");
-    name(b"/\xED\xA0\x80");
-    name(b"/\xF7\xBF\xBF\xBF");
-    name(b"/\xF8\x80\x80\x80");
-    name(b"/\x80");
-    name(b"/\xC3");
-    name(b"/\xC3/");
-    name(b"/\x00");
-    name(b"/\x01\x7F");
-}
-
 // A slash and 255 or 256 bytes; 4,096 and 4,097 slashes.
-fn lengths() {
+pub(crate) fn run() {
     let mut component = [0x78u8; 257];
     component[0] = 47;
     out::text(b"name / and 255 bytes: ");
@@ -58,7 +16,7 @@ fn lengths() {
     verdict(&slashes);
 }
 
-fn name(bytes: &[u8]) {
+pub(crate) fn name(bytes: &[u8]) {
     out::text(b"name ");
     out::hex(bytes);
     out::text(b": ");
