@@ -6,29 +6,20 @@
 #
 # A round runs one after the other. Printed for each recording: CPU seconds of a run, user and system, on average, and the reference's
 # divided by the proved one's. The replies must be the same. Data and programs go to target/.
-set -euo pipefail
-cd "$(dirname "$0")/.."
+. "$(dirname "$0")/common.sh"
 rounds=${1:-5}
-out=target/bench
-mkdir -p "$out"
-rt check replay >"$out/check.txt" 2>&1 || { tail -5 "$out/check.txt"; exit 1; }
+build replay
 cargo build -q --release --offline --manifest-path tests/reference/Cargo.toml --target-dir target/reference
-rustc --edition 2021 -O -o "$out/recording" bench/recording.rs
+build_rust recording recording.rs
 bytes=104857600
-
-# CPU milliseconds of one run.
-TIMEFORMAT='%3U %3S'
-run() {
-    { time "$1" <"$out/against.rec" >"$2"; } 2>&1 | awk '{ printf "%.0f", ($1 + $2) * 1000 }'
-}
 
 for how in "4096 quiet" "4096 noise" "512 quiet" "512 noise"; do
     read -r size noise <<<"$how"
     "$out/recording" $((bytes / size)) "$size" "$noise" >"$out/against.rec"
     a=0 b=0
     for ((i = 0; i < rounds; i++)); do
-        a=$((a + $(run target/bin/replay "$out/proved.out")))
-        b=$((b + $(run target/reference/release/replay "$out/reference.out")))
+        a=$((a + $(run "$out/against.rec" "$out/proved.out" target/bin/replay)))
+        b=$((b + $(run "$out/against.rec" "$out/reference.out" target/reference/release/replay)))
     done
     cmp "$out/proved.out" "$out/reference.out"
     awk -v a="$a" -v b="$b" -v n="$rounds" -v size="$size" -v noise="$noise" -v mb=$((bytes / 1000)) 'BEGIN {

@@ -7,21 +7,10 @@
 # Printed, on average over the rounds: CPU seconds of a run, user and system; the proved program's speed as a part of the Rust program's;
 # and the same for the scans alone, without the time to read. Both programs must print the same count of reports. Data and programs go
 # to target/bench.
-set -euo pipefail
-cd "$(dirname "$0")/.."
+. "$(dirname "$0")/common.sh"
 rounds=${1:-40}
-out=target/bench
-mkdir -p "$out"
-rt check scan_bench >"$out/check.txt" 2>&1 || { tail -5 "$out/check.txt"; exit 1; }
-rustc --edition 2021 -O -o "$out/scan_rust" bench/frames.rs
-
-# CPU milliseconds of one run.
-TIMEFORMAT='%3U %3S'
-run() {
-    local data=$1 to=$2
-    shift 2
-    { time "$@" <"$data" >"$to"; } 2>&1 | awk '{ printf "%.0f", ($1 + $2) * 1000 }'
-}
+build scan_bench
+build_rust scan_rust frames.rs
 
 printf '%-10s %10s %10s %10s %8s %12s %9s\n' '100 MB of' 'proved, s' 'Rust, s' 'read, s' 'ratio' 'scans alone' 'reports'
 for kind in plain frames escapes; do

@@ -5,24 +5,13 @@
 #
 # A round runs one after the other. Printed: decoded megabytes a CPU second, user and system, over all rounds. Data and programs go to
 # target/bench.
-set -euo pipefail
-cd "$(dirname "$0")/.."
+. "$(dirname "$0")/common.sh"
 rounds=${1:-5}
-out=target/bench
-mkdir -p "$out"
-rt check replay >"$out/check.txt" 2>&1 || { tail -5 "$out/check.txt"; exit 1; }
-rustc --edition 2021 -O -o "$out/recording" bench/recording.rs
+build replay
+build_rust recording recording.rs
 parts=25600
 "$out/recording" "$parts" 4096 >"$out/replay.rec"
 "$out/recording" "$parts" 4096 base64 >"$out/replay.b64"
-
-# CPU milliseconds of one run.
-TIMEFORMAT='%3U %3S'
-run() {
-    local data=$1 to=$2
-    shift 2
-    { time "$@" <"$data" >"$to"; } 2>&1 | awk '{ printf "%.0f", ($1 + $2) * 1000 }'
-}
 
 a=0 b=0
 for ((i = 0; i < rounds; i++)); do

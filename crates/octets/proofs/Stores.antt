@@ -35,10 +35,6 @@ module _ (l : List ℕ) (o : ℕ) {bs x : List ℕ} where
       → sets (set (set (set l o a) (o + 1) b) (o + 2) c) (o + 3) r ≡ x
   put3 e p = simp towards-suc (sym (ap (sets l o) e) ∙ p)
 
-  pub put4 : {a b c d : ℕ} {r : List ℕ} → bs ≡ a ∷ b ∷ c ∷ d ∷ r → sets l o bs ≡ x
-      → sets (set (set (set (set l o a) (o + 1) b) (o + 2) c) (o + 3) d) (o + 4) r ≡ x
-  put4 e p = simp towards-suc (sym (ap (sets l o) e) ∙ p)
-
 -- one string stored after another is the two stored at once
 pub sets-append : (xs ys l : List ℕ) (i : ℕ) → sets (sets l i xs) (i + length xs) ys ≡ sets l i (xs ++ ys)
 sets-append [] ys l i = rw add-zero
