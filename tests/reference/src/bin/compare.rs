@@ -59,7 +59,8 @@ fn fuzz(start: Instant, seconds: Option<u64>, seed: Option<u64>) -> ExitCode {
 /// The inputs that stand in the repository; those that are missing are left out.
 fn stored() -> Stored {
     let mut stored = Stored::default();
-    let kept = ["mirror-three", "mirror-parts", "mirror-directory"].map(|name| format!("tests/kitty/recordings/{name}.rec"));
+    let kept = ["mirror-three", "mirror-parts", "mirror-directory"]
+        .map(|name| format!("tests/kitty/recordings/{name}.rec"));
     for path in kept.iter().map(String::as_str).chain(["crates/replay/stdin"]) {
         stored.recordings.extend(fs::read(path));
     }
