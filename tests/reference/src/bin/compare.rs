@@ -56,18 +56,22 @@ fn fuzz(start: Instant, seconds: Option<u64>, seed: Option<u64>) -> ExitCode {
     finish(start, tally, Cover::May)
 }
 
-/// The inputs that stand in the repository; those that are missing are left out.
+/// The inputs that stand in the repository; those that cannot be read are left out, and said.
 fn stored() -> Stored {
     let mut stored = Stored::default();
     let kept = ["mirror-three", "mirror-parts", "mirror-directory"]
         .map(|name| format!("tests/kitty/recordings/{name}.rec"));
     for path in kept.iter().map(String::as_str).chain(["crates/replay/stdin"]) {
-        stored.recordings.extend(fs::read(path));
+        stored.recordings.extend(read(path));
     }
-    if let Ok(script) = fs::read("crates/drive/stdin") {
+    if let Some(script) = read("crates/drive/stdin") {
         stored.add_script(&script);
     }
     stored
+}
+
+fn read(path: &str) -> Option<Vec<u8>> {
+    fs::read(path).inspect_err(|error| println!("left out: {path}: {error}")).ok()
 }
 
 fn finish(start: Instant, tally: Tally, cover: Cover) -> ExitCode {
@@ -110,12 +114,16 @@ fn one(kind: &str, seed: u64) -> Option<ExitCode> {
     };
     let actual = programs::run(program, &input, input.len().max(1));
     let path = format!("target/reference/{name}");
-    for (end, bytes) in [("in", &input), ("expected", &expected), ("actual", &actual)] {
+    for (end, bytes) in [("in", &input), ("expected", &expected), ("actual", &actual.kept())] {
         if let Err(error) = fs::write(format!("{path}.{end}"), bytes) {
             println!("cannot write {path}.{end}: {error}");
         }
     }
     println!("{path}.in, {path}.expected (the reference), {path}.actual ({program})");
-    println!("{}", if actual == expected { "agree" } else { "differ" });
-    Some(if actual == expected { ExitCode::SUCCESS } else { ExitCode::FAILURE })
+    if actual.agrees(&expected) {
+        println!("agree");
+        return Some(ExitCode::SUCCESS);
+    }
+    println!("differ: {}", actual.why(&expected));
+    Some(ExitCode::FAILURE)
 }

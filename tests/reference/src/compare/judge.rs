@@ -1,7 +1,7 @@
 //! Runs a case on both sides, counts, and keeps the cases that differ.
 
 use super::coverage::Coverage;
-use super::programs::{self, DRIVE, REPLAY};
+use super::programs::{self, Outcome, DRIVE, REPLAY};
 use super::shrink::shrink;
 use crate::console::{self, LONGEST_SCRIPT};
 use crate::replay::Replay;
@@ -73,8 +73,8 @@ impl Tally {
         self.runs += 1;
         self.bytes += input.len() as u64;
         let actual = programs::run(DRIVE, &input, LONGEST_SCRIPT);
-        self.coverage.script(&actual);
-        if actual == expected {
+        self.coverage.script(&actual.output);
+        if actual.agrees(&expected) {
             return;
         }
         let before = self.differ;
@@ -90,7 +90,7 @@ impl Tally {
 
     fn alone(&mut self, case: &Case, expected: &[u8]) {
         let actual = programs::run(DRIVE, &case.input, LONGEST_SCRIPT);
-        if actual == expected {
+        if actual.agrees(expected) {
             return;
         }
         self.differ += 1;
@@ -111,14 +111,15 @@ impl Tally {
         self.recordings += 1;
         self.runs += 1;
         self.bytes += case.input.len() as u64;
-        self.coverage.replies(&actual);
-        if actual == expected {
+        self.coverage.replies(&actual.output);
+        if actual.agrees(&expected) {
             return;
         }
         self.differ += 1;
         if keep(&case.name, &case.input, &expected, &actual) {
             let differs = |input: &[u8]| {
-                programs::run(REPLAY, input, LONGEST_SCRIPT) != expected_of_recording(input)
+                let actual = programs::run(REPLAY, input, LONGEST_SCRIPT);
+                !actual.agrees(&expected_of_recording(input))
             };
             let small = shrink(case.input.clone(), differs);
             let actual = programs::run(REPLAY, &small, LONGEST_SCRIPT);
@@ -137,12 +138,12 @@ impl Tally {
 }
 
 fn script_differs(input: &[u8]) -> bool {
-    programs::run(DRIVE, input, LONGEST_SCRIPT) != expected_of_script(input)
+    !programs::run(DRIVE, input, LONGEST_SCRIPT).agrees(&expected_of_script(input))
 }
 
-/// Keeps a differing case unless enough are kept; says whether it did.
-fn keep(name: &str, input: &[u8], expected: &[u8], actual: &[u8]) -> bool {
-    println!("differs: {name}");
+/// Says that a case differs, and why. Keeps it unless enough are kept; answers whether it did.
+fn keep(name: &str, input: &[u8], expected: &[u8], actual: &Outcome) -> bool {
+    println!("differs: {name}: {}", actual.why(expected));
     if KEPT.fetch_add(1, Ordering::Relaxed) >= MOST_KEPT {
         return false;
     }
@@ -150,12 +151,12 @@ fn keep(name: &str, input: &[u8], expected: &[u8], actual: &[u8]) -> bool {
     true
 }
 
-fn write(name: &str, input: &[u8], expected: &[u8], actual: &[u8]) {
+fn write(name: &str, input: &[u8], expected: &[u8], actual: &Outcome) {
     let save = |end: &str, bytes: &[u8]| fs::write(format!("{KEEP_IN}/{name}.{end}"), bytes);
     let saved = fs::create_dir_all(KEEP_IN)
         .and_then(|()| save("in", input))
         .and_then(|()| save("expected", expected))
-        .and_then(|()| save("actual", actual));
+        .and_then(|()| save("actual", &actual.kept()));
     if let Err(error) = saved {
         println!("cannot keep {name}: {error}");
     }

@@ -1,14 +1,16 @@
-//! Runs the programs under test as processes.
+//! Runs the programs under test as processes. Whatever goes wrong with a run is kept beside its output.
 
-use std::io::{Read, Write};
+use std::io::{self, ErrorKind, Read, Write};
 use std::path::Path;
-use std::process::{Command, ExitStatus, Stdio};
+use std::process::{Child, Command, ExitStatus, Stdio};
 use std::sync::mpsc;
-use std::thread;
-use std::time::Duration;
+use std::thread::{self, ScopedJoinHandle};
+use std::time::{Duration, Instant};
 
 /// A run that takes longer is ended and counted as a difference.
 const LONGEST_RUN: Duration = Duration::from_secs(30);
+/// So much of what stands on standard error is said.
+const LONGEST_QUOTE: usize = 200;
 
 /// The programs, found from the repository's root.
 pub const DRIVE: &str = "target/bin/drive";
@@ -18,46 +20,178 @@ pub fn present() -> bool {
     [DRIVE, REPLAY].iter().all(|path| Path::new(path).exists())
 }
 
-/// What the program wrote; a run that did not end by itself adds a line that says so.
-///
-/// The input is written in pieces of `step` bytes, so the program's reads are cut differently.
-pub fn run(path: &str, input: &[u8], step: usize) -> Vec<u8> {
-    let mut child = Command::new(path)
-        .stdin(Stdio::piped())
-        .stdout(Stdio::piped())
-        .stderr(Stdio::null())
-        .spawn()
-        .unwrap_or_else(|error| panic!("cannot start {path}: {error}"));
-    let (stdin, stdout) = (child.stdin.take(), child.stdout.take());
-    let (sender, receiver) = mpsc::channel();
-    thread::scope(|scope| {
-        scope.spawn(move || write(stdin, input, step));
-        scope.spawn(move || {
-            let mut output = Vec::new();
-            let _ = stdout.map(|mut stdout| stdout.read_to_end(&mut output));
-            let _ = sender.send(output);
-        });
-        let output = receiver.recv_timeout(LONGEST_RUN);
-        if output.is_err() {
-            // Ends this child alone; the threads then see its pipes closed.
-            let _ = child.kill();
-        }
-        let status = child.wait().ok();
-        mark(output.ok(), status)
-    })
+/// What a run gave. A fault is anything but a start, an end with status 0 and output alone.
+#[derive(Debug, Default)]
+pub struct Outcome {
+    pub output: Vec<u8>,
+    pub faults: Vec<String>,
 }
 
-/// A program that ends early closes its end, which is no fault of the writer.
-fn write(stdin: Option<impl Write>, input: &[u8], step: usize) {
-    if let Some(mut stdin) = stdin {
-        let _ = input.chunks(step).try_for_each(|part| stdin.write_all(part));
+impl Outcome {
+    pub fn agrees(&self, expected: &[u8]) -> bool {
+        self.faults.is_empty() && self.output == expected
+    }
+
+    /// Why it does not agree, in one line.
+    pub fn why(&self, expected: &[u8]) -> String {
+        let other = (self.output != expected).then(|| "other output".to_string());
+        let reasons: Vec<String> = other.into_iter().chain(self.faults.iter().cloned()).collect();
+        reasons.join("; ")
+    }
+
+    /// The output and a line for each fault, as it is kept for a look.
+    pub fn kept(&self) -> Vec<u8> {
+        let faults = self.faults.iter().map(|fault| format!("({fault})\n"));
+        [&self.output[..], faults.collect::<String>().as_bytes()].concat()
     }
 }
 
-fn mark(output: Option<Vec<u8>>, status: Option<ExitStatus>) -> Vec<u8> {
-    match (output, status.and_then(|status| status.code())) {
-        (Some(output), Some(_)) => output,
-        (Some(output), None) => [&output[..], b"\n(ended by a signal)\n"].concat(),
-        (None, _) => b"(did not end)\n".to_vec(),
+/// Runs the program on the input, written in pieces of `step` bytes, so that its reads are cut differently.
+pub fn run(path: impl AsRef<Path>, input: &[u8], step: usize) -> Outcome {
+    run_within(LONGEST_RUN, path.as_ref(), input, step)
+}
+
+fn run_within(limit: Duration, path: &Path, input: &[u8], step: usize) -> Outcome {
+    let mut command = Command::new(path);
+    command.stdin(Stdio::piped()).stdout(Stdio::piped()).stderr(Stdio::piped());
+    match command.spawn() {
+        Ok(child) => watch(child, limit, input, step),
+        Err(error) => {
+            Outcome { faults: vec![format!("cannot be started: {error}")], ..Outcome::default() }
+        }
+    }
+}
+
+/// Writes, reads both outputs and waits at the same time, since any of them may be what the program waits for.
+fn watch(mut child: Child, limit: Duration, input: &[u8], step: usize) -> Outcome {
+    let end = Instant::now() + limit;
+    let (stdin, stdout, stderr) = (child.stdin.take(), child.stdout.take(), child.stderr.take());
+    let (sender, closed) = mpsc::channel();
+    thread::scope(|scope| {
+        let written = scope.spawn(move || write(stdin, input, step));
+        let errors = scope.spawn(move || read(stderr));
+        let output = scope.spawn(move || {
+            let output = read(stdout);
+            let _ = sender.send(()); // nobody listens any more once the time is over
+            output
+        });
+        let _ = closed.recv_timeout(limit); // what matters is how the program ends
+        let ended = ended(&mut child, end);
+        let (output, unread) = joined(output);
+        let (errors, errors_unread) = joined(errors);
+        let faults = [ended, unread, said(&errors), errors_unread, joined(written)];
+        Outcome { output, faults: faults.into_iter().flatten().collect() }
+    })
+}
+
+fn joined<T>(handle: ScopedJoinHandle<T>) -> T {
+    handle.join().unwrap_or_else(|panic| std::panic::resume_unwind(panic))
+}
+
+/// Waits for the program's end; ends it when the time is over. Its threads then see their pipes closed.
+fn ended(child: &mut Child, end: Instant) -> Option<String> {
+    loop {
+        match child.try_wait() {
+            Ok(Some(status)) => return status_fault(status),
+            Err(error) => return Some(format!("cannot be waited for: {error}")),
+            Ok(None) if Instant::now() < end => thread::sleep(Duration::from_millis(1)),
+            Ok(None) => break,
+        }
+    }
+    let _ = child.kill(); // it may have ended by itself meanwhile
+    let _ = child.wait();
+    Some("did not end".into())
+}
+
+fn status_fault(status: ExitStatus) -> Option<String> {
+    (!status.success()).then(|| format!("ended with {status}"))
+}
+
+fn said(errors: &[u8]) -> Option<String> {
+    let quote = &errors[..errors.len().min(LONGEST_QUOTE)];
+    (!errors.is_empty()).then(|| format!("wrote on standard error: {}", quote.escape_ascii()))
+}
+
+fn read(from: Option<impl Read>) -> (Vec<u8>, Option<String>) {
+    let mut bytes = Vec::new();
+    let result = from.map_or(Ok(0), |mut from| from.read_to_end(&mut bytes));
+    (bytes, result.err().map(|error| format!("cannot be read from: {error}")))
+}
+
+/// A program that ends early closes its end: what it wrote by then is judged, and that is no fault of the writing.
+fn write(to: Option<impl Write>, input: &[u8], step: usize) -> Option<String> {
+    let mut to = to?;
+    let result: io::Result<()> = input.chunks(step).try_for_each(|part| to.write_all(part));
+    let error = result.err().filter(|error| error.kind() != ErrorKind::BrokenPipe)?;
+    Some(format!("cannot be written to: {error}"))
+}
+
+#[cfg(test)]
+mod tests {
+    use super::*;
+
+    /// The shell as the program under test: its input is what it does.
+    fn shell(script: &str) -> Outcome {
+        run("/bin/sh", script.as_bytes(), 7)
+    }
+
+    fn faults(script: &str) -> String {
+        shell(script).faults.join("; ")
+    }
+
+    #[test]
+    fn a_good_run_has_no_fault() {
+        let outcome = shell("printf well");
+        assert!(outcome.agrees(b"well"), "{outcome:?}");
+        assert!(!outcome.agrees(b"other"));
+        assert_eq!(outcome.why(b"other"), "other output");
+    }
+
+    #[test]
+    fn the_same_output_is_no_agreement_if_the_run_failed() {
+        let outcome = shell("printf well; exit 3");
+        assert!(!outcome.agrees(b"well"));
+        assert_eq!(outcome.why(b"well"), "ended with exit status: 3");
+        assert_eq!(outcome.kept(), b"well(ended with exit status: 3)\n");
+    }
+
+    #[test]
+    fn every_failure_is_said() {
+        assert!(faults("kill -KILL $$").contains("signal: 9"));
+        assert_eq!(faults("echo oh >&2"), "wrote on standard error: oh\\n");
+        assert_eq!(faults("echo oh >&2; exit 2").split("; ").count(), 2);
+        let missing = run("/no/such/program", b"", 1);
+        assert!(missing.faults[0].starts_with("cannot be started"), "{missing:?}");
+        assert!(!missing.agrees(b""));
+    }
+
+    #[test]
+    fn a_run_without_end_is_ended() {
+        for script in [&b"exec sleep 60"[..], b"exec >&- 2>&-; while :; do :; done"] {
+            let path = Path::new("/bin/sh");
+            let outcome = run_within(Duration::from_millis(300), path, script, script.len());
+            assert_eq!(outcome.faults[0], "did not end");
+        }
+    }
+
+    #[test]
+    fn input_that_is_not_wanted_is_no_fault() {
+        let script = ["printf well; exec <&-; exit 0\n", &"#".repeat(1 << 20)].concat();
+        assert!(shell(&script).agrees(b"well"));
+    }
+
+    #[test]
+    fn only_a_closed_pipe_is_forgiven() {
+        struct Failing(ErrorKind);
+        impl Write for Failing {
+            fn write(&mut self, _: &[u8]) -> io::Result<usize> {
+                Err(self.0.into())
+            }
+            fn flush(&mut self) -> io::Result<()> {
+                Ok(())
+            }
+        }
+        assert_eq!(write(Some(Failing(ErrorKind::BrokenPipe)), b"x", 1), None);
+        assert!(write(Some(Failing(ErrorKind::StorageFull)), b"x", 1).is_some());
     }
 }
