@@ -22,6 +22,7 @@ def ends(case, run):
     yield from differs("the client's exit status", run.status, case.status)
     yield from differs("the client sat still", run.waited, case.waits)
     yield from differs("the receiver's exit status", run.receiver_status, 0)
+    yield from differs("the receiver's standard error", run.receiver_errors, b"")
     yield from differs("bytes between the replies", wire.between(run.replied), b"")
 
 

@@ -7,6 +7,7 @@ import select
 import signal
 import struct
 import subprocess
+import tempfile
 import termios
 import time
 import tty
@@ -26,15 +27,16 @@ def start_client(argv, env, folder):
     return pid, end
 
 
-def start_receiver(program):
-    return subprocess.Popen([program], stdin=subprocess.PIPE, stdout=subprocess.PIPE, bufsize=0)
+def start_receiver(argv, errors):
+    return subprocess.Popen(argv, stdin=subprocess.PIPE, stdout=subprocess.PIPE, stderr=errors, bufsize=0)
 
 
 class Line:
-    """Both ends, and both directions' bytes from the start; what is not yet passed on is what follows the place reached."""
+    """Both ends, and both directions' bytes from the start; what is not yet passed on is what follows the place reached.
+    `sender`: what is made of each piece that the client writes, before it counts as sent."""
 
-    def __init__(self, terminal, receiver):
-        self.terminal, self.receiver = terminal, receiver
+    def __init__(self, terminal, receiver, sender):
+        self.terminal, self.receiver, self.sender = terminal, receiver, sender
         self.sent, self.passed_on = bytearray(), 0
         self.replied, self.answered = bytearray(), 0
         self.last_command = None
@@ -85,7 +87,7 @@ class Line:
             piece = os.read(self.terminal, 65536)
         except OSError:
             return False
-        self.sent += piece
+        self.sent += self.sender(piece)
         if b"\x1b]5113;" in piece:
             self.last_command = time.monotonic()
         return bool(piece)
@@ -120,10 +122,10 @@ def end_of(pid, until):
 class Run:
     """One run of the client against the receiver, whole. `waited`: it sat still for `quiet` seconds and was sent ctrl-c."""
 
-    def __init__(self, argv, env, folder, program, limit, quiet):
-        start = time.monotonic()
+    def __init__(self, argv, env, folder, receiver, limit, quiet, sender=bytes):
+        start, errors = time.monotonic(), tempfile.TemporaryFile()
         pid, terminal = start_client(argv, env, folder)
-        line = Line(terminal, start_receiver(program))
+        line = Line(terminal, start_receiver(receiver, errors), sender)
         closed = line.pump(start + limit, quiet)
         self.waited = not closed
         if self.waited:
@@ -131,5 +133,7 @@ class Run:
             line.pump(time.monotonic() + 8)
         self.status = end_of(pid, time.monotonic() + 1)
         self.receiver_status = line.hang_up()
+        errors.seek(0)
+        self.receiver_errors = errors.read()
         self.sent, self.replied = bytes(line.sent), bytes(line.replied)
         self.seconds = time.monotonic() - start

@@ -18,6 +18,12 @@ def fields(text):
     return {key: decoded(value) if key in CODED else value for key, value in found.items()}
 
 
+def frame(found):
+    """The frame of a command's fields, in their order."""
+    texts = {key: base64.b64encode(value).decode() if key in CODED else value for key, value in found.items()}
+    return b"\x1b]5113;" + ";".join(f"{key}={value}" for key, value in texts.items()).encode() + b"\x1b\\"
+
+
 def commands(stream):
     """Every command of a stream, in order."""
     return [fields(text) for text in FRAME.findall(stream)]
