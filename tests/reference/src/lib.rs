@@ -1,7 +1,5 @@
-//! An independent receiver, written from document 01, its readings and the scripted console's paper,
-//! and what compares the project's programs with it.
+//! An independent receiver, written from document 01, its readings and the scripted console's paper.
 
-pub mod compare;
 pub mod console;
 pub mod receiver;
 pub mod replay;

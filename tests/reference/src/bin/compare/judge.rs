@@ -1,11 +1,11 @@
 //! Runs a case on both sides, counts, and keeps the cases that differ.
 
-use super::coverage::Coverage;
-use super::programs::{self, Outcome, DRIVE, REPLAY};
-use super::shrink::shrink;
-use crate::console::{self, LONGEST_SCRIPT};
-use crate::replay::Replay;
-use crate::script::{self, Op, Ops};
+use crate::coverage::Coverage;
+use crate::programs::{self, Outcome, DRIVE, REPLAY};
+use crate::shrink::shrink;
+use reference::console::{self, LONGEST_SCRIPT};
+use reference::replay::Replay;
+use reference::script::{self, Op, Ops};
 use std::fs;
 use std::sync::atomic::{AtomicUsize, Ordering};
 
@@ -43,28 +43,31 @@ pub fn expected_of_recording(input: &[u8]) -> Vec<u8> {
     out
 }
 
-impl Tally {
-    /// Judges scripts, each of which starts anew, joined in as few runs as their length allows.
-    /// Only the last one may be no proper script.
-    pub fn scripts(&mut self, cases: &[Case]) {
-        let mut batch: Vec<&Case> = Vec::new();
-        let mut len = 0;
-        for case in cases {
-            if len + case.input.len() > LONGEST_SCRIPT {
-                self.batch(&batch);
-                batch.clear();
-                len = 0;
+/// Joins the scripts in as few runs as their length allows.
+pub fn batches(cases: Vec<Case>) -> Vec<Vec<Case>> {
+    let mut batches: Vec<Vec<Case>> = Vec::new();
+    let mut room = 0;
+    for case in cases {
+        let len = case.input.len();
+        match batches.last_mut() {
+            Some(batch) if len <= room => batch.push(case),
+            _ => {
+                room = LONGEST_SCRIPT;
+                batches.push(vec![case]);
             }
-            len += case.input.len();
-            batch.push(case);
         }
-        self.batch(&batch);
+        room = room.saturating_sub(len);
+    }
+    batches
+}
+
+impl Tally {
+    /// Judges scripts, each of which starts anew. Only the last one may be no proper script.
+    pub fn scripts(&mut self, cases: Vec<Case>) {
+        batches(cases).iter().for_each(|batch| self.batch(batch));
     }
 
-    fn batch(&mut self, batch: &[&Case]) {
-        if batch.is_empty() {
-            return;
-        }
+    fn batch(&mut self, batch: &[Case]) {
         let input: Vec<u8> = batch.iter().flat_map(|case| case.input.iter().copied()).collect();
         let outputs: Vec<Vec<u8>> =
             batch.iter().map(|case| expected_of_script(&case.input)).collect();

@@ -1,11 +1,11 @@
 //! Generated streams: what a program on the line might send, as a list of chunks.
 
-use super::faults;
-use super::fields::{adorn, cast, encoded, random_bytes, Fields, ACTIONS, GOOD_INTEGERS};
-use super::framing::{damaged, fragments, framed, noise};
-use super::names;
-use super::rng::Rng;
-use super::window::window;
+use crate::bad_texts;
+use crate::fields::{adorn, cast, encoded, random_bytes, Fields, ACTIONS, GOOD_INTEGERS};
+use crate::framing::{damaged, fragments, framed, noise};
+use crate::names;
+use crate::rng::Rng;
+use crate::window::window;
 
 /// A stream and the ids it uses.
 pub struct Stream {
@@ -49,7 +49,7 @@ pub fn emit(rng: &mut Rng, shape: &Shape, fields: Fields, chunks: &mut Vec<Vec<u
     if !rng.chance(shape.damage) {
         chunks.push(framed(&fields.text()));
     } else if rng.chance(60) {
-        chunks.push(framed(&faults::faulty(rng, fields)));
+        chunks.push(framed(&bad_texts::faulty(rng, fields)));
     } else {
         chunks.push(damaged(rng, &fields.text()));
     }
@@ -146,8 +146,8 @@ fn faulty(rng: &mut Rng, shape: &Shape, ids: &[Vec<u8>]) -> Vec<Vec<u8>> {
         let fields = any_command(rng, shape, action, ids, &fids);
         let fields = adorn(rng, fields);
         chunks.push(match rng.weighted(&[80, 10, 10]) {
-            0 => framed(&faults::faulty(rng, fields)),
-            1 => framed(&faults::wild(rng)),
+            0 => framed(&bad_texts::faulty(rng, fields)),
+            1 => framed(&bad_texts::wild(rng)),
             _ => framed(&fields.text()),
         });
     }

@@ -1,7 +1,7 @@
 //! Generated recordings: streams as whole byte strings, from small to about 100 KB.
 
-use super::rng::Rng;
-use super::streams::{stream, Shape};
+use crate::rng::Rng;
+use crate::streams::{stream, Shape};
 
 /// The recording of a seed: one stream, or several one after another.
 pub fn recording(seed: u64) -> Vec<u8> {

@@ -1,7 +1,7 @@
 //! Generated frames: openers, closers, noise between them, and their damage.
 
-use super::fields::random_bytes;
-use super::rng::Rng;
+use crate::fields::random_bytes;
+use crate::rng::Rng;
 
 /// The text in its frame.
 pub fn framed(text: &[u8]) -> Vec<u8> {

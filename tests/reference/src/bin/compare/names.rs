@@ -1,7 +1,7 @@
 //! Generated names, good and bad.
 
-use super::fields::random_bytes;
-use super::rng::Rng;
+use crate::fields::random_bytes;
+use crate::rng::Rng;
 
 const PLAIN: [&[u8]; 26] = [
     b"/A",

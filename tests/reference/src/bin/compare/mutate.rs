@@ -1,9 +1,9 @@
 //! Mutated inputs: stored and generated ones, changed at random.
 
-use super::recordings::recording;
-use super::rng::Rng;
-use super::scripts::{self, script};
-use crate::script::{self as ops, Op, Ops};
+use crate::recordings::recording;
+use crate::rng::Rng;
+use crate::scripts::{self, script};
+use reference::script::{self as ops, Op, Ops};
 
 /// Inputs that stand in the repository.
 #[derive(Default)]

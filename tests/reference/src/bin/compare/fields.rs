@@ -1,7 +1,7 @@
 //! Generated commands: fields with values of their kinds.
 
-use super::rng::Rng;
-use crate::receiver::base64;
+use crate::rng::Rng;
+use reference::receiver::base64;
 
 /// A command as a list of fields, in the order of writing.
 #[derive(Clone)]

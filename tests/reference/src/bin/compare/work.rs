@@ -1,13 +1,17 @@
 //! Shares the cases out to two threads.
 
-use super::judge::{Case, Tally};
-use super::mutate::{mutated_recording, mutated_script, raw_script, Stored};
-use super::recordings::recording;
-use super::scripts::script;
-use crate::script::encode;
+use crate::judge::{Case, Tally};
+use crate::mutate::{mutated_recording, mutated_script, raw_script, Stored};
+use crate::recordings::recording;
+use crate::scripts::script;
+use reference::script::encode;
 use std::sync::atomic::{AtomicU64, Ordering};
 use std::thread;
 use std::time::{Duration, Instant};
+
+/// The scripts and recordings of the quick run and of the long one.
+pub const QUICK: (u64, u64) = (2_000, 500);
+pub const LONG: (u64, u64) = (100_000, 20_000);
 
 const THREADS: usize = 2;
 /// Cases taken at a time.
@@ -17,7 +21,7 @@ const RECORDINGS: u64 = 10;
 /// The sizes in which recordings are written to the program, in turn.
 const STEPS: [usize; 6] = [1_000_000, 65_536, 4096, 1000, 63, 65_535];
 
-fn step(seed: u64, len: usize) -> usize {
+pub fn step(seed: u64, len: usize) -> usize {
     let step = STEPS[(seed % STEPS.len() as u64) as usize];
     // Small pieces cost a call each.
     step.max(len / 50).max(1)
@@ -50,13 +54,13 @@ fn seeds(next: &AtomicU64, count: u64, step: u64) -> std::ops::Range<u64> {
 }
 
 /// The scripts and recordings of the first seeds.
-pub fn generated(scripts: u64, recordings: u64) -> Tally {
+pub fn generated((scripts, recordings): (u64, u64)) -> Tally {
     let (next_script, next_recording) = (AtomicU64::new(0), AtomicU64::new(0));
     share(|tally| {
         let a = seeds(&next_script, scripts, SCRIPTS);
         let b = seeds(&next_recording, recordings, RECORDINGS);
         let cases: Vec<Case> = a.clone().map(script_case).collect();
-        tally.scripts(&cases);
+        tally.scripts(cases);
         for seed in b.clone() {
             let case = recording_case(seed);
             tally.recording(&case, step(seed, case.input.len()));
@@ -75,10 +79,10 @@ pub fn fuzzed(time: Duration, seed: u64, stored: &Stored) -> Tally {
             (from..from + SCRIPTS / 2).map(|seed| mutated_script_case(seed, stored)).collect();
         // What may be no proper script ends a run, so it stands last in one.
         let raw = cases.split_off(cases.len() - 5);
-        tally.scripts(&cases);
+        tally.scripts(cases);
         for (i, case) in raw.into_iter().enumerate() {
             let bad = raw_script_case(from + i as u64, stored);
-            tally.scripts(&[case, bad]);
+            tally.scripts(vec![case, bad]);
         }
         for seed in from..from + SCRIPTS / 4 {
             let case = mutated_recording_case(seed, stored);

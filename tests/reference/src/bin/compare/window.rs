@@ -1,9 +1,9 @@
 //! Generated transfers as a client makes them: sessions with files, interleaved.
 
-use super::fields::{cast, encoded, Fields};
-use super::names;
-use super::rng::Rng;
-use super::streams::{emit, part, Shape};
+use crate::fields::{cast, encoded, Fields};
+use crate::names;
+use crate::rng::Rng;
+use crate::streams::{emit, part, Shape};
 
 /// A client: its commands still to be sent.
 struct Client(Vec<Fields>);

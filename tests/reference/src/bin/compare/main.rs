@@ -1,8 +1,26 @@
 //! Compares the programs under test with the reference; run at the repository's root.
+//!
+//! Generated and mutated inputs, judged on both sides.
 
-use reference::compare::judge::{expected_of_recording, expected_of_script, Case, Tally, KEEP_IN};
-use reference::compare::mutate::Stored;
-use reference::compare::{programs, special, work};
+mod bad_texts;
+mod coverage;
+mod fields;
+mod framing;
+mod judge;
+mod mutate;
+mod names;
+mod programs;
+mod recordings;
+mod rng;
+mod scripts;
+mod shrink;
+mod special;
+mod streams;
+mod window;
+mod work;
+
+use crate::judge::{expected_of_recording, expected_of_script, Case, Tally, KEEP_IN};
+use crate::mutate::Stored;
 use std::process::ExitCode;
 use std::time::{Duration, Instant};
 use std::{env, fs};
@@ -27,8 +45,8 @@ fn main() -> ExitCode {
     let start = Instant::now();
     let number = |text: &str| text.parse::<u64>().ok();
     match args[..] {
-        ["quick"] => finish(start, generated(2_000, 500), Cover::Must),
-        ["long"] => finish(start, generated(100_000, 20_000), Cover::Must),
+        ["quick"] => finish(start, generated(work::QUICK), Cover::Must),
+        ["long"] => finish(start, generated(work::LONG), Cover::Must),
         ["fuzz", seconds] => fuzz(start, number(seconds), Some(1)),
         ["fuzz", seconds, seed] => fuzz(start, number(seconds), number(seed)),
         ["one", kind, seed] => number(seed).and_then(|seed| one(kind, seed)).unwrap_or_else(usage),
@@ -41,10 +59,10 @@ fn usage() -> ExitCode {
     ExitCode::FAILURE
 }
 
-fn generated(scripts: u64, recordings: u64) -> Tally {
+fn generated(counts: (u64, u64)) -> Tally {
     let mut tally = Tally::default();
     special::judge(&mut tally);
-    tally.join(work::generated(scripts, recordings));
+    tally.join(work::generated(counts));
     tally
 }
 

@@ -2,11 +2,11 @@
 //!
 //! The reference runs along, so that most calls fit what was told.
 
-use super::rng::Rng;
-use super::streams::{stream, Shape, Stream};
-use crate::console::Console;
-use crate::receiver::{Answer, Refusal, Told};
-use crate::script::{Buffer, Op};
+use crate::rng::Rng;
+use crate::streams::{stream, Shape, Stream};
+use reference::console::Console;
+use reference::receiver::{Answer, Refusal, Told};
+use reference::script::{Buffer, Op};
 
 /// A script stops after so many operations or bytes.
 const MOST_OPS: usize = 220;

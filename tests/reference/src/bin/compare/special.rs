@@ -1,19 +1,25 @@
 //! Cases that no seed makes: scripts at the length limit, scripts that are none, tiny recordings.
 
-use super::judge::{Case, Tally};
-use crate::console::LONGEST_SCRIPT;
+use crate::judge::{Case, Tally};
+use reference::console::LONGEST_SCRIPT;
 
 /// Judges them all, each in a run of its own.
 pub fn judge(tally: &mut Tally) {
-    for (i, input) in scripts().into_iter().enumerate() {
-        tally.scripts(&[Case { name: format!("special-script-{i}"), input }]);
+    for case in scripts() {
+        tally.scripts(vec![case]);
     }
-    for (i, input) in recordings().into_iter().enumerate() {
-        tally.recording(&Case { name: format!("special-recording-{i}"), input }, 1);
+    for case in recordings() {
+        tally.recording(&case, 1);
     }
 }
 
-fn scripts() -> Vec<Vec<u8>> {
+fn named(kind: &str, inputs: Vec<Vec<u8>>) -> Vec<Case> {
+    let inputs = inputs.into_iter().enumerate();
+    inputs.map(|(i, input)| Case { name: format!("special-{kind}-{i}"), input }).collect()
+}
+
+/// Scripts at the length limit, and scripts that are none; only to be run alone.
+pub fn scripts() -> Vec<Case> {
     #[rustfmt::skip]
     let faults = [
         &b""[..], b"z", b"N", b"\x00", b"\xff", b"\n", b"kz", b"ke\x00", b"ke\x05", b"ke\xff", b"te",
@@ -22,7 +28,7 @@ fn scripts() -> Vec<Vec<u8>> {
     ];
     let mut all: Vec<Vec<u8>> = faults.iter().map(|bytes| bytes.to_vec()).collect();
     all.extend([LONGEST_SCRIPT - 1, LONGEST_SCRIPT, LONGEST_SCRIPT + 1, 70_000].map(long));
-    all
+    named("script", all)
 }
 
 /// A script of the given length: one long feed of noise, then starts anew, then two calls.
@@ -34,7 +40,8 @@ fn long(len: usize) -> Vec<u8> {
     script
 }
 
-fn recordings() -> Vec<Vec<u8>> {
+/// Tiny recordings, and document 01's example cut off at many places.
+pub fn recordings() -> Vec<Case> {
     let example: &[u8] = b"\x1b]5113;ac=send;id=m\x1b\\\x1b]5113;ac=file;id=m;fid=a;n=L256\x1b\\\
         \x1b]5113;ac=data;id=m;fid=a;d=YWJj\x1b\\\x1b]5113;ac=end_data;id=m;fid=a\x1b\\\
         \x1b]5113;ac=finish;id=m\x1b\\";
@@ -44,5 +51,5 @@ fn recordings() -> Vec<Vec<u8>> {
         .collect();
     // Every cut of the example, as a recording that ends there.
     all.extend((1..example.len()).step_by(7).map(|len| example[..len].to_vec()));
-    all
+    named("recording", all)
 }

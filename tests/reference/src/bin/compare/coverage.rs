@@ -1,6 +1,6 @@
 //! Counts what came up in the outputs: refusals, statuses sent, and what the console was told.
 
-use crate::receiver::base64;
+use reference::receiver::base64;
 use std::collections::BTreeMap;
 
 #[rustfmt::skip]

@@ -1,7 +1,7 @@
 //! Faults of command texts: one for each rule of the reader, and some that only look like one.
 
-use super::fields::{encoded, random_bytes, safe, Fields, ACTIONS};
-use super::rng::Rng;
+use crate::fields::{encoded, random_bytes, safe, Fields, ACTIONS};
+use crate::rng::Rng;
 
 #[rustfmt::skip]
 const KNOWN: [&str; 15] = [
