@@ -2,7 +2,7 @@
 
 use super::scan;
 
-const ALPHABET: &[u8; 64] = b"ABCDEFGHIJKLMNOPQRSTUVWXYZabcdefghijklmnopqrstuvwxyz0123456789+/";
+pub const ALPHABET: &[u8; 64] = b"ABCDEFGHIJKLMNOPQRSTUVWXYZabcdefghijklmnopqrstuvwxyz0123456789+/";
 
 /// Six bits for each byte of the alphabet; other bytes are refused before they are looked up.
 const SEXTETS: [u8; 256] = {

@@ -2,6 +2,7 @@
 
 use crate::fields::{encoded, random_bytes, safe, Fields, ACTIONS};
 use crate::rng::Rng;
+use reference::receiver::base64::ALPHABET;
 
 #[rustfmt::skip]
 const KNOWN: [&str; 15] = [
@@ -131,7 +132,7 @@ pub fn bad_base64(rng: &mut Rng) -> Vec<u8> {
         1 => value.push(*rng.pick(b"A=!")),
         2 => value.retain(|&b| b != b'='),
         3 => value[place] = *rng.pick(b"-_!, =*[`{@"),
-        4 => unused_bits(&mut value),
+        4 => unused_bit(rng, &mut value),
         5 => value.extend_from_slice(rng.word(&["====", "A===", "AA=A", "=AAA", "AB=="])),
         6 => value.insert(place, b'='),
         _ => value = rng.word(&["AQ", "AR==", "A=!=", "!A=A", "AAB=", "="]).to_vec(),
@@ -139,13 +140,13 @@ pub fn bad_base64(rng: &mut Rng) -> Vec<u8> {
     value
 }
 
-/// Sets the lowest of the bits that padding leaves unused: the next byte is the next digit, since
-/// the last digit before a padding is even. Without padding this is no fault.
-fn unused_bits(value: &mut [u8]) {
-    let digits = value.iter().position(|&b| b == b'=').unwrap_or(value.len());
-    let last = &mut value[digits - 1];
-    if last.is_ascii_alphanumeric() && !b"Zz9".contains(last) {
-        *last += 1;
+/// Sets one of the bits that padding leaves unused, two for each `=`. Without padding this is no fault.
+fn unused_bit(rng: &mut Rng, value: &mut [u8]) {
+    let padding = value.iter().filter(|&&b| b == b'=').count();
+    let last = value.len() - padding - 1;
+    let sextet = ALPHABET.iter().position(|&b| b == value[last]).unwrap_or(0);
+    if padding > 0 {
+        value[last] = ALPHABET[sextet | 1 << rng.below(2 * padding)];
     }
 }
 

@@ -21,6 +21,6 @@ pub fn recording(seed: u64) -> Vec<u8> {
             break;
         }
     }
-    bytes.truncate(110_000);
+    bytes.truncate(130_000);
     bytes
 }

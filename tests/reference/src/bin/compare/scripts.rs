@@ -5,7 +5,7 @@
 use crate::rng::Rng;
 use crate::streams::{stream, Shape, Stream};
 use reference::console::Console;
-use reference::receiver::{Answer, Refusal, Told};
+use reference::receiver::{Answer, Place, Refusal, Told};
 use reference::script::{Buffer, Op};
 
 /// A script stops after so many operations or bytes.
@@ -33,6 +33,10 @@ struct Maker<'r> {
     wrong: usize,
     /// Failures among the answers, in a hundred.
     failures: usize,
+    /// Sessions left asked for a while, in a hundred.
+    hesitates: usize,
+    /// Those that were left asked; some are meanwhile withdrawn.
+    waiting: Vec<Vec<u8>>,
 }
 
 /// The script of a seed.
@@ -54,8 +58,9 @@ pub fn script(seed: u64) -> Vec<Op> {
 pub fn perform(rng: &mut Rng, chunks: &[Vec<u8>], ids: Vec<Vec<u8>>) -> Vec<Op> {
     let cut = cut(rng);
     let (wrong, failures) = (*rng.pick(&[0, 2, 10, 30]), *rng.pick(&[0, 5, 25]));
-    let console = Console::default();
-    let mut maker = Maker { rng, console, ops: Vec::new(), bytes: 0, ids, wrong, failures };
+    let hesitates = *rng.pick(&[0, 5, 50]);
+    let (console, ops, waiting) = (Console::default(), Vec::new(), Vec::new());
+    let mut maker = Maker { rng, console, ops, bytes: 0, ids, wrong, failures, hesitates, waiting };
     maker.perform(chunks, cut);
     maker.ops
 }
@@ -113,7 +118,7 @@ impl Maker<'_> {
             let again = answer.refusal.is_some_and(|no| no as u8 >= 9) || self.rng.chance(98);
             at += if again { answer.consumed } else { len };
             if self.rng.chance(30) {
-                self.add(Op::Text);
+                self.text(&answer);
             }
             self.react(&answer);
         }
@@ -132,19 +137,49 @@ impl Maker<'_> {
         answer
     }
 
+    /// The text of the report; sometimes with a carry that is lent about as long as the text in it.
+    fn text(&mut self, report: &Answer) {
+        match report.text {
+            Place::Carry { len } if self.rng.chance(15) => {
+                let len = *self.rng.pick(&[0, len - 1, len - 1, len, len + 1]);
+                self.add(Op::Lend(Buffer::Carry, len as u16));
+                self.add(Op::Text);
+                self.add(Op::Lend(Buffer::Carry, 8256));
+            }
+            _ => {
+                self.add(Op::Text);
+            }
+        }
+    }
+
+    /// Answers a session that was asked.
+    fn decide(&mut self, id: Vec<u8>) {
+        let op = match self.rng.weighted(&[90, 7, 3]) {
+            0 => Op::Allow(id),
+            1 => Op::Deny(id),
+            _ => Op::Drop(id),
+        };
+        self.add(op);
+    }
+
+    /// Answers one of the sessions that were left asked, now and then.
+    fn decide_late(&mut self) {
+        if !self.waiting.is_empty() && self.rng.chance(40) {
+            let place = self.rng.below(self.waiting.len());
+            let id = self.waiting.swap_remove(place);
+            self.decide(id);
+        }
+    }
+
     /// What a console does after a report.
     fn react(&mut self, answer: &Answer) {
         match answer.told {
-            Told::Asked(id) => {
-                let id = id.bytes().to_vec();
-                match self.rng.weighted(&[86, 6, 3, 5]) {
-                    0 => self.add(Op::Allow(id)),
-                    1 => self.add(Op::Deny(id)),
-                    2 => self.add(Op::Drop(id)),
-                    _ => None,
-                };
+            Told::Asked(id) if self.rng.chance(self.hesitates) => {
+                self.waiting.push(id.bytes().to_vec());
             }
+            Told::Asked(id) => self.decide(id.bytes().to_vec()),
             Told::Open | Told::Write { .. } | Told::Commit => {
+                self.decide_late();
                 // Sometimes another call comes first, or a feed that meets refusal 10.
                 if self.rng.chance(self.wrong) {
                     self.stray();
@@ -182,7 +217,7 @@ impl Maker<'_> {
         let mut id = self.rng.pick(&self.ids).clone();
         match self.rng.weighted(&[80, 5, 5, 5, 5]) {
             0 => {}
-            1 => id.push(b'm'),
+            1 => id.push(*self.rng.pick(b"m\0")),
             2 => id.clear(),
             3 => id = vec![b'i'; 33 + self.rng.below(223)],
             _ => id = b"\x00!\xff".to_vec(),

@@ -29,13 +29,14 @@ pub struct Shape {
 pub fn stream(rng: &mut Rng, shape: &Shape) -> Stream {
     let count = rng.weighted(&[0, 30, 30, 15, 10, 5, 10]).max(1);
     let ids = cast(rng, count);
-    let chunks = match rng.weighted(&[40, 20, 15, 8, 8, 9]) {
+    let chunks = match rng.weighted(&[36, 18, 15, 8, 8, 9, 6]) {
         0 => window(rng, shape, &ids),
         1 => soup(rng, shape, &ids),
         2 => faulty(rng, shape, &ids),
         3 => torn(rng, shape, &ids),
         4 => named(rng, shape, &ids),
-        _ => limits(rng, shape, &ids),
+        5 => limits(rng, shape, &ids),
+        _ => rows(rng, shape, &ids),
     };
     Stream { chunks, ids }
 }
@@ -188,13 +189,43 @@ fn named(rng: &mut Rng, shape: &Shape, ids: &[Vec<u8>]) -> Vec<Vec<u8>> {
     chunks
 }
 
+/// Rows of the action table: any action for a session that was just asked for, or was not.
+fn rows(rng: &mut Rng, shape: &Shape, ids: &[Vec<u8>]) -> Vec<Vec<u8>> {
+    let fids = cast(rng, 1);
+    let mut chunks = Vec::new();
+    for _ in 0..shape.commands {
+        let id = rng.id(ids);
+        if rng.chance(60) {
+            chunks.push(opening(rng, id));
+        }
+        let action = *rng.pick(&ACTIONS);
+        let fields = any_command(rng, shape, action, &[id.to_vec()], &fids);
+        emit(rng, shape, fields, &mut chunks);
+    }
+    chunks
+}
+
 /// Streams at one of the limits.
 fn limits(rng: &mut Rng, shape: &Shape, ids: &[Vec<u8>]) -> Vec<Vec<u8>> {
-    match rng.weighted(&[35, 35, 30]) {
+    match rng.weighted(&[35, 30, 25, 10]) {
         0 => long_texts(rng, ids),
         1 => many_files(rng, shape, ids),
-        _ => many_sessions(rng, shape),
+        2 => many_sessions(rng, shape),
+        _ => long_file(rng, ids),
     }
+}
+
+/// A file of more bytes than 16 bits count.
+fn long_file(rng: &mut Rng, ids: &[Vec<u8>]) -> Vec<Vec<u8>> {
+    let of = |action: &str| Fields::new(action, &ids[0]).with("fid", b"L");
+    let file = of("file").with("n", &encoded(&names::good(rng)));
+    let mut chunks = vec![opening(rng, &ids[0]), framed(&file.text())];
+    for _ in 0..rng.within(15, 17) {
+        let content = vec![b'A' + rng.below(26) as u8; *rng.pick(&[4095, 4096, 4096])];
+        chunks.push(framed(&of("data").with("d", &encoded(&content)).text()));
+    }
+    chunks.push(framed(&of("end_data").text()));
+    chunks
 }
 
 /// Texts of about 8,192 bytes, closed, abandoned, or with a fault.
