@@ -72,7 +72,6 @@ impl Session {
 
     pub fn clear(&mut self) {
         self.state = SessionState::Absent;
-        self.used = 0;
     }
 
     pub fn find(&self, fid: &Id) -> Option<usize> {

@@ -6,9 +6,11 @@ mod bad_texts;
 mod coverage;
 mod fields;
 mod framing;
+mod hunt;
 mod judge;
 mod mutate;
 mod names;
+mod patches;
 mod programs;
 mod recordings;
 mod rng;
@@ -16,6 +18,7 @@ mod scripts;
 mod shrink;
 mod special;
 mod streams;
+mod trials;
 mod window;
 mod work;
 
@@ -25,7 +28,7 @@ use std::process::ExitCode;
 use std::time::{Duration, Instant};
 use std::{env, fs};
 
-const USAGE: &str = "compare quick | long | fuzz SECONDS [SEED] | one KIND SEED
+const USAGE: &str = "compare quick | long | fuzz SECONDS [SEED] | one KIND SEED | faults [WORD..]
 KIND: script, recording, fuzz-script, fuzz-raw, fuzz-recording";
 
 /// Whether things that never came up are a fault.
@@ -38,6 +41,9 @@ enum Cover {
 fn main() -> ExitCode {
     let args: Vec<String> = env::args().skip(1).collect();
     let args: Vec<&str> = args.iter().map(String::as_str).collect();
+    if let ["faults", words @ ..] = &args[..] {
+        return faults(words);
+    }
     if !programs::present() {
         println!("{} or {} is missing", programs::DRIVE, programs::REPLAY);
         return ExitCode::FAILURE;
@@ -72,6 +78,18 @@ fn fuzz(start: Instant, seconds: Option<u64>, seed: Option<u64>) -> ExitCode {
     };
     let tally = work::fuzzed(Duration::from_secs(seconds), seed, &stored());
     finish(start, tally, Cover::May)
+}
+
+/// Needs none of the programs under test: the reference is compared with itself, changed.
+fn faults(words: &[&str]) -> ExitCode {
+    match hunt::run(words) {
+        Ok(true) => ExitCode::SUCCESS,
+        Ok(false) => ExitCode::FAILURE,
+        Err(error) => {
+            println!("error: {error}");
+            ExitCode::FAILURE
+        }
+    }
 }
 
 /// The inputs that stand in the repository; those that cannot be read are left out, and said.

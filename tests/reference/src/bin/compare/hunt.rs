@@ -1,0 +1,104 @@
+//! Can the comparison fail? For each fault of the lists, the reference with that line changed is compared as if it were the program.
+
+use crate::patches::{self, Patch};
+use crate::trials::{self, Trial};
+use std::fs;
+use std::io;
+use std::path::{Path, PathBuf};
+use std::process::Command;
+
+const REFERENCE: &str = "tests/reference";
+/// The copy that is changed, and where it is built: one folder for all faults, so that little is compiled for each.
+const COPY: &str = "target/reference/faults/source";
+const BUILD: &str = "target/reference/faults/build";
+/// The profile in Cargo.toml, which is also the name of its folder.
+const PROFILE: &str = "faults";
+
+/// Tries the faults whose names have the given words in them. Answers whether each was found.
+pub fn run(words: &[&str]) -> Result<bool, String> {
+    let patches = chosen(words)?;
+    let trials = trials::quick();
+    unchanged(&trials)?;
+    let found = patches.iter().filter(|patch| hunt(patch, &trials)).count();
+    println!("{found} of {} faults found", patches.len());
+    Ok(found == patches.len())
+}
+
+/// The faults to try. Each is checked before the first is built.
+fn chosen(words: &[&str]) -> Result<Vec<Patch>, String> {
+    let mut patches = patches::read_all(Path::new(patches::LISTS))?;
+    patches.retain(|patch| words.iter().all(|word| patch.name.contains(word)));
+    patches.iter().try_for_each(|patch| patch.check(Path::new(REFERENCE)))?;
+    if patches.is_empty() {
+        return Err("no such fault".into());
+    }
+    Ok(patches)
+}
+
+/// The copy without a fault must agree everywhere: else what is found says nothing.
+fn unchanged(trials: &[Trial]) -> Result<(), String> {
+    let programs = build(None)?;
+    match trials.iter().find_map(|trial| trial.difference(&programs)) {
+        Some(difference) => Err(format!("the reference unchanged: {difference}")),
+        None => {
+            let inputs: usize = trials.iter().map(Trial::inputs).sum();
+            println!("the reference unchanged: {inputs} inputs agree");
+            Ok(())
+        }
+    }
+}
+
+/// Looks for the first difference that a fault makes, says it, and answers whether there is one.
+fn hunt(patch: &Patch, trials: &[Trial]) -> bool {
+    let search = |programs: PathBuf| trials.iter().find_map(|trial| trial.difference(&programs));
+    let difference = build(Some(patch)).map(search);
+    match &difference {
+        Ok(Some(difference)) => println!("found      {}: {difference}", patch.name),
+        Ok(None) => println!("NOT FOUND  {}", patch.name),
+        Err(error) => println!("ERROR      {error}"),
+    }
+    matches!(difference, Ok(Some(_)))
+}
+
+/// Builds the reference with a fault in it. Answers the folder of its programs. The copy is made anew each time: all its files are then
+/// newer than the build before, so cargo builds what stands there.
+fn build(patch: Option<&Patch>) -> Result<PathBuf, String> {
+    copy_reference().map_err(|error| format!("cannot copy the reference: {error}"))?;
+    patch.map_or(Ok(()), |patch| patch.apply(Path::new(COPY)))?;
+    let mut cargo = Command::new("cargo");
+    cargo
+        .args("build --quiet --offline --bin drive --bin replay --profile".split(' '))
+        .arg(PROFILE);
+    cargo.args(["--manifest-path", &format!("{COPY}/Cargo.toml"), "--target-dir", BUILD]);
+    let output = cargo.output().map_err(|error| format!("cargo: {error}"))?;
+    if output.status.success() {
+        return Ok(Path::new(BUILD).join(PROFILE));
+    }
+    let name = patch.map_or("the reference unchanged", |patch| &patch.name);
+    Err(format!("{name}: does not build\n{}", String::from_utf8_lossy(&output.stderr)))
+}
+
+fn copy_reference() -> io::Result<()> {
+    if Path::new(COPY).exists() {
+        fs::remove_dir_all(COPY)?;
+    }
+    fs::create_dir_all(COPY)?;
+    for file in ["Cargo.toml", "Cargo.lock"] {
+        fs::copy(Path::new(REFERENCE).join(file), Path::new(COPY).join(file))?;
+    }
+    copy_folder(&Path::new(REFERENCE).join("src"), &Path::new(COPY).join("src"))
+}
+
+fn copy_folder(from: &Path, to: &Path) -> io::Result<()> {
+    fs::create_dir_all(to)?;
+    for entry in fs::read_dir(from)? {
+        let entry = entry?;
+        let target = to.join(entry.file_name());
+        if entry.file_type()?.is_dir() {
+            copy_folder(&entry.path(), &target)?;
+        } else {
+            fs::copy(entry.path(), target)?;
+        }
+    }
+    Ok(())
+}
