@@ -1,0 +1,25 @@
+use borrow.Author.Needs.{needs}
+use Rattle.streams.proofs.Laws.{well-keeps, keeps-itself}
+use Rattle.streams.proofs.Run.hex.Statement.{statement}
+use Rattle.streams.proofs.Run.hex.Tie as tie
+
+is-well-requires : tie.Need-is-well-requires
+is-well-requires c κs = search needs
+
+write-hex-requires : tie.Need-write-hex-requires
+write-hex-requires c κs = search needs
+
+written-requires : tie.Need-written-requires
+written-requires c κs = search needs
+
+returns : tie.Need-returns
+returns c =
+    well-keeps (c .before .before .before .before .before .args .self) (c .written .result)
+    (c .before .before .before .is-well .ensures) (c .before .before .if1 .taken)
+
+returns-2 : tie.Need-returns-2
+returns-2 c = keeps-itself (c .before .before .before .args .self)
+
+pub hex-spec : {M : Type 1} → statement M
+hex-spec =
+    tie.close (tie.spec is-well-requires write-hex-requires written-requires returns returns-2)

@@ -1,0 +1,24 @@
+// Standard input and output for the programs, so that no failure is lost.
+//
+// No contract can say what is read or written. These say that a failed read is told from the end of
+// the input, and that a run keeps the first thing that failed in it.
+mod input;
+mod output;
+
+pub use input::read;
+pub use input::read_all;
+
+// How many bytes were read to the start of the buffer, 0 at the end of the input; or a failure.
+pub enum Got {
+    Bytes(usize),
+    Failed,
+}
+
+// How a run stands: well, or the first thing that failed. Nothing is written once something failed.
+pub enum Run {
+    Well,
+    NotRead,
+    NotWritten,
+    // A call consumed nothing of a piece that has bytes.
+    Stuck,
+}
