@@ -2,12 +2,17 @@
 // always, and writes only replies. It answers as it reads, since a client waits for its replies.
 mod console;
 
-use libc::STDIN_FILENO;
 use protocol::Receiver;
+use streams::Got;
+use streams::Run;
+
+fn main() {
+    replay().end(b"replay");
+}
 
 // A proved loop has to end, and nothing says that the input does. So the loop counts its turns down,
 // from a number that no run uses up.
-fn main() {
+fn replay() -> Run {
     let mut piece = io::large_buffer();
     let mut carry = [0u8; 8192];
     let mut scratch = [0u8; 6144];
@@ -15,11 +20,19 @@ fn main() {
     let mut receiver = Receiver::fresh();
     let mut turns = u64::MAX;
     while turns > 0 {
-        let n = io::count(libc::read(STDIN_FILENO, &mut piece), &piece);
+        let Got::Bytes(n) = streams::read(&mut piece) else {
+            return Run::NotRead;
+        };
         if n == 0 {
             break;
         }
-        receiver = console::take(receiver, &piece[..n], &mut carry, &mut scratch, &mut reply);
+        let turn = console::take(receiver, &piece[..n], &mut carry, &mut scratch, &mut reply);
+        let run = turn.run;
+        if !run.is_well() {
+            return run;
+        }
+        receiver = turn.receiver;
         turns -= 1;
     }
+    Run::Well
 }

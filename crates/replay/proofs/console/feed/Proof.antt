@@ -15,6 +15,9 @@ text-requires c κs = search needs
 answer-requires : tie.Need-answer-requires
 answer-requires c κs = search needs
 
+send-requires-2 : tie.Need-send-requires-2
+send-requires-2 c κs = search needs
+
 same-length : tie.Need-same-length
 same-length c = search needs
 
@@ -25,7 +28,9 @@ same-length-3 : tie.Need-same-length-3
 same-length-3 c = search needs
 
 returns : tie.Need-returns
-returns c = consumed-within _ _ _ _ _ (c .before .before .before .before .before .before .before .before .before .before .before .before .before .before .feed .ensures)
+returns c =
+    consumed-within _ _ _ _ _ (c .before .before .before .before .before .before .before .before .before .before
+    .before .before .before .before .before .before .before .feed .ensures)
 
 pub feed-spec : {M : Type 1} → statement M
 feed-spec =
@@ -35,6 +40,7 @@ feed-spec =
     send-requires
     text-requires
     answer-requires
+    send-requires-2
     same-length
     same-length-2
     same-length-3

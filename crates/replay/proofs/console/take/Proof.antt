@@ -1,16 +1,16 @@
-use Prim.Native.Nat.{_+_, _-_, _≤_}
+use Prim.Native.Nat.{_-_, _≤_}
 use mathlib.Core.Path.{_≡_}
-use native.Mathlib.Omega.{arith}
-use lib.ListN.{length, take, drop, length-drop, length-take}
+use lib.ListN.{length}
 use borrow.Author.Needs.{needs}
 use Rattle.replay.proofs.console.take.Statement.{statement}
 use Rattle.replay.proofs.console.take.Tie as tie
 
 abbrev Inv-loop : tie.InvT-loop
-Inv-loop piece carry₀ scratch₀ reply₀ receiver₀ at₀ carry scratch reply receiver at = (at ≤ length piece) × (length carry ≡ length carry₀) × (length scratch ≡ length scratch₀) × (length reply ≡ length reply₀)
+Inv-loop piece carry₀ scratch₀ reply₀ receiver₀ run₀ at₀ carry scratch reply receiver run at =
+    (at ≤ length piece) × (length carry ≡ length carry₀) × (length scratch ≡ length scratch₀) × (length reply ≡ length reply₀)
 
 abbrev μ-loop : tie.MeasureT-loop
-μ-loop piece carry₀ scratch₀ reply₀ receiver₀ at₀ carry scratch reply receiver at = length piece - at
+μ-loop piece carry₀ scratch₀ reply₀ receiver₀ run₀ at₀ carry scratch reply receiver run at = length piece - at
 
 loop-holds : tie.Need-loop-holds Inv-loop μ-loop
 loop-holds c = search needs
@@ -26,6 +26,9 @@ part-feed-end c = search needs
 
 feed-requires : tie.Need-feed-requires Inv-loop μ-loop
 feed-requires c κs = search needs
+
+is-well-requires : tie.Need-is-well-requires Inv-loop μ-loop
+is-well-requires c κs = search needs
 
 add-at : tie.Need-add-at Inv-loop μ-loop
 add-at c = search needs
@@ -60,6 +63,18 @@ same-length-6 c = search needs
 returns-2 : tie.Need-returns-2 Inv-loop μ-loop
 returns-2 c = search needs
 
+same-length-7 : tie.Need-same-length-7 Inv-loop μ-loop
+same-length-7 c = search needs
+
+same-length-8 : tie.Need-same-length-8 Inv-loop μ-loop
+same-length-8 c = search needs
+
+same-length-9 : tie.Need-same-length-9 Inv-loop μ-loop
+same-length-9 c = search needs
+
+returns-3 : tie.Need-returns-3 Inv-loop μ-loop
+returns-3 c = search needs
+
 pub take-spec : {M : Type 1} → statement M
 take-spec =
     tie.close
@@ -71,6 +86,7 @@ take-spec =
     part-feed-start
     part-feed-end
     feed-requires
+    is-well-requires
     add-at
     loop-less
     loop-again
@@ -81,4 +97,8 @@ take-spec =
     same-length-4
     same-length-5
     same-length-6
-    returns-2)
+    returns-2
+    same-length-7
+    same-length-8
+    same-length-9
+    returns-3)
