@@ -2,16 +2,16 @@ use Prim.Native.Nat.{_+_, _-_, _≤_}
 use mathlib.Core.Path.{_≡_}
 use native.Mathlib.Omega.{arith}
 use lib.ListN.{length, take, drop, length-drop, length-take}
-use borrow.Author.Needs.{needs}
 use Rattle.frames.proofs.CallLaws.{consumed-within}
+use borrow.Author.Needs.{needs}
 use Rattle.scan_bench.proofs.scan_all.Statement.{statement}
 use Rattle.scan_bench.proofs.scan_all.Tie as tie
 
 abbrev Inv-loop : tie.InvT-loop
-Inv-loop piece carry₀ framing₀ count₀ at₀ carry framing count at = (at ≤ length piece) × (length carry ≡ length carry₀)
+Inv-loop piece carry₀ framing₀ total₀ run₀ at₀ carry framing total run at = (at ≤ length piece) × (length carry ≡ length carry₀)
 
 abbrev μ-loop : tie.MeasureT-loop
-μ-loop piece carry₀ framing₀ count₀ at₀ carry framing count at = length piece - at
+μ-loop piece carry₀ framing₀ total₀ run₀ at₀ carry framing total run at = length piece - at
 
 loop-holds : tie.Need-loop-holds Inv-loop μ-loop
 loop-holds c = search needs
@@ -28,19 +28,22 @@ part-scan-end c = search needs
 scan-requires : tie.Need-scan-requires Inv-loop μ-loop
 scan-requires c κs = search needs
 
--- what the call consumed lies within the rest of the piece
-within : (c : tie.After-scan Inv-loop μ-loop) → c .before .before .before .before .loop .at + c .scan .result .consumed ≤ length (c .before .before .before .before .before .before .before .args .piece .now)
-within c =
-    let l = c .before .before .before .before .loop in
-    let piece = c .before .before .before .before .before .before .before .args .piece .now in
-    let part : length (take (length piece - l .at) (drop (l .at) piece)) ≡ length piece - l .at = simp (length-take, length-drop) (omega arith) in
-    omega (arith, consumed-within _ _ _ (c .scan .ensures))
-
 reports-requires : tie.Need-reports-requires Inv-loop μ-loop
 reports-requires c κs = search needs
 
-wrapping-add-u64-requires : tie.Need-wrapping-add-u64-requires Inv-loop μ-loop
-wrapping-add-u64-requires c κs = search needs
+wrapping-add-usize-requires : tie.Need-wrapping-add-usize-requires Inv-loop μ-loop
+wrapping-add-usize-requires c κs = search needs
+
+-- what the call consumed lies within the rest of the piece
+within : (c : tie.After-scan Inv-loop μ-loop)
+    → c .before .before .before .before .loop .at + c .scan .result .consumed
+    ≤ length (c .before .before .before .before .before .before .before .args .piece .now)
+within c =
+    let l = c .before .before .before .before .loop in
+    let piece = c .before .before .before .before .before .before .before .args .piece .now in
+    let part : length (take (length piece - l .at) (drop (l .at) piece)) ≡ length piece - l .at =
+    simp (length-take, length-drop) (omega arith) in
+    omega (arith, consumed-within _ _ _ (c .scan .ensures))
 
 add-at : tie.Need-add-at Inv-loop μ-loop
 add-at c = omega (arith, within (c .before .before .before .before .before))
@@ -75,7 +78,7 @@ scan-all-spec =
     part-scan-end
     scan-requires
     reports-requires
-    wrapping-add-u64-requires
+    wrapping-add-usize-requires
     add-at
     loop-less
     loop-again
