@@ -7,10 +7,12 @@ use protocol::Answered;
 use protocol::Failure;
 use protocol::Fed;
 use protocol::Receiver;
+use streams::Run;
 
-// The receiver, how much of each buffer is lent, and the latest feed: its piece's place in the script
-// and its report.
+// How the run stands, the receiver, how much of each buffer is lent, and the latest feed: its piece's
+// place in the script and its report.
 pub struct Console {
+    pub run: Run,
     pub receiver: Receiver,
     pub carry: usize,
     pub scratch: usize,
@@ -21,8 +23,9 @@ pub struct Console {
 }
 
 // A fresh receiver, every buffer lent whole, no feed made yet.
-pub(crate) fn fresh() -> Console {
+pub(crate) fn fresh(run: Run) -> Console {
     Console {
+        run: run,
         receiver: Receiver::fresh(),
         carry: 8256,
         scratch: 6208,
@@ -44,10 +47,11 @@ pub(crate) fn perform(
     reply: &mut [u8],
 ) -> Console {
     let letter = script::byte(bytes, at);
+    let run = console.run;
     match letter {
         b'f' => feed(console, bytes, at, n, carry, scratch, reply),
         b't' => text(console, bytes, carry),
-        b'n' => anew(carry, scratch, reply),
+        b'n' => anew(run, carry, scratch, reply),
         b'c' => lend(console, letter, script::number(bytes, at, 1)),
         b's' => lend(console, letter, script::number(bytes, at, 1)),
         b'r' => lend(console, letter, script::number(bytes, at, 1)),
@@ -66,6 +70,7 @@ fn feed(
     reply: &mut [u8],
 ) -> Console {
     let receiver = console.receiver;
+    let run = console.run;
     let start = within(at, 3, bytes.len());
     let len = less(n, 3);
     let fed = feed_lent(
@@ -79,23 +84,17 @@ fn feed(
         console.reply,
     );
     let told = fed.told;
-    line::call(
-        b'f',
-        fed.consumed,
-        told,
-        octets::part(reply, 0, fed.reply_len),
-    );
-    line::sums(carry, scratch, reply);
+    let sent = octets::part(reply, 0, fed.reply_len);
+    let called = line::call(run, b'f', fed.consumed, told, sent);
     let next = fed.receiver;
     let report = fed.report;
     Console {
+        run: line::sums(called, carry, scratch, reply),
         receiver: next,
-        carry: console.carry,
-        scratch: console.scratch,
-        reply: console.reply,
         piece: start,
         piece_len: len,
         report: report,
+        ..console
     }
 }
 
@@ -124,21 +123,23 @@ fn feed_lent(
 
 // The text of the latest feed's report, given that feed's piece and the carry as lent now.
 fn text(console: Console, bytes: &[u8], carry: &mut [u8]) -> Console {
+    let run = console.run;
     let report = console.report;
     let c = least(console.carry, carry.len());
     let piece = octets::part(bytes, console.piece, console.piece_len);
-    line::text(b"t ");
-    line::hex(frames::text(piece, octets::part(carry, 0, c), report));
-    line::text(b"\n");
-    console
+    let text = frames::text(piece, octets::part(carry, 0, c), report);
+    Console {
+        run: line::text(run, text),
+        ..console
+    }
 }
 
 // Starts anew: a fresh receiver, and the buffers as at first.
-fn anew(carry: &mut [u8], scratch: &mut [u8], reply: &mut [u8]) -> Console {
+fn anew(run: Run, carry: &mut [u8], scratch: &mut [u8], reply: &mut [u8]) -> Console {
     fill(carry);
     fill(scratch);
     fill(reply);
-    fresh()
+    fresh(run)
 }
 
 fn fill(buffer: &mut [u8]) {
@@ -151,10 +152,7 @@ fn fill(buffer: &mut [u8]) {
 
 // From now on only the first n bytes of a buffer are lent.
 fn lend(console: Console, letter: u8, n: usize) -> Console {
-    let receiver = console.receiver;
-    let report = console.report;
     Console {
-        receiver: receiver,
         carry: if letter == b'c' {
             least(n, 8256)
         } else {
@@ -170,9 +168,7 @@ fn lend(console: Console, letter: u8, n: usize) -> Console {
         } else {
             console.reply
         },
-        piece: console.piece,
-        piece_len: console.piece_len,
-        report: report,
+        ..console
     }
 }
 
@@ -185,22 +181,18 @@ fn call<'a>(
     reply: &mut [u8],
 ) -> Console {
     let receiver = console.receiver;
-    let report = console.report;
+    let run = console.run;
     let letter = script::byte(operation, 0);
     let r = least(console.reply, reply.len());
     let answered = call_lent(receiver, letter, operation, &mut reply[..r]);
     let told = answered.told;
-    line::call(letter, 0, told, octets::part(reply, 0, answered.reply_len));
-    line::sums(carry, scratch, reply);
+    let sent = octets::part(reply, 0, answered.reply_len);
+    let called = line::call(run, letter, 0, told, sent);
     let next = answered.receiver;
     Console {
+        run: line::sums(called, carry, scratch, reply),
         receiver: next,
-        carry: console.carry,
-        scratch: console.scratch,
-        reply: console.reply,
-        piece: console.piece,
-        piece_len: console.piece_len,
-        report: report,
+        ..console
     }
 }
 

@@ -1,22 +1,16 @@
 // The lines that are printed.
 ghost use Prim.Native.Nat.{_≤_};
 use command::Place;
-use libc::STDOUT_FILENO;
 use protocol::Ask;
 use protocol::Status;
 use protocol::Told;
+use streams::Run;
 
 // The letter, the refusal's number, the bytes consumed, what is told, and the reply.
-pub(crate) fn call(letter: u8, consumed: usize, told: Told, reply: &[u8]) {
-    text(&[letter]);
-    text(b" ");
-    number(refusal(told));
-    text(b" ");
-    number(consumed);
-    text(b" ");
-    tell(told);
-    text(b" ");
-    hex(reply);
+pub(crate) fn call(run: Run, letter: u8, consumed: usize, told: Told, reply: &[u8]) -> Run {
+    let numbered = run.text(&[letter]).text(b" ").number(refusal(told));
+    let counted = numbered.text(b" ").number(consumed).text(b" ");
+    hex(tell(counted, told).text(b" "), reply)
 }
 
 fn refusal(told: Told) -> usize {
@@ -33,70 +27,71 @@ fn refusal(told: Told) -> usize {
     }
 }
 
-fn tell(told: Told) {
+fn tell(run: Run, told: Told) -> Run {
     match told {
-        Told::Nothing => text(b"none"),
-        Told::Refused(_) => text(b"none"),
-        Told::Ignored => text(b"ignored"),
-        Told::Asked(_) => text(b"asked"),
-        Told::Ask(ask, _) => ask_told(ask),
-        Told::Status(status) => status_told(status),
-        Told::Withdrawn => text(b"withdrawn"),
-        Told::Discarded => text(b"discarded"),
-        Told::Committed => text(b"committed"),
+        Told::Nothing => run.text(b"none"),
+        Told::Refused(_) => run.text(b"none"),
+        Told::Ignored => run.text(b"ignored"),
+        Told::Asked(_) => run.text(b"asked"),
+        Told::Ask(ask, _) => ask_told(run, ask),
+        Told::Status(status) => status_told(run, status),
+        Told::Withdrawn => run.text(b"withdrawn"),
+        Told::Discarded => run.text(b"discarded"),
+        Told::Committed => run.text(b"committed"),
     }
 }
 
-fn ask_told(ask: Ask) {
+fn ask_told(run: Run, ask: Ask) -> Run {
     match ask {
-        Ask::Open => text(b"open"),
-        Ask::Write(part) => place(b"write:", part),
-        Ask::WriteLast(part) => place(b"last:", part),
-        Ask::Commit => text(b"commit"),
+        Ask::Open => run.text(b"open"),
+        Ask::Write(part) => place(run, b"write:", part),
+        Ask::WriteLast(part) => place(run, b"last:", part),
+        Ask::Commit => run.text(b"commit"),
     }
 }
 
 // The start of an empty part is open, and printed as 0.
-fn place(label: &[u8], part: Place) {
-    text(label);
-    if part.len == 0 {
-        number(0);
-    } else {
-        number(part.start);
-    }
-    text(b":");
-    number(part.len);
+fn place(run: Run, label: &[u8], part: Place) -> Run {
+    let start = if part.len == 0 { 0 } else { part.start };
+    run.text(label).number(start).text(b":").number(part.len)
 }
 
-fn status_told(status: Status) {
-    text(b"status:");
+fn status_told(before: Run, status: Status) -> Run {
+    let run = before.text(b"status:");
     match status {
-        Status::Ok => text(b"OK"),
-        Status::Started => text(b"STARTED"),
-        Status::Progress => text(b"PROGRESS"),
-        Status::Canceled => text(b"CANCELED"),
-        Status::Eperm => text(b"EPERM"),
-        Status::Eio => text(b"EIO"),
-        Status::Enoent => text(b"ENOENT"),
-        Status::Enospc => text(b"ENOSPC"),
-        Status::Ebusy => text(b"EBUSY"),
-        Status::Enotsup => text(b"ENOTSUP"),
-        Status::Einval => text(b"EINVAL"),
-        Status::Eexist => text(b"EEXIST"),
-        Status::Emfile => text(b"EMFILE"),
-        Status::Efbig => text(b"EFBIG"),
+        Status::Ok => run.text(b"OK"),
+        Status::Started => run.text(b"STARTED"),
+        Status::Progress => run.text(b"PROGRESS"),
+        Status::Canceled => run.text(b"CANCELED"),
+        Status::Eperm => run.text(b"EPERM"),
+        Status::Eio => run.text(b"EIO"),
+        Status::Enoent => run.text(b"ENOENT"),
+        Status::Enospc => run.text(b"ENOSPC"),
+        Status::Ebusy => run.text(b"EBUSY"),
+        Status::Enotsup => run.text(b"ENOTSUP"),
+        Status::Einval => run.text(b"EINVAL"),
+        Status::Eexist => run.text(b"EEXIST"),
+        Status::Emfile => run.text(b"EMFILE"),
+        Status::Efbig => run.text(b"EFBIG"),
     }
 }
 
 // The sums of the whole buffers, and the line's end.
-pub(crate) fn sums<'a>(carry: &'a [u8], scratch: &'a [u8], reply: &'a [u8]) {
-    text(b" ");
-    number(sum(carry));
-    text(b" ");
-    number(sum(scratch));
-    text(b" ");
-    number(sum(reply));
-    text(b"\n");
+pub(crate) fn sums<'a>(run: Run, carry: &'a [u8], scratch: &'a [u8], reply: &'a [u8]) -> Run {
+    let two = run.text(b" ")
+        .number(sum(carry))
+        .text(b" ")
+        .number(sum(scratch));
+    two.text(b" ").number(sum(reply)).text(b"\n")
+}
+
+// The text of a report.
+pub(crate) fn text(run: Run, text: &[u8]) -> Run {
+    hex(run.text(b"t "), text).text(b"\n")
+}
+
+pub(crate) fn bad_script(run: Run) -> Run {
+    run.text(b"bad script\n")
 }
 
 // The sum of (i + 1) times byte i, modulo 65521: byte i counts in each of the i + 1 sums of the bytes
@@ -120,22 +115,10 @@ fn wide(b: u8) -> usize
 }
 
 // Bytes in lower-case hex, `-` for none.
-pub(crate) fn hex(s: &[u8]) {
+fn hex(run: Run, s: &[u8]) -> Run {
     if s.len() == 0 {
-        text(b"-");
-        return;
+        run.text(b"-")
+    } else {
+        run.hex(s)
     }
-    let mut i = 0;
-    while i < s.len() {
-        io::print_hex(STDOUT_FILENO, wide(s[i]) as u64, 2);
-        i += 1;
-    }
-}
-
-pub(crate) fn text(s: &[u8]) {
-    io::write_all(STDOUT_FILENO, s);
-}
-
-fn number(n: usize) {
-    io::print_decimal(STDOUT_FILENO, n as u64);
 }

@@ -10,7 +10,10 @@ fits-requires : tie.Need-fits-requires
 fits-requires c κs = search needs
 
 add-result : tie.Need-add-result
-add-result c = let h : c .before .before .args .at + c .before .before .args .k ≤ c .before .before .args .n = leb-true _ _ (sym (c .before .fits2 .ensures) ∙ c .if1 .taken) in omega arith
+add-result c =
+    let a = c .before .before .args in
+    let h : a .at + a .k ≤ a .n = leb-true _ _ (sym (c .before .fits2 .ensures) ∙ c .if1 .taken) in
+    omega arith
 
 returns : tie.Need-returns
 returns c = search needs

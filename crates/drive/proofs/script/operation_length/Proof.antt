@@ -14,7 +14,11 @@ fits-requires : tie.Need-fits-requires
 fits-requires c κs = search needs
 
 returns : tie.Need-returns
-returns c = let h : c .before .before .before .before .args .at + c .before .before .claimed-length .result ≤ length (c .before .before .before .before .args .bytes .now) = leb-true _ _ (sym (c .before .fits2 .ensures) ∙ c .if1 .taken) in omega arith
+returns c =
+    let a = c .before .before .before .before .args in
+    let h : a .at + c .before .before .claimed-length .result ≤ length (a .bytes .now) =
+    leb-true _ _ (sym (c .before .fits2 .ensures) ∙ c .if1 .taken) in
+    omega arith
 
 returns-2 : tie.Need-returns-2
 returns-2 c = search needs

@@ -1,15 +1,22 @@
-use Prim.Native.Nat.{_≤_, _-_}
+use Prim.Native.Nat.{_-_, _≤_}
 use mathlib.Core.Path.{_≡_}
 use lib.ListN.{length}
 use borrow.Author.Needs.{needs}
-use Rattle.drive.proofs.run.Statement.{statement}
-use Rattle.drive.proofs.run.Tie as tie
+use Rattle.drive.proofs.play.Statement.{statement}
+use Rattle.drive.proofs.play.Tie as tie
 
 abbrev Inv-loop : tie.InvT-loop
-Inv-loop bytes carry₀ scratch₀ reply₀ state₀ at₀ t8 carry scratch reply state at = (at ≤ length bytes) × (8256 ≡ length carry) × (6208 ≡ length scratch) × (192 ≡ length reply)
+Inv-loop bytes carry₀ scratch₀ reply₀ state₀ at₀ carry scratch reply state at =
+    (at ≤ length bytes) × (8256 ≡ length carry) × (6208 ≡ length scratch) × (192 ≡ length reply)
 
 abbrev μ-loop : tie.MeasureT-loop
-μ-loop bytes carry₀ scratch₀ reply₀ state₀ at₀ t8 carry scratch reply state at = length bytes - at
+μ-loop bytes carry₀ scratch₀ reply₀ state₀ at₀ carry scratch reply state at = length bytes - at
+
+bad-script-requires : tie.Need-bad-script-requires Inv-loop μ-loop
+bad-script-requires c κs = search needs
+
+returns : tie.Need-returns Inv-loop μ-loop
+returns c = search needs
 
 fresh-requires : tie.Need-fresh-requires Inv-loop μ-loop
 fresh-requires c κs = search needs
@@ -17,17 +24,17 @@ fresh-requires c κs = search needs
 loop-holds : tie.Need-loop-holds Inv-loop μ-loop
 loop-holds c = search needs
 
+is-well-requires : tie.Need-is-well-requires Inv-loop μ-loop
+is-well-requires c κs = search needs
+
 operation-length-requires : tie.Need-operation-length-requires Inv-loop μ-loop
 operation-length-requires c κs = search needs
 
-slice-aggregate-text : tie.Need-slice-aggregate-text Inv-loop μ-loop
-slice-aggregate-text c = search needs
+bad-script-requires-2 : tie.Need-bad-script-requires-2 Inv-loop μ-loop
+bad-script-requires-2 c κs = search needs
 
-text-requires : tie.Need-text-requires Inv-loop μ-loop
-text-requires c κs = search needs
-
-returns : tie.Need-returns Inv-loop μ-loop
-returns c = search needs
+returns-2 : tie.Need-returns-2 Inv-loop μ-loop
+returns-2 c = search needs
 
 slice-aggregate-perform : tie.Need-slice-aggregate-perform Inv-loop μ-loop
 slice-aggregate-perform c = search needs
@@ -50,21 +57,26 @@ loop-less c = search needs
 loop-again : tie.Need-loop-again Inv-loop μ-loop
 loop-again c = search needs
 
-returns-2 : tie.Need-returns-2 Inv-loop μ-loop
-returns-2 c = search needs
+returns-3 : tie.Need-returns-3 Inv-loop μ-loop
+returns-3 c = search needs
 
-pub run-spec : {M : Type 1} → statement M
-run-spec =
+returns-4 : tie.Need-returns-4 Inv-loop μ-loop
+returns-4 c = search needs
+
+pub play-spec : {M : Type 1} → statement M
+play-spec =
     tie.close
     (tie.spec
     Inv-loop
     μ-loop
+    bad-script-requires
+    returns
     fresh-requires
     loop-holds
+    is-well-requires
     operation-length-requires
-    slice-aggregate-text
-    text-requires
-    returns
+    bad-script-requires-2
+    returns-2
     slice-aggregate-perform
     slice-aggregate-perform-2
     slice-aggregate-perform-3
@@ -72,4 +84,5 @@ run-spec =
     add-at
     loop-less
     loop-again
-    returns-2)
+    returns-3
+    returns-4)
