@@ -1,60 +1,61 @@
 // The command text: its refusal or 0, the scratch that reading leaves, and the text written again.
 ghost use Prim.Native.Nat.{_≤_};
-use crate::out;
 use command::Command;
 use command::Reading;
 use command::Refusal;
 use command::Written;
+use streams::Run;
 
-pub(crate) fn run() {
-    texts();
-    ids();
-    values();
+pub(crate) fn run(run: Run) -> Run {
+    values(ids(texts(run)))
 }
 
 // Texts of the longest length, and one byte more.
-fn texts() {
-    filled(b"", b'A', 8193, b"");
-    filled(b"", b'A', 8192, b"");
-    filled(b"5113;ac=receive;id=z;x=", b'A', 8168, b"");
-    filled(b"5113;ac=receive;id=z;x=", b'A', 8169, b"");
-    filled(b"5113;ac=receive;id=z;x=", b'A', 8170, b"");
+fn texts(before: Run) -> Run {
+    let mut run = before;
+    run = filled(run, b"", b'A', 8193, b"");
+    run = filled(run, b"", b'A', 8192, b"");
+    run = filled(run, b"5113;ac=receive;id=z;x=", b'A', 8168, b"");
+    run = filled(run, b"5113;ac=receive;id=z;x=", b'A', 8169, b"");
+    filled(run, b"5113;ac=receive;id=z;x=", b'A', 8170, b"")
 }
 
 // Ids of 32 and 33 bytes, beside other faults.
-fn ids() {
-    filled(b"5113;ac=send;id=", b'i', 32, b"");
-    filled(b"5113;ac=send;id=", b'i', 33, b"");
-    filled(b"5113;ac=send;id=", b'i', 33, b"!");
-    filled(b"5113;id=", b'i', 33, b";ac=bad");
-    filled(b"5113;ac=bad;id=", b'i', 33, b"");
-    filled(b"5113;id=m;id=", b'i', 33, b";ac=send");
-    filled(b"5113;ac=send;id=m;pr=", b'i', 33, b"");
+fn ids(before: Run) -> Run {
+    let mut run = before;
+    run = filled(run, b"5113;ac=send;id=", b'i', 32, b"");
+    run = filled(run, b"5113;ac=send;id=", b'i', 33, b"");
+    run = filled(run, b"5113;ac=send;id=", b'i', 33, b"!");
+    run = filled(run, b"5113;id=", b'i', 33, b";ac=bad");
+    run = filled(run, b"5113;ac=bad;id=", b'i', 33, b"");
+    run = filled(run, b"5113;id=m;id=", b'i', 33, b";ac=send");
+    filled(run, b"5113;ac=send;id=m;pr=", b'i', 33, b"")
 }
 
 // Long values, and what a refused id leaves in the scratch.
-fn values() {
-    filled(b"5113;ac=send;id=m;pw=", b'i', 3000, b"");
-    filled(b"5113;d=AQID;fid=", b'i', 33, b";ac=file;id=m");
-    filled(b"5113;d=", b'A', 8188, b"");
+fn values(before: Run) -> Run {
+    let mut run = before;
+    run = filled(run, b"5113;ac=send;id=m;pw=", b'i', 3000, b"");
+    run = filled(run, b"5113;d=AQID;fid=", b'i', 33, b";ac=file;id=m");
+    filled(run, b"5113;d=", b'A', 8188, b"")
 }
 
 // A text that is n times the byte `fill` between two strings.
-fn filled<'a>(before: &'a [u8], fill: u8, n: usize, after: &'a [u8]) {
+fn filled<'a>(run: Run, before: &'a [u8], fill: u8, n: usize, after: &'a [u8]) -> Run {
     let mut text = [fill; 8256];
     octets::copy_at(before, &mut text, 0);
     let start = least(before.len(), 64);
     let end = start + least(n, 8256);
     octets::copy_at(after, &mut text, end);
-    out::text(b"read ");
-    out::text(before);
-    out::text(b"{");
-    out::text(&[fill]);
-    out::text(b"*");
-    out::number(n);
-    out::text(b"}");
-    out::text(after);
-    answer(octets::part(&text, 0, end + least(after.len(), 64)));
+    let asked = run.text(b"read ")
+        .text(before)
+        .text(b"{")
+        .text(&[fill])
+        .text(b"*");
+    answer(
+        asked.number(n).text(b"}").text(after),
+        octets::part(&text, 0, end + least(after.len(), 64)),
+    )
 }
 
 fn least(a: usize, b: usize) -> usize
@@ -63,63 +64,61 @@ fn least(a: usize, b: usize) -> usize
     if a < b { a } else { b }
 }
 
-pub(crate) fn read(text: &[u8]) {
-    out::text(b"read ");
-    out::text(text);
-    answer(text);
+pub(crate) fn read(run: Run, text: &[u8]) -> Run {
+    answer(run.text(b"read ").text(text), text)
 }
 
-// What reading a text gives, the scratch's first bytes, and the text written again.
-fn answer(text: &[u8]) {
+// What reading a text gives, and the text written again.
+fn answer(run: Run, text: &[u8]) -> Run {
     let mut scratch = [0xA5u8; 6144];
-    out::text(b": ");
     let r = command_reader::read(text, &mut scratch);
-    number(r);
-    out::text(b", scratch ");
-    out::hex(octets::part(&scratch, 0, 10));
-    out::text(b"\n");
-    if let Reading::Read(c) = r {
-        write(c, text, &scratch);
+    let told = tell(run, r, &scratch);
+    match r {
+        Reading::Read(c) => write(told, c, text, &scratch),
+        Reading::Refused(_) => told,
     }
+}
+
+// What reading gave, and the scratch's first bytes.
+fn tell(run: Run, r: Reading, scratch: &[u8]) -> Run {
+    let told = number(run.text(b": "), r).text(b", scratch ");
+    told.hex(octets::part(scratch, 0, 10)).text(b"\n")
 }
 
 // The refusal's number, 0 for none.
-fn number(r: Reading) {
+fn number(run: Run, r: Reading) -> Run {
     match r {
-        Reading::Read(_) => out::number(0),
-        Reading::Refused(refusal) => refused(refusal),
+        Reading::Read(_) => run.number(0),
+        Reading::Refused(refusal) => refused(run, refusal),
     }
 }
 
-fn refused(refusal: Refusal) {
+fn refused(run: Run, refusal: Refusal) -> Run {
     match refusal {
-        Refusal::TextTooLong => out::number(1),
-        Refusal::BadByte => out::number(3),
-        Refusal::BadField => out::number(4),
-        Refusal::Repeated => out::number(5),
-        Refusal::BadValue => out::number(6),
-        Refusal::Missing => out::number(7),
-        Refusal::TooLong => out::number(8),
-        Refusal::ShortBuffer => out::number(9),
+        Refusal::TextTooLong => run.number(1),
+        Refusal::BadByte => run.number(3),
+        Refusal::BadField => run.number(4),
+        Refusal::Repeated => run.number(5),
+        Refusal::BadValue => run.number(6),
+        Refusal::Missing => run.number(7),
+        Refusal::TooLong => run.number(8),
+        Refusal::ShortBuffer => run.number(9),
     }
 }
 
-fn write<'a>(c: Command, text: &'a [u8], scratch: &'a [u8]) {
+fn write<'a>(run: Run, c: Command, text: &'a [u8], scratch: &'a [u8]) -> Run {
     let mut again = [0u8; 8192];
-    match command_writer::write(c, text, scratch, &mut again) {
-        Written::Length(n) => written(octets::part(&again, 0, n)),
-        Written::Refused(refusal) => refused(refusal),
-    }
-    out::text(b"\n");
+    let told = match command_writer::write(c, text, scratch, &mut again) {
+        Written::Length(n) => written(run, octets::part(&again, 0, n)),
+        Written::Refused(refusal) => refused(run, refusal),
+    };
+    told.text(b"\n")
 }
 
-fn written(text: &[u8]) {
+fn written(run: Run, text: &[u8]) -> Run {
     if text.len() > 128 {
-        out::text(b"written, ");
-        out::number(text.len());
-        out::text(b" bytes");
+        run.text(b"written, ").number(text.len()).text(b" bytes")
     } else {
-        out::text(b"written ");
-        out::text(text);
+        run.text(b"written ").text(text)
     }
 }

@@ -1,19 +1,24 @@
 // Frames: two pieces, what is reported on the way, and the carry; texts of 8,192 and 8,193 bytes cut at
 // each edge.
 ghost use Prim.Native.Nat.{_≤_};
-use crate::out;
 use frames::Framing;
 use frames::Report;
+use streams::Run;
 
-pub(crate) fn run() {
-    cuts(8192);
-    cuts(8193);
+// The framing after the bytes so far, and how the run stands.
+struct Turn {
+    framing: Framing,
+    run: Run,
+}
+
+pub(crate) fn run(run: Run) -> Run {
+    cuts(cuts(run, 8192), 8193)
 }
 
 // Two pieces, parted by a bar.
-pub(crate) fn carry(pieces: &[u8]) {
+pub(crate) fn carry(run: Run, pieces: &[u8]) -> Run {
     let n = octets::find(pieces, 0, b'|');
-    pair(octets::part(pieces, 0, n), rest(pieces, n));
+    pair(run, octets::part(pieces, 0, n), rest(pieces, n))
 }
 
 // What stands after place n.
@@ -22,88 +27,91 @@ fn rest(s: &[u8], n: usize) -> &[u8] {
 }
 
 // The reports of two pieces, fed one after the other, and the carry's first bytes.
-fn pair<'a>(first: &'a [u8], second: &'a [u8]) {
+fn pair<'a>(run: Run, first: &'a [u8], second: &'a [u8]) -> Run {
     let mut buffer = [0x2Eu8; 8256];
-    out::text(b"carry ");
-    out::hex(first);
-    out::text(b" | ");
-    out::hex(second);
-    out::text(b":");
-    let framing = feed(Framing::Plain, first, &mut buffer);
-    feed(framing, second, &mut buffer);
-    out::text(b" ");
-    out::text(octets::part(&buffer, 0, 24));
-    out::text(b"\n");
+    let asked = run.text(b"carry ").hex(first).text(b" | ").hex(second);
+    let told = both(asked, first, second, &mut buffer);
+    told.text(b" ")
+        .text(octets::part(&buffer, 0, 24))
+        .text(b"\n")
 }
 
 // A command text of n bytes, its frame cut after 0 to 3 and 7 bytes, and before and after each byte of
 // its closer.
-fn cuts(n: usize) {
-    cut(n, 0);
-    cut(n, 1);
-    cut(n, 2);
-    cut(n, 3);
-    cut(n, 7);
-    cut(n, 8193);
-    cut(n, 8194);
-    cut(n, 8195);
-    cut(n, 8196);
-    cut(n, 8197);
+fn cuts(before: Run, n: usize) -> Run {
+    let mut run = before;
+    run = cut(run, n, 0);
+    run = cut(run, n, 1);
+    run = cut(run, n, 2);
+    run = cut(run, n, 3);
+    run = cut(run, n, 7);
+    run = cut(run, n, 8193);
+    run = cut(run, n, 8194);
+    run = cut(run, n, 8195);
+    run = cut(run, n, 8196);
+    cut(run, n, 8197)
 }
 
-fn cut(n: usize, at: usize) {
+fn cut(run: Run, n: usize, at: usize) -> Run {
     let mut buffer = [0x2Eu8; 8256];
     let mut frame = [0x41u8; 8256];
     octets::copy_at(b"\x1B]5113;", &mut frame, 0);
     octets::copy_at(b"\x1B\\", &mut frame, 2 + least(n, 8200));
     let end = 4 + least(n, 8200);
-    out::text(b"text of ");
-    out::number(n);
-    out::text(b" bytes, cut at ");
-    out::number(at);
-    out::text(b":");
-    let framing = feed(Framing::Plain, octets::part(&frame, 0, at), &mut buffer);
-    feed(
-        framing,
-        octets::part(&frame, at, end - least(at, end)),
-        &mut buffer,
-    );
-    out::text(b"\n");
+    let asked = run.text(b"text of ")
+        .number(n)
+        .text(b" bytes, cut at ")
+        .number(at);
+    let first = octets::part(&frame, 0, at);
+    let second = octets::part(&frame, at, end - least(at, end));
+    both(asked, first, second, &mut buffer).text(b"\n")
+}
+
+// A colon, and the reports of two pieces, fed one after the other.
+fn both<'a>(run: Run, first: &'a [u8], second: &'a [u8], carry: &mut [u8]) -> Run {
+    let turn = Turn {
+        framing: Framing::Plain,
+        run: run.text(b":"),
+    };
+    feed(feed(turn, first, carry), second, carry).run
 }
 
 // Scans a piece until it is consumed, and prints each report.
-fn feed(before: Framing, piece: &[u8], carry: &mut [u8]) -> Framing {
-    let mut framing = before;
+fn feed(before: Turn, piece: &[u8], carry: &mut [u8]) -> Turn {
+    let mut framing = before.framing;
+    let mut run = before.run;
     let mut at = 0;
     while at < piece.len() {
         let s = frames::scan(framing, &piece[at..], carry);
         let next = s.framing;
         framing = next;
         let r = s.report;
-        report(r, frames::text(&piece[at..], carry, r));
+        run = report(run, r, frames::text(&piece[at..], carry, r));
         let used = s.consumed;
+        if !run.is_well() {
+            break;
+        }
         if used == 0 {
+            run = Run::Stuck;
             break;
         }
         at += used;
     }
-    framing
-}
-
-fn report(r: Report, text: &[u8]) {
-    match r {
-        Report::Nothing => {}
-        Report::InPiece(_, _) => length(b" in the piece ", text.len()),
-        Report::InCarry(_) => length(b" in the carry ", text.len()),
-        Report::TooLong => out::text(b" refused 1"),
-        Report::Abandoned => out::text(b" refused 2"),
-        Report::ShortCarry => out::text(b" refused 9"),
+    Turn {
+        framing: framing,
+        run: run,
     }
 }
 
-fn length(label: &[u8], n: usize) {
-    out::text(label);
-    out::number(n);
+fn report(run: Run, r: Report, text: &[u8]) -> Run {
+    match r {
+        Report::Nothing => run,
+        Report::InPiece(_, _) => run.text(b" in the piece ").number(text.len()),
+        Report::InCarry(_) => run.text(b" in the carry ").number(text.len()),
+        Report::TooLong => run.text(b" refused 1"),
+        Report::Abandoned => run.text(b" refused 2"),
+        Report::ShortCarry => run.text(b" refused 9"),
+    }
 }
 
 fn least(a: usize, b: usize) -> usize

@@ -9,47 +9,60 @@ mod command_cases;
 mod decimal_cases;
 mod frame_cases;
 mod name_cases;
-mod out;
 
-use libc::STDIN_FILENO;
+use streams::Got;
+use streams::Run;
 
 fn main() {
     let mut bytes = io::large_buffer();
-    let n = io::read_full(STDIN_FILENO, &mut bytes);
-    lines(&bytes[..n]);
-    base64_cases::run();
-    decimal_cases::run();
-    name_cases::run();
-    command_cases::run();
-    frame_cases::run();
+    let run = match streams::read_all(&mut bytes) {
+        Got::Bytes(n) => cases(&bytes[..n]),
+        Got::Failed => Run::NotRead,
+    };
+    run.end(b"vectors");
+}
+
+// A run that failed prints no case more.
+fn cases(bytes: &[u8]) -> Run {
+    let mut run = lines(bytes);
+    run = base64_cases::run(run);
+    run = decimal_cases::run(run);
+    run = name_cases::run(run);
+    run = command_cases::run(run);
+    frame_cases::run(run)
 }
 
 // The case of each line.
-fn lines(bytes: &[u8]) {
+fn lines(bytes: &[u8]) -> Run {
+    let mut run = Run::Well;
     let mut at = 0;
     while at < bytes.len() {
         let end = octets::find(bytes, at, b'\n');
-        line(octets::part(bytes, at, end - at));
+        run = line(run, octets::part(bytes, at, end - at));
+        if !run.is_well() {
+            break;
+        }
         if end >= bytes.len() {
-            return;
+            break;
         }
         at = end + 1;
     }
+    run
 }
 
-fn line(s: &[u8]) {
+fn line(run: Run, s: &[u8]) -> Run {
     if s.len() < 2 {
-        return;
+        return run;
     }
     let letter = s[0];
     let text = &s[2..];
     match letter {
-        b'e' => base64_cases::both(text),
-        b'b' => base64_cases::decode(text),
-        b'i' => decimal_cases::read(text),
-        b'n' => name_cases::name(text),
-        b'r' => command_cases::read(text),
-        b'c' => frame_cases::carry(text),
-        _ => out::text(b"no such case\n"),
+        b'e' => base64_cases::both(run, text),
+        b'b' => base64_cases::decode(run, text),
+        b'i' => decimal_cases::read(run, text),
+        b'n' => name_cases::name(run, text),
+        b'r' => command_cases::read(run, text),
+        b'c' => frame_cases::carry(run, text),
+        _ => run.text(b"no such case\n"),
     }
 }

@@ -1,32 +1,26 @@
 // Names.
-use crate::out;
+use streams::Run;
 
 // A slash and 255 or 256 bytes; 4,096 and 4,097 slashes.
-pub(crate) fn run() {
+pub(crate) fn run(before: Run) -> Run {
     let mut component = [0x78u8; 257];
     component[0] = 47;
-    out::text(b"name / and 255 bytes: ");
-    verdict(&component[..256]);
-    out::text(b"name / and 256 bytes: ");
-    verdict(&component);
     let slashes = [47u8; 4097];
-    out::text(b"name of 4096 slashes: ");
-    verdict(&slashes[..4096]);
-    out::text(b"name of 4097 slashes: ");
-    verdict(&slashes);
+    let mut run = before;
+    run = verdict(run.text(b"name / and 255 bytes: "), &component[..256]);
+    run = verdict(run.text(b"name / and 256 bytes: "), &component);
+    run = verdict(run.text(b"name of 4096 slashes: "), &slashes[..4096]);
+    verdict(run.text(b"name of 4097 slashes: "), &slashes)
 }
 
-pub(crate) fn name(bytes: &[u8]) {
-    out::text(b"name ");
-    out::hex(bytes);
-    out::text(b": ");
-    verdict(bytes);
+pub(crate) fn name(run: Run, bytes: &[u8]) -> Run {
+    verdict(run.text(b"name ").hex(bytes).text(b": "), bytes)
 }
 
-fn verdict(bytes: &[u8]) {
+fn verdict(run: Run, bytes: &[u8]) -> Run {
     if pathname::is_valid(bytes) {
-        out::text(b"good\n");
+        run.text(b"good\n")
     } else {
-        out::text(b"bad\n");
+        run.text(b"bad\n")
     }
 }

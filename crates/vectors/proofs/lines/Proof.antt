@@ -1,15 +1,14 @@
 use Prim.Native.Nat.{_-_, _≤_}
-use native.Mathlib.Omega.{arith}
 use lib.ListN.{length}
 use borrow.Author.Needs.{needs}
 use Rattle.vectors.proofs.lines.Statement.{statement}
 use Rattle.vectors.proofs.lines.Tie as tie
 
 abbrev Inv-loop : tie.InvT-loop
-Inv-loop bytes at₀ at = at ≤ length bytes
+Inv-loop bytes run₀ at₀ run at = at ≤ length bytes
 
 abbrev μ-loop : tie.MeasureT-loop
-μ-loop bytes at₀ at = length bytes - at
+μ-loop bytes run₀ at₀ run at = length bytes - at
 
 loop-holds : tie.Need-loop-holds Inv-loop μ-loop
 loop-holds c = search needs
@@ -18,7 +17,7 @@ find-requires : tie.Need-find-requires Inv-loop μ-loop
 find-requires c κs = search needs
 
 sub-part : tie.Need-sub-part Inv-loop μ-loop
-sub-part c = omega arith
+sub-part c = search needs
 
 part-requires : tie.Need-part-requires Inv-loop μ-loop
 part-requires c κs = search needs
@@ -26,20 +25,26 @@ part-requires c κs = search needs
 line-requires : tie.Need-line-requires Inv-loop μ-loop
 line-requires c κs = search needs
 
+is-well-requires : tie.Need-is-well-requires Inv-loop μ-loop
+is-well-requires c κs = search needs
+
+add-at : tie.Need-add-at Inv-loop μ-loop
+add-at c = search needs
+
+loop-less : tie.Need-loop-less Inv-loop μ-loop
+loop-less c = search needs
+
+loop-again : tie.Need-loop-again Inv-loop μ-loop
+loop-again c = search needs
+
 returns : tie.Need-returns Inv-loop μ-loop
 returns c = search needs
 
-add-at : tie.Need-add-at Inv-loop μ-loop
-add-at c = omega arith
-
-loop-less : tie.Need-loop-less Inv-loop μ-loop
-loop-less c = omega arith
-
-loop-again : tie.Need-loop-again Inv-loop μ-loop
-loop-again c = omega arith
-
 returns-2 : tie.Need-returns-2 Inv-loop μ-loop
 returns-2 c = search needs
+
+returns-3 : tie.Need-returns-3 Inv-loop μ-loop
+returns-3 c = search needs
 
 pub lines-spec : {M : Type 1} → statement M
 lines-spec =
@@ -52,8 +57,10 @@ lines-spec =
     sub-part
     part-requires
     line-requires
-    returns
+    is-well-requires
     add-at
     loop-less
     loop-again
-    returns-2)
+    returns
+    returns-2
+    returns-3)

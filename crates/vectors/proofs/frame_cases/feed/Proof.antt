@@ -2,16 +2,16 @@ use Prim.Native.Nat.{_+_, _-_, _≤_}
 use mathlib.Core.Path.{_≡_}
 use native.Mathlib.Omega.{arith}
 use lib.ListN.{length, take, drop, length-drop, length-take}
-use borrow.Author.Needs.{needs}
 use Rattle.frames.proofs.CallLaws.{consumed-within}
+use borrow.Author.Needs.{needs}
 use Rattle.vectors.proofs.frame_cases.feed.Statement.{statement}
 use Rattle.vectors.proofs.frame_cases.feed.Tie as tie
 
 abbrev Inv-loop : tie.InvT-loop
-Inv-loop piece carry₀ framing₀ at₀ carry framing at = (at ≤ length piece) × (length carry ≡ length carry₀)
+Inv-loop piece carry₀ framing₀ run₀ at₀ carry framing run at = (at ≤ length piece) × (length carry ≡ length carry₀)
 
 abbrev μ-loop : tie.MeasureT-loop
-μ-loop piece carry₀ framing₀ at₀ carry framing at = length piece - at
+μ-loop piece carry₀ framing₀ run₀ at₀ carry framing run at = length piece - at
 
 loop-holds : tie.Need-loop-holds Inv-loop μ-loop
 loop-holds c = search needs
@@ -28,14 +28,6 @@ part-scan-end c = search needs
 scan-requires : tie.Need-scan-requires Inv-loop μ-loop
 scan-requires c κs = search needs
 
--- what the call consumed lies within the rest of the piece
-within : (c : tie.After-scan Inv-loop μ-loop) → c .before .before .before .before .loop .at + c .scan .result .consumed ≤ length (c .before .before .before .before .before .before .before .args .piece .now)
-within c =
-    let l = c .before .before .before .before .loop in
-    let piece = c .before .before .before .before .before .before .before .args .piece .now in
-    let part : length (take (length piece - l .at) (drop (l .at) piece)) ≡ length piece - l .at = simp (length-take, length-drop) (omega arith) in
-    omega (arith, consumed-within _ _ _ (c .scan .ensures))
-
 sub-text : tie.Need-sub-text Inv-loop μ-loop
 sub-text c = search needs
 
@@ -51,14 +43,28 @@ text-requires c κs = search needs
 report-requires : tie.Need-report-requires Inv-loop μ-loop
 report-requires c κs = search needs
 
+is-well-requires : tie.Need-is-well-requires Inv-loop μ-loop
+is-well-requires c κs = search needs
+
+-- what the call consumed lies within the rest of the piece
+within : (c : tie.After-scan Inv-loop μ-loop)
+    → c .before .before .before .before .loop .at + c .scan .result .consumed
+    ≤ length (c .before .before .before .before .before .before .before .args .piece .now)
+within c =
+    let l = c .before .before .before .before .loop in
+    let piece = c .before .before .before .before .before .before .before .args .piece .now in
+    let part : length (take (length piece - l .at) (drop (l .at) piece)) ≡ length piece - l .at =
+    simp (length-take, length-drop) (omega arith) in
+    omega (arith, consumed-within _ _ _ (c .scan .ensures))
+
 add-at : tie.Need-add-at Inv-loop μ-loop
-add-at c = omega (arith, within (c .before .before .before .before .before .before .before))
+add-at c = omega (arith, within (c .before .before .before .before .before .before .before .before .before))
 
 loop-less : tie.Need-loop-less Inv-loop μ-loop
-loop-less c = omega (arith, within (c .before .before .before .before .before .before .before))
+loop-less c = omega (arith, within (c .before .before .before .before .before .before .before .before .before))
 
 loop-again : tie.Need-loop-again Inv-loop μ-loop
-loop-again c = (omega (arith, within (c .before .before .before .before .before .before .before)), search needs)
+loop-again c = (omega (arith, within (c .before .before .before .before .before .before .before .before .before)), search needs)
 
 same-length : tie.Need-same-length Inv-loop μ-loop
 same-length c = search needs
@@ -71,6 +77,12 @@ same-length-2 c = search needs
 
 returns-2 : tie.Need-returns-2 Inv-loop μ-loop
 returns-2 c = search needs
+
+same-length-3 : tie.Need-same-length-3 Inv-loop μ-loop
+same-length-3 c = search needs
+
+returns-3 : tie.Need-returns-3 Inv-loop μ-loop
+returns-3 c = search needs
 
 pub feed-spec : {M : Type 1} → statement M
 feed-spec =
@@ -88,10 +100,13 @@ feed-spec =
     part-text-end
     text-requires
     report-requires
+    is-well-requires
     add-at
     loop-less
     loop-again
     same-length
     returns
     same-length-2
-    returns-2)
+    returns-2
+    same-length-3
+    returns-3)
