@@ -13,7 +13,8 @@ use Rattle.command.specs.Meaning as Meaning
 use Rattle.protocol.specs.Table.{absentSession, noSession, fileAt, idOf, isPresent, isUsed, findSession, withState}
 use Rattle.protocol.specs.Answers.{allowState, allowFound, denyState, denyFound, cleared, dropFound, allowedOf, deniedOf, droppedOf}
 use Rattle.protocol.specs.Calls.{isOwed}
-use Rattle.protocol.specs.History.{Mark, lastAsk, Key, partFor, stands}
+use Rattle.protocol.specs.History.{Mark, lastAsk}
+use Rattle.protocol.specs.Stretches.{Key, partFor, longer, since, stands}
 use Rattle.protocol.specs.declared.FileState.the-variants as FileState
 use Rattle.protocol.specs.declared.SessionState.{SessionState}
 use Rattle.protocol.specs.declared.SessionState.the-variants as SessionState
@@ -25,23 +26,24 @@ use Rattle.protocol.specs.declared.Stepped.{Stepped}
 use Rattle.protocol.specs.declared.Found.{Found}
 use Rattle.protocol.specs.declared.Found.the-variants as Found
 use Rattle.protocol.proofs.Laws.{no-way, equals-same, found-at, unique-other}
-use Rattle.protocol.proofs.Invariant.{keyOf, FileOK, commitsFor, Holds, standing, committing, sessionUsed, SessionOK, owing, Asking, TableOK}
-use Rattle.protocol.proofs.Marks.{id-other, part-other, commits-other, session-map}
+use Rattle.protocol.proofs.Invariant.{keyOf, fileKey, FileOK, commitsFor, Holds, standing, committing, sessionUsed, SessionOK, owing, Asking, TableOK}
+use Rattle.protocol.proofs.Marks.{id-other, part-other, commits-other, none-allowed, none-noted, session-map}
 use Rattle.protocol.proofs.Puts.{table, notedMarks, put-session, drop-session, free-files, not-owed, asking-other, NoneDone, none-same, none-put, none-free}
 use Rattle.protocol.proofs.Obeyed.{sessionIn}
 
 -- ---- marks that bring a file nothing
 file-allowed : (b : Bool) {m : List Mark} {k : Key} {n : ℕ} (i : List ℕ) → FileOK b m k n → FileOK b (Mark.allow i ∷ m) k n
-file-allowed true i f = record { joined = f .joined; counted = f .counted; started = f .started }
-file-allowed false i f = record { joined = f .joined; counted = f .counted; started = f .started }
+file-allowed true i f = record { stretch = longer (Mark.allow i) (f .stretch); started = rw (f .started); joined = f .joined; counted = f .counted }
+file-allowed false i f = record { stretch = longer (Mark.allow i) (f .stretch); started = rw (f .started); joined = f .joined; counted = f .counted }
 
 file-dropped : (b : Bool) {m : List Mark} {k : Key} {n : ℕ} (i : List ℕ) → FileOK b m k n → FileOK b (Mark.drop i ∷ m) k n
-file-dropped true i f = record { joined = f .joined; counted = f .counted; started = f .started }
-file-dropped false i f = record { joined = f .joined; counted = f .counted; started = f .started }
+file-dropped true i f = record { stretch = longer (Mark.drop i) (f .stretch); started = rw (f .started); joined = f .joined; counted = f .counted }
+file-dropped false i f = record { stretch = longer (Mark.drop i) (f .stretch); started = rw (f .started); joined = f .joined; counted = f .counted }
 
 -- what was pending is cleared: it was not the file's
 file-cleared : {m : List Mark} {k : Key} {n : ℕ} (i : List ℕ) → partFor k (lastAsk m) ≡ [] → FileOK true m k n → FileOK false (Mark.drop i ∷ m) k n
-file-cleared i e f = record { joined = rw e at (f .joined); counted = f .counted; started = f .started }
+file-cleared i e f =
+    record { stretch = longer (Mark.drop i) (f .stretch); started = rw (f .started); joined = rw e at (f .joined); counted = f .counted }
 
 holds-allowed : {b : Bool} {i : List ℕ} {m : List Mark} (k : List ℕ) → Holds b i m → Holds b i (Mark.allow k ∷ m)
 holds-allowed {b} {i} {m} k (standing h) = standing (go (equals i k))
@@ -107,13 +109,14 @@ module _ {ss : List Session} {o : Owed} {m : List Mark} (ok : TableOK (table ss 
                   alone = λ j j′ q _ _. no-way (sym q ∙ ap isUsed (free j));
                   named = λ j q. no-way (sym q ∙ ap isUsed (free j));
                   each = λ j w. let x : FileState.Free ≡ FileState.Started = sym (free j) ∙ w in let z : _≡_ {A = ℕ} 0 1 = cc in absurd (omega arith);
+                  unstarted = λ f _. none-allowed (fileKey (sessionIn ss i) f) k (since (fileKey (sessionIn ss i) f) m) (equals-same _ _ (found .2));
                 };
           }
 
       allow-ok : TableOK (table (set ss i (withState (sessionIn ss i) SessionState.Open)) o) (Mark.allow k ∷ m)
       allow-ok =
           put-session (table ss o) i (withState (sessionIn ss i) SessionState.Open) o ok (found .0) (λ _ j n q u. n (ok .alone j i q (found .1) u))
-          (λ j n. session-map (λ _. holds-allowed k) (λ _ j′ _. file-allowed (isOwed o) k) (ok .each j))
+          (λ j n. session-map (λ _. holds-allowed k) (λ _ j′ _. file-allowed (isOwed o) k) (λ _ f e. none-noted m (fileKey (sessionIn ss j) f) k e .0) (ok .each j))
           allowed-ok (elsewhere (withState (sessionIn ss i) SessionState.Open)) (ok .told)
 
       deny-ok : TableOK (table (set ss i absentSession) o) m
@@ -121,7 +124,7 @@ module _ {ss : List Session} {o : Owed} {m : List Mark} (ok : TableOK (table ss 
 
     -- ---- drop
     dropped-ok : (b : Bool) (j : ℕ) → (j ≡ i → ⊥) → SessionOK b m (sessionIn ss j) → SessionOK b (Mark.drop k ∷ m) (sessionIn ss j)
-    dropped-ok b j n = session-map (λ p. holds-dropped k (others j n p)) (λ _ j′ _. file-dropped b k)
+    dropped-ok b j n = session-map (λ p. holds-dropped k (others j n p)) (λ _ j′ _. file-dropped b k) (λ _ f e. none-noted m (fileKey (sessionIn ss j) f) k e .1)
 
     -- the session that is dropped owed the answer
     cleared-ok : (a : Asking ss (lastAsk m) o) → owing o ≡ i → (j : ℕ) → (j ≡ i → ⊥) → SessionOK true m (sessionIn ss j)
@@ -131,6 +134,7 @@ module _ {ss : List Session} {o : Owed} {m : List Mark} (ok : TableOK (table ss 
         (λ p. holds-cleared k (others j n p) (rw (a .asked) (commits-other (idOf (sessionIn ss j)) (a .command) (a .heard) (for-other p))))
         (λ p j′ _. let f = keyOf (sessionIn ss j) (fileAt (sessionIn ss j) j′) in
         file-cleared k (rw (a .asked) (part-other f (a .command) (a .heard) (id-other f (a .command) (for-other p)))))
+        (λ _ f e. none-noted m (fileKey (sessionIn ss j) f) k e .1)
       where
         for-other : sessionIn ss j .state ≡ SessionState.Open → equals (idOf (sessionIn ss j)) (Meaning.idOf (a .command)) ≡ false
         for-other p = rw (← (a .id), q, found .2) (others j n p)
@@ -162,7 +166,7 @@ module _ {ss : List Session} {o : Owed} {m : List Mark} (ok : TableOK (table ss 
           → Noted (table ss o) m (Mark.allow k) (allowState (table ss o) i s)
       state i e SessionState.Absent q = record { ok = ok; none = none }
       state i e SessionState.Asked q =
-          record { ok = allow-ok i e q; none = none-put (table ss o) i (withState (sessionIn ss i) SessionState.Open) o (λ j p r. p r) }
+          record { ok = allow-ok i e q; none = none-put (table ss o) i (withState (sessionIn ss i) SessionState.Open) o (λ j q. (q, refl)) }
       state i e SessionState.Open q = record { ok = ok; none = none }
 
       found : (f : Found) → findSession (table ss o) k ≡ f → Noted (table ss o) m (Mark.allow k) (allowFound (table ss o) f)

@@ -1,8 +1,12 @@
 -- THE CUT DOES NOT MATTER, at the level of calls. What a list of calls gives, and the receiver that it leaves, are those of its moves and of
 -- all bytes that it consumes: pieces, places, scratch and buffers count for nothing.
-use Prim.Native.Nat.{ℕ}
+use Prim.Native.Nat.{ℕ, suc, _+_}
 use mathlib.Core.Path.{_≡_, refl, sym, ap, _∙_}
+use mathlib.Core.Bool.{Bool, true, false}
 use mathlib.Core.List.{List, [], _∷_, _++_, append-assoc, append-nil}
+use native.Mathlib.Omega.{arith}
+use lib.ListN.{length, length-append}
+use Rattle.octets.specs.Choice.{pick}
 use Rattle.frames.specs.Stream as Stream
 use Rattle.frames.specs.Stream.{Mode, stream}
 use Rattle.frames.specs.Framings.{framingOf}
@@ -10,10 +14,12 @@ use Rattle.frames.specs.declared.Framing.{Framing}
 use Rattle.frames.proofs.Follows.{stream-append}
 use Rattle.protocol.specs.Table.{emptyTable}
 use Rattle.protocol.specs.History.{bytesOf}
-use Rattle.protocol.specs.Claim.{Call, World, step, start}
-use Rattle.protocol.specs.Cuts.{Move, Output, allGiven, after, AllLent, moves, CutsAlike}
+use Rattle.protocol.specs.Machine.{ours, Call, World, start}
+use Rattle.protocol.specs.Cuts.{Move, isReportMove, Output, CutsAlike}
 use Rattle.protocol.specs.declared.Table.{Table}
 use Rattle.protocol.specs.declared.Receiver.{Receiver}
+use Rattle.protocol.proofs.Ours.{step, allGiven, after, AllLent}
+use Rattle.protocol.proofs.CutsOrder.{moves, reports, same-order}
 use Rattle.protocol.proofs.CutsRun.{run, Moves, none, one}
 use Rattle.protocol.proofs.CutsCalls.{Kept, start-kept, consumed, toldBy, steps}
 
@@ -41,7 +47,7 @@ kept-all w (c ∷ cs) ok lent = kept-all (step w c) cs (steps w ok c (lent .0) .
 run-more : {t t′ : Table} {os : List Output} {ds : List Stream.Told} (more : List Output) (rest : List Stream.Told) → Moves t t′ os ds
     → run t (moves (os ++ more)) (ds ++ rest) ≡ (os ++ run t′ (moves more) rest .0, run t′ (moves more) rest .1)
 run-more more rest (none e) = rw e
-run-more more rest (one o ds e) = rw (e rest)
+run-more more rest (one o ds n e) = rw (e rest)
 
 run-all : (w : World) (cs : List Call) → Kept w → AllLent w cs
     → run (w .receiver .table) (moves (allGiven w cs)) (allTold w cs) ≡ (allGiven w cs, after w cs .receiver .table)
@@ -49,6 +55,27 @@ run-all w [] ok lent = refl
 run-all w (c ∷ cs) ok lent =
     let s = steps w ok c (lent .0) in
     run-more (allGiven (step w c) cs) (allTold (step w c) cs) (s .moves) ∙ rw (run-all (step w c) cs (s .kept) (lent .1))
+
+-- ---- as many reports as things told
+told-reports : {t t′ : Table} {os : List Output} {ds : List Stream.Told} → Moves t t′ os ds → (more : List Output) → reports (os ++ more) ≡ length ds + reports more
+told-reports (none e) more = omega arith
+told-reports (one o ds n e) more = rw n (go (isReportMove (o .move)))
+  where
+    go : (b : Bool) → pick b (suc (reports more)) (reports more) ≡ pick b 1 0 + reports more
+    go true = omega arith
+    go false = omega arith
+
+all-reports : (w : World) (cs : List Call) → Kept w → AllLent w cs → reports (allGiven w cs) ≡ length (allTold w cs)
+all-reports w [] ok lent = refl
+all-reports w (c ∷ cs) ok lent =
+    let s = steps w ok c (lent .0) in
+    told-reports (s .moves) (allGiven (step w c) cs)
+    ∙ rw (all-reports (step w c) cs (s .kept) (lent .1)) (sym (length-append (toldBy w c) (allTold (step w c) cs)))
+
+calls-reports : (carry : List ℕ) (cs : List Call) → AllLent (start carry) cs
+    → reports (allGiven (start carry) cs) ≡ length (stream Mode.outside (bytesOf (after (start carry) cs .history)) .0)
+unfolding stream
+calls-reports carry cs lent = rw (told-all (start carry) cs (start-kept carry) lent) (all-reports (start carry) cs (start-kept carry) lent)
 
 -- ---- from a fresh receiver
 pub calls-run : (carry : List ℕ) (cs : List Call) → AllLent (start carry) cs
@@ -64,9 +91,14 @@ same-runs t m d e₁ e₂ = sym e₁ ∙ rw (m, d) e₂
 same-receiver : (r₁ r₂ : Receiver) → r₁ .framing ≡ r₂ .framing → r₁ .table ≡ r₂ .table → r₁ ≡ r₂
 same-receiver r₁ r₂ f t = ap (λ (g : Framing). record { framing = g; table = r₁ .table }) f ∙ ap (λ (x : Table). record { framing = r₂ .framing; table = x }) t
 
-pub cuts-alike : CutsAlike
+pub cuts-alike : CutsAlike ours
 cuts-alike carry₁ carry₂ cs₁ cs₂ lent₁ lent₂ bytes same =
-    let q = same-runs emptyTable same (ap (λ (bs : List ℕ). stream Mode.outside bs .0) bytes) (calls-run carry₁ cs₁ lent₁) (calls-run carry₂ cs₂ lent₂) in
+    let told : stream Mode.outside (bytesOf (after (start carry₁) cs₁ .history)) .0 ≡ stream Mode.outside (bytesOf (after (start carry₂) cs₂ .history)) .0 =
+    ap (λ (bs : List ℕ). stream Mode.outside bs .0) bytes in
+    let as-many : reports (allGiven (start carry₁) cs₁) ≡ reports (allGiven (start carry₂) cs₂) =
+    calls-reports carry₁ cs₁ lent₁ ∙ ap length told ∙ sym (calls-reports carry₂ cs₂ lent₂) in
+    let order = same-order 0 (allGiven (start carry₁) cs₁) (allGiven (start carry₂) cs₂) as-many same in
+    let q = same-runs emptyTable order told (calls-run carry₁ cs₁ lent₁) (calls-run carry₂ cs₂ lent₂) in
     let f₁ = kept-all (start carry₁) cs₁ (start-kept carry₁) lent₁ .follows .framing in
     let f₂ = kept-all (start carry₂) cs₂ (start-kept carry₂) lent₂ .follows .framing in (
       ap (λ (x : List Output × Table). x .0) q,

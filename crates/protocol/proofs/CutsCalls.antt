@@ -23,8 +23,8 @@ use Rattle.protocol.specs.Replies.{replyBytes, repliedOf}
 use Rattle.protocol.specs.Answers.{refused, settleDone, settleFailed, dropFound, allowedOf, deniedOf, droppedOf}
 use Rattle.protocol.specs.Calls.{isOwed, Feeding, feeding, Acted, readAct, reportAct, feedRefused, scannedFeed, isShort, feedOf, answeredBy, replied, guarded, allowOf, denyOf, dropOf, doneOf, failedOf}
 use Rattle.protocol.specs.History.{Event, bytesOf, modeAfter}
-use Rattle.protocol.specs.Claim.{Call, World, isRefusal, Lent, afterFeed, afterCall, step, start}
-use Rattle.protocol.specs.Cuts.{saying, Move, Output, output, isReport, reportOf, answerOf, given}
+use Rattle.protocol.specs.Machine.{Call, World, isUnfed, isRefused, afterFeed, afterCall, start}
+use Rattle.protocol.specs.Cuts.{saying, Move, Output, output, isReport, isReportMove, reportOf, answerOf}
 use Rattle.protocol.specs.declared.Table.{Table}
 use Rattle.protocol.specs.declared.Receiver.{Receiver}
 use Rattle.protocol.specs.declared.Told.{Told}
@@ -33,6 +33,7 @@ use Rattle.protocol.specs.declared.Stepped.{Stepped}
 use Rattle.protocol.specs.declared.Answered.{Answered}
 use Rattle.protocol.specs.declared.Found.{Found}
 use Rattle.protocol.specs.declared.Found.the-variants as Found
+use Rattle.protocol.proofs.Ours.{Lent, step, given}
 use Rattle.protocol.proofs.ReplyBytes.{SizedReply, reply-sent}
 use Rattle.protocol.proofs.Sizes.{Sized, SizedStep, none-sized, empty-sized, done-sized, failed-sized, allow-sized, deny-sized, dropped-sized}
 use Rattle.protocol.proofs.ReplyLengths.{report-sized, Roomy, roomy}
@@ -54,9 +55,9 @@ abbrev reporting : List ℕ → Acted → List ℕ → Output
 reporting text a reply =
     output Move.report text (saying (a .step .told) text (a .scratch)) (take (repliedOf (a .step .reply) reply .answer) (repliedOf (a .step .reply) reply .buffer))
 
--- an act on the table that is no refusal with 9 to 12, what it gives, and what was told for it
+-- an act on the table that is no refusal with 9 or 10, what it gives, and what was told for it
 record Acts (t : Table) (a : Acted) (os : List Output) (ds : List Stream.Told) : Type 0 where
-  taken : isRefusal (a .step .told) ≡ false
+  taken : isUnfed (a .step .told) ≡ false
   moves : Moves t (a .step .table) os ds
 
 module _ (t : Table) (h : Sized t) (scratch reply : List ℕ) (enough : 6144 ≤ length scratch) (long : 124 ≤ length reply) where
@@ -65,7 +66,7 @@ module _ (t : Table) (h : Sized t) (scratch reply : List ℕ) (enough : 6144 ≤
   act-moves d a z s =
       let e : reporting (textIn d) a reply ≡ reported t d = rw (reply-sent (a .step .reply) reply z long .bytes, s .said, s .step) in
       let q : a .step .table ≡ actOn t d .step .table = rw (s .step) in
-      record { taken = s .taken; moves = rw (e, q) (one (reported t d) (d ∷ []) (λ rest. refl)) }
+      record { taken = s .taken; moves = rw (e, q) (one (reported t d) (d ∷ []) refl (λ rest. refl)) }
 
   text-moves : (text : List ℕ)
       → Acts t (readAct t text (readOf text scratch)) (reporting text (readAct t text (readOf text scratch)) reply ∷ []) (Stream.Told.command text ∷ [])
@@ -91,18 +92,18 @@ record Feeds (w : World) (piece : List ℕ) (f : Feeding) : Type 0 where
 
 module _ (w : World) (ok : Kept w) (piece carry scratch reply : List ℕ) where
   -- refused with 9 or 10
-  refused-feeds : (n : ℕ) → 9 ≤ n → Feeds w piece (feeding (feedRefused (w .receiver) n) carry scratch reply)
+  refused-feeds : (n : ℕ) → isUnfed (Told.Refused n) ≡ true → Feeds w piece (feeding (feedRefused (w .receiver) n) carry scratch reply)
   unfolding stream
   refused-feeds n l =
       record {
         moves = none refl;
-        kept = record { follows = rw (le-leb 9 n l, modeAfter, append-nil (bytesOf (w .history))) (ok .follows); sized = ok .sized };
+        kept = record { follows = rw (l, modeAfter, append-nil (bytesOf (w .history))) (ok .follows); sized = ok .sized };
       }
 
   abbrev taken : Feeding
   taken = scannedFeed (w .receiver .table) piece (scanOf (w .receiver .framing) piece carry) scratch reply
 
-  taken-feeds : Roomy carry scratch reply → (isRefusal (taken .fed .told) ≡ false → carry ≡ w .carry) → Feeds w piece taken
+  taken-feeds : Roomy carry scratch reply → (isUnfed (taken .fed .told) ≡ false → carry ≡ w .carry) → Feeds w piece taken
   unfolding scannedFeed
   taken-feeds long lent =
       let k = scanOf (w .receiver .framing) piece carry in
@@ -127,9 +128,9 @@ module _ (w : World) (ok : Kept w) (piece carry scratch reply : List ℕ) where
       no n = feeding (feedRefused (w .receiver) n) carry scratch reply
 
       go : (s : Bool) → isShort carry scratch reply ≡ s → (b : Bool)
-          → (isRefusal (pick s (no 9) (pick b (no 10) taken) .fed .told) ≡ false → carry ≡ w .carry) → Feeds w piece (pick s (no 9) (pick b (no 10) taken))
-      go true e b lent = refused-feeds 9 (lit≤ tt)
-      go false e true lent = refused-feeds 10 (lit≤ tt)
+          → (isUnfed (pick s (no 9) (pick b (no 10) taken) .fed .told) ≡ false → carry ≡ w .carry) → Feeds w piece (pick s (no 9) (pick b (no 10) taken))
+      go true e b lent = refused-feeds 9 refl
+      go false e true lent = refused-feeds 10 refl
       go false e false lent = taken-feeds (roomy carry scratch reply e) lent
 
 -- ---- a console call
@@ -139,10 +140,10 @@ record Answers (r : Receiver) (a : Outcome Answered) (os : List Output) : Type 0
   moves : Moves (r .table) (a .answer .receiver .table) os []
   sized : Sized (a .answer .receiver .table)
 
-answers : (r : Receiver) → Sized (r .table) → (m : Move) (s : Stepped) (reply : List ℕ) → SizedStep s
+answers : (r : Receiver) → Sized (r .table) → (m : Move) → isReportMove m ≡ false → (s : Stepped) (reply : List ℕ) → SizedStep s
     → ((ds : List Stream.Told) → move (r .table) m ds ≡ moveBy m s ds) → Answers r (guarded r s reply) (answerOf m reply (guarded r s reply))
 unfolding guarded
-answers r h m s reply z e = go (ltb (length reply) 124) refl
+answers r h m c s reply z e = go (ltb (length reply) 124) refl
   where
     out : Outcome Answered → Output
     out a = output m [] (saying (a .answer .told) [] []) (take (a .answer .«reply_len») (a .buffer))
@@ -152,7 +153,7 @@ answers r h m s reply z e = go (ltb (length reply) 124) refl
     go true q = record { framing = refl; moves = none refl; sized = h }
     go false q =
         let o : out (replied (r .framing) s reply) ≡ moveBy m s [] .output = rw (reply-sent (s .reply) reply (z .reply) (ltb-false _ _ q) .bytes) in
-        record { framing = refl; moves = rw o (one (moveBy m s [] .output) [] e); sized = z .table }
+        record { framing = refl; moves = rw o (one (moveBy m s [] .output) [] (rw c) e); sized = z .table }
 
 -- drop replies nothing
 drop-silent : (t : Table) (id : List ℕ) → replyBytes (droppedOf t id .reply) ≡ []
@@ -202,25 +203,25 @@ module _ (w : World) (ok : Kept w) where
       let f = feeds w ok piece carry scratch reply lent in
       record { bytes = refl; moves = f .moves; kept = f .kept }
   steps (Call.allow id reply) lent =
-      let a = answers r (ok .sized) (Move.allow id) (allowedOf (r .table) id) reply (allow-sized (r .table) (ok .sized) id) (λ ds. refl) in
-      let q = noted-bytes (isRefusal (allowOf r id reply .answer .told)) (Event.allowed id) h refl in
+      let a = answers r (ok .sized) (Move.allow id) refl (allowedOf (r .table) id) reply (allow-sized (r .table) (ok .sized) id) (λ ds. refl) in
+      let q = noted-bytes (isRefused (allowOf r id reply .answer .told)) (Event.allowed id) h refl in
       record { bytes = q; moves = a .moves; kept = console-kept (allowOf r id reply .answer) _ q (a .framing) (a .sized) }
   steps (Call.deny id reply) lent =
-      let a = answers r (ok .sized) (Move.deny id) (deniedOf (r .table) id) reply (deny-sized (r .table) (ok .sized) id) (λ ds. refl) in
+      let a = answers r (ok .sized) (Move.deny id) refl (deniedOf (r .table) id) reply (deny-sized (r .table) (ok .sized) id) (λ ds. refl) in
       let q = sym (append-nil (bytesOf h)) in
       record { bytes = q; moves = a .moves; kept = console-kept (denyOf r id reply .answer) h q (a .framing) (a .sized) }
   steps (Call.drop id) lent =
-      let q = noted-bytes (isRefusal (dropOf r id .told)) (Event.dropped id) h refl in
+      let q = noted-bytes (isRefused (dropOf r id .told)) (Event.dropped id) h refl in
       record {
         bytes = q;
-        moves = one (output (Move.drop id) [] (saying (droppedOf (r .table) id .told) [] []) []) [] (λ ds. rw (drop-silent (r .table) id));
+        moves = one (output (Move.drop id) [] (saying (droppedOf (r .table) id .told) [] []) []) [] refl (λ ds. rw (drop-silent (r .table) id));
         kept = console-kept (dropOf r id) _ q refl (dropped-sized (r .table) (ok .sized) id .table);
       }
   steps (Call.done reply) lent =
-      let a = answers r (ok .sized) Move.done (settleDone (r .table) (r .table .owed)) reply (done-sized (r .table) (ok .sized) (r .table .owed)) (λ ds. refl) in
-      let q = noted-bytes (isRefusal (doneOf r reply .answer .told)) (Event.answered true) h refl in
+      let a = answers r (ok .sized) Move.done refl (settleDone (r .table) (r .table .owed)) reply (done-sized (r .table) (ok .sized) (r .table .owed)) (λ ds. refl) in
+      let q = noted-bytes (isRefused (doneOf r reply .answer .told)) (Event.answered true) h refl in
       record { bytes = q; moves = a .moves; kept = console-kept (doneOf r reply .answer) _ q (a .framing) (a .sized) }
   steps (Call.failed code reply) lent =
-      let a = answers r (ok .sized) (Move.failed code) (settleFailed (r .table) code (r .table .owed)) reply (failed-sized (r .table) (ok .sized) code (r .table .owed)) (λ ds. refl) in
-      let q = noted-bytes (isRefusal (failedOf r code reply .answer .told)) (Event.answered false) h refl in
+      let a = answers r (ok .sized) (Move.failed code) refl (settleFailed (r .table) code (r .table .owed)) reply (failed-sized (r .table) (ok .sized) code (r .table .owed)) (λ ds. refl) in
+      let q = noted-bytes (isRefused (failedOf r code reply .answer .told)) (Event.answered false) h refl in
       record { bytes = q; moves = a .moves; kept = console-kept (failedOf r code reply .answer) _ q (a .framing) (a .sized) }

@@ -2,13 +2,14 @@
 use Prim.Native.Nat.{ℕ}
 use mathlib.Core.Path.{_≡_}
 use mathlib.Core.List.{List, [], _∷_, _++_}
-use lib.ListN.{replicate}
+use lib.ListN.{length, replicate}
+use Rattle.octets.specs.Choice.{pick}
 use Rattle.frames.specs.Stream as Stream
 use Rattle.command.specs.Read.{readOf}
 use Rattle.protocol.specs.Replies.{replyBytes}
 use Rattle.protocol.specs.Answers.{settleDone, settleFailed, allowedOf, deniedOf, droppedOf}
 use Rattle.protocol.specs.Calls.{Acted, acted, telling, readAct}
-use Rattle.protocol.specs.Cuts.{Saying, saying, Move, Output, output}
+use Rattle.protocol.specs.Cuts.{Saying, saying, Move, isReportMove, Output, output}
 use Rattle.protocol.specs.declared.Table.{Table}
 use Rattle.protocol.specs.declared.Told.the-variants as Told
 use Rattle.protocol.specs.declared.Stepped.{Stepped}
@@ -68,7 +69,12 @@ abbrev pub run : Table → List Move → List Stream.Told → List Output × Tab
 run t [] ds = ([], t)
 run t (m ∷ ms) ds = before (move t m ds .output) (run (move t m ds .table) ms (move t m ds .rest))
 
+-- how many things told a move takes: a report one, a console call none
+abbrev pub takes : Move → ℕ
+takes m = pick (isReportMove m) 1 0
+
 -- from the table t to the table t′: no move, and nothing told; or one move that gives an output, and takes what is told
 pub data Moves (t t′ : Table) : List Output → List Stream.Told → Type 0 where
   none : t ≡ t′ → Moves t t′ [] []
-  one : (o : Output) (ds : List Stream.Told) → ((rest : List Stream.Told) → move t (o .move) (ds ++ rest) ≡ moved o t′ rest) → Moves t t′ (o ∷ []) ds
+  one : (o : Output) (ds : List Stream.Told) → length ds ≡ takes (o .move) → ((rest : List Stream.Told) → move t (o .move) (ds ++ rest) ≡ moved o t′ rest)
+      → Moves t t′ (o ∷ []) ds

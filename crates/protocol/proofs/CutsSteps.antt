@@ -16,7 +16,7 @@ use Rattle.protocol.specs.Actions.{kindOf}
 use Rattle.protocol.specs.Files.{stringIn, idIn, fileIdIn, fileStatus, fileChecked, fileKnown, fileOf}
 use Rattle.protocol.specs.Sessions.{presentResult, foundResult, obeyOf}
 use Rattle.protocol.specs.Calls.{Acted, readAct}
-use Rattle.protocol.specs.Claim.{isRefusal}
+use Rattle.protocol.specs.Machine.{isUnfed}
 use Rattle.protocol.specs.Cuts.{saying}
 use Rattle.protocol.specs.declared.Kind.{Kind}
 use Rattle.protocol.specs.declared.Kind.the-variants as Kind
@@ -26,6 +26,7 @@ use Rattle.protocol.specs.declared.Told.{Told}
 use Rattle.protocol.specs.declared.Stepped.{Stepped}
 use Rattle.protocol.specs.declared.Found.{Found}
 use Rattle.protocol.specs.declared.Found.the-variants as Found
+use Rattle.protocol.proofs.Laws.{low-taken}
 use Rattle.protocol.proofs.Sizes.{Sized, Tells, obey-sized}
 use Rattle.protocol.proofs.CutsReading.{SameCommand, SameReading, refused, read}
 
@@ -76,7 +77,7 @@ tells-same (Tells.status w) s = refl
 tells-same Tells.withdrawn s = refl
 tells-same Tells.discarded s = refl
 
-tells-taken : {c : Command} {w : Told} → Tells c w → isRefusal w ≡ false
+tells-taken : {c : Command} {w : Told} → Tells c w → isUnfed w ≡ false
 tells-taken Tells.nothing = refl
 tells-taken Tells.asked = refl
 tells-taken Tells.opens = refl
@@ -88,14 +89,14 @@ tells-taken Tells.withdrawn = refl
 tells-taken Tells.discarded = refl
 
 -- ---- a text acted on
--- with two scratches: the same step, and the same told; none of refusals 9 to 12
+-- with two scratches: the same step, and the same told; no refusal with 9 or 10
 pub record SameAct (text : List ℕ) (a a′ : Acted) : Type 0 where
   pub step : a .step ≡ a′ .step
   pub said : saying (a .step .told) text (a .scratch) ≡ saying (a′ .step .told) text (a′ .scratch)
-  pub taken : isRefusal (a .step .told) ≡ false
+  pub taken : isUnfed (a .step .told) ≡ false
 
 pub act-same : (t : Table) → Sized t → (text : List ℕ) {o o′ : Outcome Answer} → SameReading text o o′ → SameAct text (readAct t text o) (readAct t text o′)
-act-same t h text (refused n after after′ l) = record { step = refl; said = refl; taken = lt-leb 9 n (omega arith) }
+act-same t h text (refused n after after′ l) = record { step = refl; said = refl; taken = low-taken n l }
 act-same t h text (read c after after′ s) =
     let e : obeyOf t c text after ≡ obeyOf t c text after′ = obey-same t c text after after′ (s .name) in
     let w : Tells c (obeyOf t c text after .told) = obey-sized t h c text after .told in

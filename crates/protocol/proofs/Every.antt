@@ -11,11 +11,15 @@ use borrow.Author.Tests.{ltb-false}
 use Rattle.protocol.specs.Answers.{settleDone, settleFailed, allowedOf, deniedOf, droppedOf}
 use Rattle.protocol.specs.Calls.{isOwed, guarded, allowOf, denyOf, dropOf, doneOf, failedOf}
 use Rattle.protocol.specs.History.{Command, Heard, Event, Mark, marksOf, Question, lastAsk}
-use Rattle.protocol.specs.Claim.{Call, World, Lent, afterCall, step, start, stateAt, keyAt, DirectoryAsked, ClosedWhole, TurnedDone, Closes, Right, Everywhere, EveryHistory}
+use Rattle.protocol.specs.Stretches.{Key}
+use Rattle.protocol.specs.Machine.{ours, Call, World, isRefused, afterCall, start}
+use Rattle.protocol.specs.Claim.{DirectoryAsked, Closes, Closed, EveryHistory}
 use Rattle.protocol.specs.declared.FileState.the-variants as FileState
 use Rattle.protocol.specs.declared.Stepped.{Stepped}
 use Rattle.protocol.specs.declared.Answered.{Answered}
-use Rattle.protocol.proofs.Puts.{not-owed, NoneDone, none-same}
+use Rattle.protocol.proofs.Ours.{Lent, step, ClosedWhole, TurnedDone, Right, Everywhere}
+use Rattle.protocol.proofs.Laws.{no-way}
+use Rattle.protocol.proofs.Puts.{not-owed, NoneDone, none-same, none-closes}
 use Rattle.protocol.proofs.Settled.{done-noted, failed-noted, failed-none}
 use Rattle.protocol.proofs.Console.{allow-noted, deny-moved, drop-noted}
 use Rattle.protocol.proofs.Worlds.{WorldOK, start-ok, noted-ok, guarded-ok, by-guard}
@@ -36,10 +40,10 @@ step-ok w ok (Call.deny id reply) _ =
 step-ok w ok (Call.drop id) _ =
     noted-ok ok (Event.dropped id) (Mark.drop id) refl refl (droppedOf (w .receiver .table) id) 0 (drop-noted (ok .table) id .ok)
 step-ok w ok (Call.done reply) _ =
-    guarded-ok ok (Event.answered true) (Mark.answer true) refl refl (settleDone (w .receiver .table) (w .receiver .table .owed)) reply
+    guarded-ok ok (Event.answered true) (Mark.answer true (lastAsk (marksOf (w .history)))) refl refl (settleDone (w .receiver .table) (w .receiver .table .owed)) reply
     (done-noted (w .receiver .table .sessions) (w .receiver .table .owed) (ok .table))
 step-ok w ok (Call.failed code reply) _ =
-    guarded-ok ok (Event.answered false) (Mark.answer false) refl refl (settleFailed (w .receiver .table) code (w .receiver .table .owed)) reply
+    guarded-ok ok (Event.answered false) (Mark.answer false (lastAsk (marksOf (w .history)))) refl refl (settleFailed (w .receiver .table) code (w .receiver .table .owed)) reply
     (failed-noted (w .receiver .table .sessions) code (w .receiver .table .owed) (ok .table))
 
 -- ---- which call turns a record done
@@ -50,54 +54,52 @@ guarded-none w s reply none =
     by-guard (λ (a : Answered). NoneDone (w .receiver .table) (a .receiver .table)) w s reply (none-same (w .receiver .table) (w .receiver .table .owed)) (λ n. none)
 
 module _ (law : ReplyLaw) where
-  done-turns : (w : World) → WorldOK w → (reply : List ℕ) (i j : ℕ) → (stateAt w i j ≡ FileState.Done → ⊥)
-      → stateAt (step w (Call.done reply)) i j ≡ FileState.Done
-      → DirectoryAsked (keyAt w i j) (lastAsk (marksOf (w .history))) ⊎ ClosedWhole w reply i j
+  done-turns : (w : World) → WorldOK w → (reply : List ℕ) {k : Key} {s quiet : ℕ}
+      → Closes (w .receiver .table) (step w (Call.done reply) .receiver .table) k s quiet
+      → DirectoryAsked k (marksOf (w .history)) ⊎ ClosedWhole w reply k s quiet
   unfolding doneOf guarded
-  done-turns w ok reply i j p q = go (ltb (length reply) 124) refl q
+  done-turns w ok reply {k} {s} {quiet} c = go (ltb (length reply) 124) refl c
     where
-      go : (b : Bool) → ltb (length reply) 124 ≡ b → stateAt (step w (Call.done reply)) i j ≡ FileState.Done
-          → DirectoryAsked (keyAt w i j) (lastAsk (marksOf (w .history))) ⊎ ClosedWhole w reply i j
-      go true e q = absurd (p (rw e at q))
-      go false e q =
+      go : (b : Bool) → ltb (length reply) 124 ≡ b → Closes (w .receiver .table) (step w (Call.done reply) .receiver .table) k s quiet
+          → DirectoryAsked k (marksOf (w .history)) ⊎ ClosedWhole w reply k s quiet
+      go true e c = absurd (none-closes (none-same (w .receiver .table) (w .receiver .table .owed)) (rw e at c))
+      go false e c =
           let room : 124 ≤ length reply = ltb-false _ _ e in
-          turned (w .receiver .framing) (w .receiver .table .sessions) (w .carry) (w .history) reply room law (w .receiver .table .owed) ok i j p (rw (done-is w reply room) at q)
+          turned (w .receiver .framing) (w .receiver .table .sessions) (w .carry) (w .history) reply room law (w .receiver .table .owed) ok (rw (done-is w reply room) at c)
 
-  turned-done : (w : World) → WorldOK w → (c : Call) → Lent w c → (i j : ℕ) → (stateAt w i j ≡ FileState.Done → ⊥)
-      → stateAt (step w c) i j ≡ FileState.Done → TurnedDone w c i j
+  turned-done : (w : World) → WorldOK w → (c : Call) → Lent w c → {k : Key} {s quiet : ℕ}
+      → Closes (w .receiver .table) (step w c .receiver .table) k s quiet → TurnedDone w c k s quiet
   unfolding allowOf denyOf dropOf failedOf
-  turned-done w ok (Call.feed piece carry scratch reply) lent i j p q = absurd (feed-ok w ok piece carry scratch reply lent .none i j p q)
-  turned-done w ok (Call.allow id reply) _ i j p q = absurd (guarded-none w (allowedOf (w .receiver .table) id) reply (allow-noted (ok .table) id .none) i j p q)
-  turned-done w ok (Call.deny id reply) _ i j p q = absurd (guarded-none w (deniedOf (w .receiver .table) id) reply (deny-moved (ok .table) id .none) i j p q)
-  turned-done w ok (Call.drop id) _ i j p q = absurd (drop-noted (ok .table) id .none i j p q)
-  turned-done w ok (Call.done reply) _ i j p q = record { reply = reply; byDone = refl; right = done-turns w ok reply i j p q }
-  turned-done w ok (Call.failed code reply) _ i j p q =
-      absurd (guarded-none w (settleFailed (w .receiver .table) code (w .receiver .table .owed)) reply (failed-none (w .receiver .table .sessions) code (w .receiver .table .owed)) i j p q)
+  turned-done w ok (Call.feed piece carry scratch reply) lent c = absurd (none-closes (feed-ok w ok piece carry scratch reply lent .none) c)
+  turned-done w ok (Call.allow id reply) _ c =
+      absurd (none-closes (guarded-none w (allowedOf (w .receiver .table) id) reply (allow-noted (ok .table) id .none)) c)
+  turned-done w ok (Call.deny id reply) _ c =
+      absurd (none-closes (guarded-none w (deniedOf (w .receiver .table) id) reply (deny-moved (ok .table) id .none)) c)
+  turned-done w ok (Call.drop id) _ c = absurd (none-closes (drop-noted (ok .table) id .none) c)
+  turned-done w ok (Call.done reply) _ c = record { reply = reply; byDone = refl; right = done-turns w ok reply c }
+  turned-done w ok (Call.failed code reply) _ c =
+      let t = w .receiver .table in absurd (none-closes (guarded-none w (settleFailed t code (t .owed)) reply (failed-none (t .sessions) code (t .owed))) c)
 
 -- ---- a last part answered done closes its file
--- a call that is refused adds nothing
-no-more : {A : Type 0} (h : List Event) (e : Event) → h ≡ e ∷ h → A
-no-more h e q = let x : length h ≡ suc (length h) = ap length q in absurd (omega arith)
-
 done-closes : (w : World) → WorldOK w → (d : Command) (p reply : List ℕ) → lastAsk (marksOf (w .history)) ≡ Question.asks d (Heard.writesLast p)
-    → step w (Call.done reply) .history ≡ Event.answered true ∷ w .history → Closes d w (step w (Call.done reply))
+    → isRefused (doneOf (w .receiver) reply .answer .told) ≡ false → Closed (w .receiver .table) (step w (Call.done reply) .receiver .table) d
 unfolding doneOf guarded settleDone
 done-closes w ok d p reply ask q = go (ltb (length reply) 124) refl (isOwed (w .receiver .table .owed)) refl q
   where
     go : (b : Bool) → ltb (length reply) 124 ≡ b → (o : Bool) → isOwed (w .receiver .table .owed) ≡ o
-        → step w (Call.done reply) .history ≡ Event.answered true ∷ w .history → Closes d w (step w (Call.done reply))
-    go true e o u q = no-more (w .history) (Event.answered true) (rw e at q)
+        → isRefused (doneOf (w .receiver) reply .answer .told) ≡ false → Closed (w .receiver .table) (step w (Call.done reply) .receiver .table) d
+    go true e o u q = no-way (rw e at q)
     go false e true u q =
         closed (w .receiver .framing) (w .receiver .table .sessions) (w .carry) (w .history) reply (ltb-false _ _ e) (w .receiver .table .owed) ok d p ask u
-    go false e false u q = no-more (w .history) (Event.answered true) (rw (e, not-owed (w .receiver .table .owed) u) at q)
+    go false e false u q = no-way (rw (e, not-owed (w .receiver .table .owed) u) at q)
 
 -- ---- the theorem
 module _ (law : ReplyLaw) where
   right : (w : World) → WorldOK w → (c : Call) → Lent w c → Right w c
   right w ok c lent =
       record {
-        closes = turned-done law w ok c lent;
-        closed = λ d p reply ask e q. rw e (done-closes w ok d p reply ask (rw e at q));
+        closes = λ k s quiet. turned-done law w ok c lent;
+        closed = λ d p reply ask e q. rw e (done-closes w ok d p reply ask q);
         partsStand = step-ok w ok c lent .table .told;
       }
 
@@ -105,5 +107,5 @@ module _ (law : ReplyLaw) where
   everywhere w ok [] = tt
   everywhere w ok (c ∷ cs) = λ lent. (right w ok c lent, everywhere (step w c) (step-ok w ok c lent) cs)
 
-  pub every : EveryHistory
+  pub every : EveryHistory ours
   every carry calls = everywhere (start carry) (start-ok carry) calls

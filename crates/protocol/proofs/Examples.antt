@@ -1,6 +1,7 @@
 -- Lists of calls computed whole: the definitions and the claim are not about nothing.
 use Prim.Native.Nat.{ℕ, zero, suc}
 use mathlib.Core.Path.{_≡_, refl}
+use mathlib.Core.Option.{Option}
 use mathlib.Core.List.{List, [], _∷_, _++_}
 use lib.ListN.{length, take, drop, replicate}
 use Rattle.bytes.specs.Bytes.{indexOf, indexAfter}
@@ -34,14 +35,17 @@ use Rattle.protocol.specs.Files.{idIn, countLimit, fileChecked, fileOf, 
 use Rattle.protocol.specs.Sessions.{obeyOf}
 use Rattle.protocol.specs.Answers.{settleDone, allowedOf}
 use Rattle.protocol.specs.Calls.{Feeding, scannedFeed, feedOf, guarded, allowOf, doneOf}
-use Rattle.protocol.specs.History.{bytesOf, marksOf, parts, contents}
-use Rattle.protocol.specs.Claim.{Call, World, step, start, stateAt, countAt, keyAt}
-use Rattle.protocol.specs.Cuts.{allGiven, after, AllLent, moves}
+use Rattle.protocol.specs.History.{bytesOf, Mark, marksOf}
+use Rattle.protocol.specs.Stretches.{Key, Stretch, since, parts, contents}
+use Rattle.protocol.specs.Machine.{Call, World, start}
+use Rattle.protocol.specs.Claim.{stateAt, countAt}
+use Rattle.protocol.specs.Cuts.{consoleCalls}
 use Rattle.protocol.specs.declared.FileState.the-variants as FileState
 use Rattle.protocol.specs.declared.Status.the-variants as Status
 use Rattle.protocol.specs.declared.Told.{Told}
 use Rattle.protocol.specs.declared.Told.the-variants as Told
 use Rattle.protocol.specs.declared.Answered.{Answered}
+use Rattle.protocol.proofs.Ours.{step, allGiven, after, AllLent}
 use Rattle.protocol.proofs.Cuts.{cuts-alike}
 
 -- ---- a console that "allows every session at once, answers done always, and writes only replies"
@@ -137,13 +141,23 @@ two-pieces =
     ∷ Call.allow (ascii "m") ones
     ∷ []
 
+abbrev marksSince : Key → World → List Mark
+marksSince k w = go (since k (marksOf (w .history)))
+  where
+    go : Option Stretch → List Mark
+    go Option.none = []
+    go (Option.some s) = s .marks
+
+abbrev key : Key
+key = record { id = ascii "m"; file = ascii "a" }
+
 -- a file whose last part is asked for closes with these contents
 record Closing (w w′ : World) (bytes : List ℕ) : Type 0 where
-  before : stateAt w 0 0 ≡ FileState.Started
-  after : stateAt w′ 0 0 ≡ FileState.Done
-  counted : countAt w′ 0 0 ≡ length bytes
-  handed : parts (keyAt w 0 0) (marksOf (w′ .history)) ≡ bytes
-  contained : contents (keyAt w 0 0) (marksOf (w′ .history)) ≡ bytes
+  before : stateAt (w .receiver .table) 0 0 ≡ FileState.Started
+  after : stateAt (w′ .receiver .table) 0 0 ≡ FileState.Done
+  counted : countAt (w′ .receiver .table) 0 0 ≡ length bytes
+  handed : parts key (marksSince key w′) ≡ bytes
+  contained : contents key (marksSince key w′) ≡ bytes
 
 record Computed : Type 0 where
   -- document 01: "gives exactly"; and its file closes with count 3
@@ -154,13 +168,13 @@ record Computed : Type 0 where
   cut-carry : take 30 (play 3 first-piece begin .world .carry) ≡ ascii "5113;ac=data;id=m;fid=a;d=YWJj"
   cut-closes : Closing (fed (play 1 second-piece (play 3 first-piece begin)) .world) (play 2 second-piece (play 3 first-piece begin) .world) (ascii "abc")
   -- the ids used again: the second file starts from zero, and closes with its own contents
-  again-starts : countAt (play 2 again (play 5 input begin) .world) 0 0 ≡ 0
+  again-starts : countAt (play 2 again (play 5 input begin) .world .receiver .table) 0 0 ≡ 0
   again-closes : Closing (fed (play 2 again (play 5 input begin)) .world) (play 3 again (play 5 input begin) .world) (ascii "A")
   -- the premises of the cut theorem hold of the two ways
   one-lent : AllLent (start (replicate 8192 0)) one-piece
   two-lent : AllLent (start ones) two-pieces
   same-bytes : bytesOf (after (start (replicate 8192 0)) one-piece .history) ≡ bytesOf (after (start ones) two-pieces .history)
-  same-moves : moves (allGiven (start (replicate 8192 0)) one-piece) ≡ moves (allGiven (start ones) two-pieces)
+  same-calls : consoleCalls 0 (allGiven (start (replicate 8192 0)) one-piece) ≡ consoleCalls 0 (allGiven (start ones) two-pieces)
   -- "No reply is longer than 124 bytes": one has as many
   longest : length (replyBytes (fileReply Status.Progress 0 (replicate 32 105) 32 (replicate 32 102) 32 countLimit)) ≡ 124
 
@@ -177,9 +191,9 @@ computed = record {
   one-lent = ((λ _. refl), (tt, tt));
   two-lent = ((λ _. refl), ((λ _. refl), (tt, tt)));
   same-bytes = refl;
-  same-moves = refl;
+  same-calls = refl;
   longest = refl;
 }
 
 alike : allGiven (start (replicate 8192 0)) one-piece ≡ allGiven (start ones) two-pieces
-alike = cuts-alike (replicate 8192 0) ones one-piece two-pieces (computed .one-lent) (computed .two-lent) (computed .same-bytes) (computed .same-moves) .0
+alike = cuts-alike (replicate 8192 0) ones one-piece two-pieces (computed .one-lent) (computed .two-lent) (computed .same-bytes) (computed .same-calls) .0

@@ -20,11 +20,13 @@ use Rattle.command.specs.Meaning.{Meaning, meaningOf}
 use Rattle.command.specs.Read.{Answer, readOf}
 use Rattle.protocol.specs.Calls.{isOwed, Feeding, Acted, readAct, reportAct, feedRefused, scannedFeed, isShort, feedOf}
 use Rattle.protocol.specs.History.{hearing, Event, bytesOf, Mark, readMark, toldMarks, hearingMark, modeAfter, marksOf}
-use Rattle.protocol.specs.Claim.{Call, World, isRefusal, Lent, afterFeed, step}
+use Rattle.protocol.specs.Machine.{Call, World, isUnfed, afterFeed}
 use Rattle.protocol.specs.declared.Session.{Session}
+use Rattle.protocol.specs.declared.Told.the-variants as Told
 use Rattle.protocol.specs.declared.Owed.{Owed}
 use Rattle.protocol.specs.declared.Owed.the-variants as Owed
-use Rattle.protocol.proofs.Laws.{no-way}
+use Rattle.protocol.proofs.Ours.{Lent, step}
+use Rattle.protocol.proofs.Laws.{no-way, low-taken}
 use Rattle.protocol.proofs.Means.{Read, command, refused, text-read}
 use Rattle.protocol.proofs.Invariant.{TableOK}
 use Rattle.protocol.proofs.Puts.{table, not-owed, NoneDone, none-same}
@@ -36,7 +38,7 @@ use Rattle.protocol.proofs.Worlds.{WorldOK}
 record ActOK (ss : List Session) (m : List Mark) (a : Acted) : Type 0 where
   ok : TableOK (a .step .table) (hearingMark (hearing (a .step .told) (a .scratch)) m)
   none : NoneDone (idle ss) (a .step .table)
-  taken : isRefusal (a .step .told) ≡ false
+  taken : isUnfed (a .step .told) ≡ false
 
 module _ {ss : List Session} {m : List Mark} (same : TableOK (idle ss) m) (scratch : List ℕ) (enough : 6144 ≤ length scratch) (text : List ℕ) where
   -- a text that is read
@@ -47,7 +49,7 @@ module _ {ss : List Session} {m : List Mark} (same : TableOK (idle ss) m) (scrat
           → ActOK ss (readMark d m) (readAct (idle ss) text (record { answer = a; buffer = readOf text scratch .buffer }))
       go (Answer.read c) (command means) = let k = obey-kept means same in record { ok = k .ok; none = k .none; taken = k .taken }
       go (Answer.refused n) (refused l) =
-          record { ok = same; none = none-same (idle ss) Owed.Nothing; taken = lt-leb 9 n (omega arith) }
+          record { ok = same; none = none-same (idle ss) Owed.Nothing; taken = low-taken n l }
 
   report-act : (r : Report) → (r ≡ Report.ShortCarry → ⊥) → ActOK ss (toldMarks (toldOf r text) m) (reportAct (idle ss) r text scratch)
   report-act Report.Nothing n = record { ok = same; none = none-same (idle ss) Owed.Nothing; taken = refl }
@@ -68,7 +70,7 @@ world g ss o carry h = record { receiver = record { framing = g; table = table s
 -- one that is not refused with 9 or 10: its carry is the world's
 feed-taken : (g : Framing) (ss : List Session) (kept : List ℕ) (h : List Event) → WorldOK (world g ss Owed.Nothing kept h)
     → (piece carry scratch reply : List ℕ) → 8192 ≤ length carry → 6144 ≤ length scratch
-    → (isRefusal (scannedFeed (idle ss) piece (scanOf g piece carry) scratch reply .fed .told) ≡ false → carry ≡ kept)
+    → (isUnfed (scannedFeed (idle ss) piece (scanOf g piece carry) scratch reply .fed .told) ≡ false → carry ≡ kept)
     → FeedOK (world g ss Owed.Nothing kept h)
     (afterFeed (world g ss Owed.Nothing kept h) piece (scannedFeed (idle ss) piece (scanOf g piece carry) scratch reply))
 unfolding scannedFeed marksOf
@@ -89,20 +91,20 @@ feed-taken g ss kept h w piece carry scratch reply long enough lent =
 
 feed-idle : (g : Framing) (ss : List Session) (o : Owed) (kept : List ℕ) (h : List Event) → o ≡ Owed.Nothing → WorldOK (world g ss o kept h)
     → (piece carry scratch reply : List ℕ) → 8192 ≤ length carry → 6144 ≤ length scratch
-    → (isRefusal (scannedFeed (table ss o) piece (scanOf g piece carry) scratch reply .fed .told) ≡ false → carry ≡ kept)
+    → (isUnfed (scannedFeed (table ss o) piece (scanOf g piece carry) scratch reply .fed .told) ≡ false → carry ≡ kept)
     → FeedOK (world g ss o kept h) (afterFeed (world g ss o kept h) piece (scannedFeed (table ss o) piece (scanOf g piece carry) scratch reply))
 feed-idle g ss o kept h n w piece carry scratch reply long enough lent =
     rw n (feed-taken g ss kept h (rw n at w) piece carry scratch reply long enough (rw n at lent))
 
 -- one refused with 9 or 10
-feed-refused : (w : World) → WorldOK w → (n : ℕ) → 9 ≤ n → (piece carry scratch reply : List ℕ)
+feed-refused : (w : World) → WorldOK w → (n : ℕ) → isUnfed (Told.Refused n) ≡ true → (piece carry scratch reply : List ℕ)
     → FeedOK w (afterFeed w piece (record { fed = feedRefused (w .receiver) n; carry = carry; scratch = scratch; reply = reply }))
 unfolding marksOf stream
 feed-refused w ok n l piece carry scratch reply =
     record {
       ok =
           record {
-            follows = rw (le-leb 9 n l, modeAfter, append-nil (bytesOf (w .history))) (ok .follows);
+            follows = rw (l, modeAfter, append-nil (bytesOf (w .history))) (ok .follows);
             table = ok .table;
           };
       none = none-same (w .receiver .table) (w .receiver .table .owed);
@@ -125,10 +127,10 @@ feed-ok w ok piece carry scratch reply = go (isShort carry scratch reply) refl (
     no n = record { fed = feedRefused (w .receiver) n; carry = carry; scratch = scratch; reply = reply }
 
     go : (s : Bool) → isShort carry scratch reply ≡ s → (b : Bool) → isOwed (w .receiver .table .owed) ≡ b
-        → (isRefusal (pick s (no 9) (pick b (no 10) taken) .fed .told) ≡ false → carry ≡ w .carry)
+        → (isUnfed (pick s (no 9) (pick b (no 10) taken) .fed .told) ≡ false → carry ≡ w .carry)
         → FeedOK w (afterFeed w piece (pick s (no 9) (pick b (no 10) taken)))
-    go true e b q lent = feed-refused w ok 9 (omega arith) piece carry scratch reply
-    go false e true q lent = feed-refused w ok 10 (omega arith) piece carry scratch reply
+    go true e b q lent = feed-refused w ok 9 refl piece carry scratch reply
+    go false e true q lent = feed-refused w ok 10 refl piece carry scratch reply
     go false e false q lent =
         let l = both-long (ltb (length carry) 8192) (ltb (length scratch) 6144) (ltb (length reply) 124) e in
         feed-idle (w .receiver .framing) (w .receiver .table .sessions) (w .receiver .table .owed) (w .carry) (w .history) (not-owed (w .receiver .table .owed) q) ok

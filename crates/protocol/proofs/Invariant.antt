@@ -2,15 +2,17 @@
 use Prim.Native.Nat.{ℕ, _+_, _≤_, _<_}
 use mathlib.Core.Path.{_≡_}
 use mathlib.Core.Bool.{Bool, true, false}
+use mathlib.Core.Option.{Option}
 use mathlib.Core.List.{List, [], _++_}
 use lib.ListN.{length, getD}
 use Rattle.octets.specs.Slices.{equals}
-use Rattle.command.specs.Meaning.{fileTypeCode}
+use Rattle.command.specs.Meaning.{actionCode, fileTypeCode}
 use Rattle.command.specs.Meaning as Meaning
 use Rattle.protocol.specs.Table.{noFile, noSession, sessionAt, fileAt, idOf, fileIdOf, isPresent, isUsed}
 use Rattle.protocol.specs.Files.{countLimit}
 use Rattle.protocol.specs.Calls.{isOwed}
-use Rattle.protocol.specs.History.{Command, Heard, Mark, Question, lastAsk, Key, partFor, begun, parts, contents, stands, AllStand}
+use Rattle.protocol.specs.History.{Command, Heard, Mark, Question, lastAsk}
+use Rattle.protocol.specs.Stretches.{Key, partFor, Stretch, since, parts, contents, startStands, stands, AllStand}
 use Rattle.protocol.specs.declared.FileState.{FileState}
 use Rattle.protocol.specs.declared.FileState.the-variants as FileState
 use Rattle.protocol.specs.declared.FileRecord.{FileRecord}
@@ -31,11 +33,12 @@ abbrev pub pending : Bool → Key → List Mark → List ℕ
 pending true k m = partFor k (lastAsk m)
 pending false k m = []
 
--- its contents are its parts and what is pending, its count is the parts' length, and it has a start
+-- since its start its contents are its parts and what is pending, and its count is the parts' length
 pub record FileOK (owed : Bool) (m : List Mark) (k : Key) (n : ℕ) : Type 0 where
-  pub joined : contents k m ≡ parts k m ++ pending owed k m
-  pub counted : n ≡ length (parts k m)
-  pub started : begun k m ≡ true
+  pub stretch : Stretch
+  pub started : since k m ≡ Option.some stretch
+  pub joined : contents k (stretch .marks) ≡ parts k (stretch .marks) ++ pending owed k m
+  pub counted : n ≡ length (parts k (stretch .marks))
 
 -- ---- a session
 abbrev pub commitsFor : List ℕ → Question → Bool
@@ -53,12 +56,29 @@ pub data Holds (owed : Bool) (i : List ℕ) (m : List Mark) : Type 0 where
 abbrev pub fileUsed : FileRecord → Bool
 fileUsed f = isUsed (f .state)
 
+-- past its opening
+abbrev pub isPast : FileState → Bool
+isPast FileState.Free = false
+isPast FileState.Opening = false
+isPast FileState.Started = true
+isPast FileState.Done = true
+isPast FileState.Failed = true
+
+abbrev pub fileKey : Session → List ℕ → Key
+fileKey s f = record { id = idOf s; file = f }
+
+-- a file id that no record past its opening has was not started since the session was allowed
+abbrev pub Unstarted : List Mark → Session → Type 0
+Unstarted m s =
+    (f : List ℕ) → ((j : ℕ) → isPast (fileAt s j .state) ≡ true → fileIdOf (fileAt s j) ≡ f → ⊥) → startStands (fileKey s f) (since (fileKey s f) m) ≡ false
+
 -- an open one: its files have different ids, and each that is started is as the history says
 pub record OpenOK (owed : Bool) (m : List Mark) (s : Session) : Type 0 where
   pub stand : Holds owed (idOf s) m
   pub alone : Unique fileUsed fileIdOf noFile (s .files)
   pub named : (j : ℕ) → fileUsed (fileAt s j) ≡ true → IsId (fileIdOf (fileAt s j))
   pub each : (j : ℕ) → fileAt s j .state ≡ FileState.Started → FileOK owed m (keyOf s (fileAt s j)) (fileAt s j .count)
+  pub unstarted : Unstarted m s
 
 abbrev pub sessionUsed : Session → Bool
 sessionUsed s = isPresent (s .state)
@@ -87,6 +107,7 @@ pub record AtFile (s : Session) (j : ℕ) (d : Command) (g : FileState) : Type 0
 
 pub record OpenAsked (type : ℕ) (s : Session) (d : Command) (a : Heard) (j : ℕ) : Type 0 where
   pub heard : a ≡ Heard.opens
+  pub action : actionCode d ≡ 3
   pub kind : fileTypeCode d ≡ type
   pub at : AtFile s j d FileState.Opening
 

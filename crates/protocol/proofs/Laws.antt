@@ -7,10 +7,13 @@ use native.Mathlib.Decide.{ℕ-discrete}
 use native.Mathlib.Omega.{arith}
 use lib.ListN.{length, getD, set, take, replicate}
 use lib.Seq.{getD-set-same, getD-set-other, take-take, take-append-seam}
+use borrow.Author.Tests.{ne-eqb}
 use Rattle.octets.specs.Choice.{both}
 use Rattle.octets.specs.Slices.{equals}
 use Rattle.octets.proofs.Below.{both-test}
 use Rattle.octets.proofs.Compare.{equals-refl, equals-sound}
+use Rattle.protocol.specs.Machine.{isUnfed}
+use Rattle.protocol.specs.declared.Told.the-variants as Told
 use Rattle.protocol.specs.Table.{zeros, padded, hereOr, first}
 use Rattle.protocol.specs.declared.Found.{Found}
 use Rattle.protocol.specs.declared.Found.the-variants as Found
@@ -19,11 +22,15 @@ use Rattle.protocol.specs.declared.Found.the-variants as Found
 pub no-way : {A : Type 0} → _≡_ {A = Bool} true false → A
 no-way e = let z : _≡_ {A = ℕ} 0 1 = cc in absurd (omega arith)
 
+-- the refusals of a text are told by a feed that took its bytes
+pub low-taken : (n : ℕ) → n ≤ 8 → isUnfed (Told.Refused n) ≡ false
+low-taken n l = rw (ne-eqb n 9 (λ e. omega arith), ne-eqb n 10 (λ e. omega arith))
+
 pub both-false : (a : Bool) → both a false ≡ false
 both-false true = refl
 both-false false = refl
 
-equals-other : (a b : List ℕ) → (a ≡ b → ⊥) → equals a b ≡ false
+pub equals-other : (a b : List ℕ) → (a ≡ b → ⊥) → equals a b ≡ false
 equals-other a b h = go (equals a b) refl
   where
     go : (t : Bool) → equals a b ≡ t → equals a b ≡ false

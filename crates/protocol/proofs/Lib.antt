@@ -1,3 +1,4 @@
+pub mod Ours
 pub mod Laws
 pub mod Refusals
 pub mod Means
@@ -21,9 +22,12 @@ pub mod Sizes
 pub mod ReplyLengths
 pub mod CutsReading
 pub mod CutsSteps
+pub mod CutsOrder
 pub mod CutsRun
 pub mod CutsCalls
 pub mod Cuts
+pub mod Refuting
+pub mod Teeth
 pub mod Starred
 pub mod Examples
 pub mod Demand

@@ -1,31 +1,33 @@
 -- How each mark of the history moves a file's part of the invariant, and a session's.
 use Prim.Native.Nat.{ℕ, _+_}
 use mathlib.Core.Path.{_≡_, refl, sym, ap, _∙_}
-use mathlib.Core.Bool.{Bool, true, false}
+use mathlib.Core.Bool.{Bool, true, false, not}
+use mathlib.Core.Option.{Option}
 use mathlib.Core.List.{List, [], _∷_, _++_, append-nil}
 use native.Mathlib.Nat.{add-zero}
 use lib.ListN.{length, length-append}
-use Rattle.octets.specs.Choice.{both}
+use Rattle.octets.specs.Choice.{both, either}
 use Rattle.octets.specs.Slices.{equals}
 use Rattle.command.specs.Meaning.{idOf, fileIdOf}
 use Rattle.protocol.specs.Table.{fileAt}
 use Rattle.protocol.specs.Table as Table
-use Rattle.protocol.specs.History.{Command, Heard, Hearing, Mark, hearingMark, Question, lastAsk, Key, isFor, isData, isEnd, isRegular, startsFor, partFor, contentFor, parts, contents}
+use Rattle.protocol.specs.History.{Command, Heard, Mark, hearingMark, Question, lastAsk}
+use Rattle.protocol.specs.Stretches.{Key, isFor, isData, isEnd, isRegular, isFile, startsFor, partFor, contentFor, Stretch, startAt, longer, onward, since, parts, contents, allows, allowedIn, startStands}
 use Rattle.protocol.specs.declared.FileState.the-variants as FileState
 use Rattle.protocol.specs.declared.SessionState.the-variants as SessionState
 use Rattle.protocol.specs.declared.Session.{Session}
 use Rattle.protocol.proofs.Laws.{no-way, both-false}
-use Rattle.protocol.proofs.Invariant.{keyOf, FileOK, commitsFor, Holds, standing, committing, SessionOK}
+use Rattle.protocol.proofs.Invariant.{keyOf, fileKey, FileOK, commitsFor, Holds, standing, committing, SessionOK}
 
 -- ---- of which commands and asks a file has nothing
 -- what an ask, if one was heard, hands over for the file of the command read
-abbrev pub handed : Key → Command → Hearing → List ℕ
-handed k d Hearing.silence = []
-handed k d (Hearing.heard a) = partFor k (Question.asks d a)
+abbrev pub handed : Key → Command → Option Heard → List ℕ
+handed k d Option.none = []
+handed k d (Option.some a) = partFor k (Question.asks d a)
 
-abbrev pub isHeard : Hearing → Bool
-isHeard Hearing.silence = false
-isHeard (Hearing.heard a) = true
+abbrev pub isHeard : Option Heard → Bool
+isHeard Option.none = false
+isHeard (Option.some a) = true
 
 pub id-other : (k : Key) (d : Command) → equals (k .id) (idOf d) ≡ false → isFor k d ≡ false
 id-other k d e = rw e
@@ -45,12 +47,12 @@ part-other k d (Heard.writes p) e = rw e
 part-other k d (Heard.writesLast p) e = rw e
 part-other k d Heard.commits e = refl
 
-handed-other : (k : Key) (d : Command) (x : Hearing) → isFor k d ≡ false → handed k d x ≡ []
-handed-other k d Hearing.silence e = refl
-handed-other k d (Hearing.heard a) e = part-other k d a e
+handed-other : (k : Key) (d : Command) (x : Option Heard) → isFor k d ≡ false → handed k d x ≡ []
+handed-other k d Option.none e = refl
+handed-other k d (Option.some a) e = part-other k d a e
 
-starts-other : (k : Key) (d : Command) (a : Heard) → isFor k d ≡ false → startsFor k (Question.asks d a) ≡ false
-starts-other k d Heard.opens e = rw (e, both-false (isRegular d))
+pub starts-other : (k : Key) (d : Command) (a : Heard) → isFor k d ≡ false → startsFor k (Question.asks d a) ≡ false
+starts-other k d Heard.opens e = rw (e, both-false (isRegular d)) (both-false (isFile d))
 starts-other k d (Heard.writes p) e = refl
 starts-other k d (Heard.writesLast p) e = refl
 starts-other k d Heard.commits e = refl
@@ -61,50 +63,102 @@ commits-other i d (Heard.writes p) e = refl
 commits-other i d (Heard.writesLast p) e = refl
 commits-other i d Heard.commits e = e
 
+no-start : (k : Key) (q : Question) → startsFor k q ≡ false → startAt k (Mark.answer true q) ≡ Option.none
+no-start k Question.none e = refl
+no-start k (Question.asks d a) e = rw e
+
 -- ---- a file
 module _ {m : List Mark} {k : Key} {n : ℕ} where
   -- a command read, whose content is what is then handed over: for every key
-  pub file-read : (d : Command) (x : Hearing) → contentFor k d ≡ handed k d x → FileOK false m k n
+  pub file-read : (d : Command) (x : Option Heard) → contentFor k d ≡ handed k d x → FileOK false m k n
       → FileOK (isHeard x) (hearingMark x (Mark.read d ∷ m)) k n
-  file-read d Hearing.silence e f =
-      record { joined = rw (e, append-nil (contents k m)) (f .joined); counted = f .counted; started = f .started }
-  file-read d (Hearing.heard a) e f =
-      record { joined = rw (e, f .joined, append-nil (parts k m)); counted = f .counted; started = f .started }
+  file-read d Option.none e f =
+      record {
+        stretch = longer (Mark.read d) (f .stretch);
+        started = rw (f .started);
+        joined = rw (e, append-nil (contents k (f .stretch .marks))) (f .joined);
+        counted = f .counted;
+      }
+  file-read d (Option.some a) e f =
+      record {
+        stretch = longer (Mark.asked a) (longer (Mark.read d) (f .stretch));
+        started = rw (f .started);
+        joined = rw (e, f .joined, append-nil (parts k (f .stretch .marks)));
+        counted = f .counted;
+      }
 
   -- an ask answered done that is not the file's open: what was pending is now among the parts, for every key
   pub file-done : (q : Question) → lastAsk m ≡ q → startsFor k q ≡ false → FileOK true m k n
-      → FileOK false (Mark.answer true ∷ m) k (n + length (partFor k q))
+      → FileOK false (Mark.answer true (lastAsk m) ∷ m) k (n + length (partFor k q))
   file-done q ask e f =
       record {
-        joined = rw (ask, e, append-nil (parts k m ++ partFor k q)) (rw ask at (f .joined));
-        counted = rw (ask, e, length-append (parts k m) (partFor k q)) (ap (λ (x : ℕ). x + length (partFor k q)) (f .counted));
-        started = rw (ask, e) (f .started);
+        stretch = longer (Mark.answer true q) (f .stretch);
+        started = rw (ask, no-start k q e, f .started);
+        joined = rw (append-nil (parts k (f .stretch .marks) ++ partFor k q)) (rw ask at (f .joined));
+        counted = rw (length-append (parts k (f .stretch .marks)) (partFor k q)) (ap (λ (x : ℕ). x + length (partFor k q)) (f .counted));
       }
 
   -- an ask failed that handed over nothing for the file
-  file-failed : (q : Question) → lastAsk m ≡ q → partFor k q ≡ [] → FileOK true m k n → FileOK false (Mark.answer false ∷ m) k n
-  file-failed q ask e f = record { joined = rw (ask, e) at (f .joined); counted = f .counted; started = f .started }
+  file-failed : (q : Question) → lastAsk m ≡ q → partFor k q ≡ [] → FileOK true m k n → FileOK false (Mark.answer false (lastAsk m) ∷ m) k n
+  file-failed q ask e f =
+      record {
+        stretch = longer (Mark.answer false (lastAsk m)) (f .stretch);
+        started = rw (f .started);
+        joined = rw (ask, e) at (f .joined);
+        counted = f .counted;
+      }
 
 -- an answer to an ask for another file
 pub file-answered : {m : List Mark} {k : Key} {n : ℕ} (d : Command) (a : Heard) (v : Bool) → lastAsk m ≡ Question.asks d a → isFor k d ≡ false
-    → FileOK true m k n → FileOK false (Mark.answer v ∷ m) k n
+    → FileOK true m k n → FileOK false (Mark.answer v (lastAsk m) ∷ m) k n
 file-answered {m} {k} {n} d a true ask e f =
     rw (part-other k d a e, add-zero n) at (file-done (Question.asks d a) ask (starts-other k d a e) f)
 file-answered {m} {k} {n} d a false ask e f = file-failed (Question.asks d a) ask (part-other k d a e) f
 
 -- the open of a regular file answered done: it starts with nothing
-pub file-starts : {m : List Mark} {k : Key} → startsFor k (lastAsk m) ≡ true → FileOK false (Mark.answer true ∷ m) k 0
-file-starts e = record { joined = rw e; counted = rw e; started = rw e }
+pub file-starts : {m : List Mark} {k : Key} (d : Command) (a : Heard) → lastAsk m ≡ Question.asks d a → startsFor k (Question.asks d a) ≡ true
+    → FileOK false (Mark.answer true (lastAsk m) ∷ m) k 0
+file-starts d a ask e = record { stretch = record { command = d; marks = [] }; started = rw (ask, e); joined = refl; counted = refl }
+
+-- ---- a file of which no start stands
+none-onward : (k : Key) (x : Mark) (s : Option Stretch) → startStands k s ≡ false → startStands k (onward x s) ≡ false
+none-onward k x Option.none e = refl
+none-onward k x (Option.some s) e = go (allows (k .id) x)
+  where
+    go : (b : Bool) → not (either b (allowedIn (k .id) (s .marks))) ≡ false
+    go true = refl
+    go false = e
+
+-- an allow of its session ends every start
+pub none-allowed : (k : Key) (i : List ℕ) (s : Option Stretch) → equals (k .id) i ≡ true → startStands k (onward (Mark.allow i) s) ≡ false
+none-allowed k i Option.none e = refl
+none-allowed k i (Option.some s) e = rw e
+
+pub none-read : (m : List Mark) (k : Key) (d : Command) (x : Option Heard) → startStands k (since k m) ≡ false
+    → startStands k (since k (hearingMark x (Mark.read d ∷ m))) ≡ false
+none-read m k d Option.none e = none-onward k (Mark.read d) (since k m) e
+none-read m k d (Option.some a) e =
+    none-onward k (Mark.asked a) (onward (Mark.read d) (since k m)) (none-onward k (Mark.read d) (since k m) e)
+
+pub none-noted : (m : List Mark) (k : Key) (i : List ℕ) → startStands k (since k m) ≡ false
+    → (startStands k (since k (Mark.allow i ∷ m)) ≡ false) × (startStands k (since k (Mark.drop i ∷ m)) ≡ false)
+none-noted m k i e = (none-onward k (Mark.allow i) (since k m) e, none-onward k (Mark.drop i) (since k m) e)
+
+-- an answer to an ask for another file
+pub none-answered : (m : List Mark) (k : Key) (d : Command) (a : Heard) (v : Bool) → lastAsk m ≡ Question.asks d a → isFor k d ≡ false
+    → startStands k (since k m) ≡ false → startStands k (since k (Mark.answer v (lastAsk m) ∷ m)) ≡ false
+none-answered m k d a false ask e f = none-onward k (Mark.answer false (lastAsk m)) (since k m) f
+none-answered m k d a true ask e f = rw (ask, starts-other k d a e) (none-onward k (Mark.answer true (Question.asks d a)) (since k m) f)
 
 -- ---- a session
-pub holds-read : {i : List ℕ} {m : List Mark} (d : Command) (x : Hearing) → both (isEnd d) (equals i (idOf d)) ≡ false → Holds false i m
+pub holds-read : {i : List ℕ} {m : List Mark} (d : Command) (x : Option Heard) → both (isEnd d) (equals i (idOf d)) ≡ false → Holds false i m
     → Holds (isHeard x) i (hearingMark x (Mark.read d ∷ m))
-holds-read d Hearing.silence e (standing h) = standing (rw e h)
-holds-read d (Hearing.heard a) e (standing h) = standing (rw e h)
+holds-read d Option.none e (standing h) = standing (rw e h)
+holds-read d (Option.some a) e (standing h) = standing (rw e h)
 holds-read d x e (committing f g) = no-way (sym f)
 
 pub holds-answered : {i : List ℕ} {m : List Mark} (q : Question) (v : Bool) → lastAsk m ≡ q → commitsFor i q ≡ false → Holds true i m
-    → Holds false i (Mark.answer v ∷ m)
+    → Holds false i (Mark.answer v (lastAsk m) ∷ m)
 holds-answered q v ask e (standing h) = standing h
 holds-answered q v ask e (committing f g) = no-way (sym (rw ask at g) ∙ e)
 
@@ -112,25 +166,28 @@ holds-answered q v ask e (committing f g) = no-way (sym (rw ask at g) ∙ e)
 pub session-map : {b b′ : Bool} {m m′ : List Mark} {s : Session} → (s .state ≡ SessionState.Open → Holds b (Table.idOf s) m → Holds b′ (Table.idOf s) m′)
     → (s .state ≡ SessionState.Open → (j : ℕ) → fileAt s j .state ≡ FileState.Started
     → FileOK b m (keyOf s (fileAt s j)) (fileAt s j .count) → FileOK b′ m′ (keyOf s (fileAt s j)) (fileAt s j .count))
+    → (s .state ≡ SessionState.Open → (f : List ℕ) → startStands (fileKey s f) (since (fileKey s f) m) ≡ false → startStands (fileKey s f) (since (fileKey s f) m′) ≡ false)
     → SessionOK b m s → SessionOK b′ m′ s
-session-map h f o =
+session-map h f g o =
     record {
       named = o .named;
       shut = o .shut;
       opened = λ e. let p = o .opened e in
-          record { stand = h e (p .stand); alone = p .alone; named = p .named; each = λ j g. f e j g (p .each j g) };
+          record { stand = h e (p .stand); alone = p .alone; named = p .named; each = λ j u. f e j u (p .each j u); unstarted = λ n u. g e n (p .unstarted n u) };
     }
 
 -- a command read for another session
-pub session-read : (d : Command) (m : List Mark) (x : Hearing) (s : Session) → (s .state ≡ SessionState.Open → equals (Table.idOf s) (idOf d) ≡ false)
+pub session-read : (d : Command) (m : List Mark) (x : Option Heard) (s : Session) → (s .state ≡ SessionState.Open → equals (Table.idOf s) (idOf d) ≡ false)
     → SessionOK false m s → SessionOK (isHeard x) (hearingMark x (Mark.read d ∷ m)) s
 session-read d m x s other =
     session-map (λ o. holds-read d x (rw (other o) (both-false (isEnd d))))
     (λ o j _. let k = keyOf s (fileAt s j) in let e = id-other k d (other o) in file-read d x (content-other k d e ∙ sym (handed-other k d x e)))
+    (λ _ f. none-read m (fileKey s f) d x)
 
 -- an answer to an ask for another session
 pub session-answered : {m : List Mark} (d : Command) (a : Heard) (v : Bool) → lastAsk m ≡ Question.asks d a → (s : Session)
-    → (s .state ≡ SessionState.Open → equals (Table.idOf s) (idOf d) ≡ false) → SessionOK true m s → SessionOK false (Mark.answer v ∷ m) s
-session-answered d a v ask s other =
+    → (s .state ≡ SessionState.Open → equals (Table.idOf s) (idOf d) ≡ false) → SessionOK true m s → SessionOK false (Mark.answer v (lastAsk m) ∷ m) s
+session-answered {m} d a v ask s other =
     session-map (λ o. holds-answered (Question.asks d a) v ask (commits-other (Table.idOf s) d a (other o)))
     (λ o j _. file-answered d a v ask (id-other (keyOf s (fileAt s j)) d (other o)))
+    (λ o f. none-answered m (fileKey s f) d a v ask (id-other (fileKey s f) d (other o)))

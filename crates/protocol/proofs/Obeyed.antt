@@ -2,6 +2,7 @@
 use Prim.Native.Nat.{ℕ, _<_}
 use mathlib.Core.Path.{_≡_, refl, sym, ap, _∙_}
 use mathlib.Core.Bool.{true, false}
+use mathlib.Core.Option.{Option}
 use mathlib.Core.List.{List, [], _∷_}
 use native.Mathlib.Decide.{ℕ-discrete}
 use lib.ListN.{length, getD, set}
@@ -13,8 +14,9 @@ use Rattle.protocol.specs.Table.{absentSession, noSession, fileAt, idOf,
 use Rattle.protocol.specs.Files.{idIn, stepped}
 use Rattle.protocol.specs.Sessions.{dropTold}
 use Rattle.protocol.specs.Calls.{isOwed}
-use Rattle.protocol.specs.History.{Command, Heard, Hearing, hearing, Mark, hearingMark, Latest, Question, isData, isEnd, Key, partFor, contentFor, StandsFor}
-use Rattle.protocol.specs.Claim.{isRefusal}
+use Rattle.protocol.specs.History.{Command, Heard, hearing, Mark, hearingMark, Question}
+use Rattle.protocol.specs.Stretches.{isData, isEnd, Key, partFor, contentFor, StandsFor}
+use Rattle.protocol.specs.Machine.{isUnfed}
 use Rattle.protocol.specs.declared.FileState.the-variants as FileState
 use Rattle.protocol.specs.declared.SessionState.{SessionState}
 use Rattle.protocol.specs.declared.SessionState.the-variants as SessionState
@@ -30,8 +32,8 @@ use Rattle.protocol.specs.declared.Stepped.{Stepped}
 use Rattle.protocol.specs.declared.Found.the-variants as Found
 use Rattle.protocol.proofs.Laws.{no-way, found-at, unique-other}
 use Rattle.protocol.proofs.Means.{Means}
-use Rattle.protocol.proofs.Invariant.{keyOf, Holds, sessionUsed, owing, About, TableOK}
-use Rattle.protocol.proofs.Marks.{id-other, file-other, content-other, content-none, holds-read, file-read, session-map, session-read}
+use Rattle.protocol.proofs.Invariant.{keyOf, fileKey, Holds, sessionUsed, owing, About, TableOK}
+use Rattle.protocol.proofs.Marks.{id-other, file-other, content-other, content-none, holds-read, file-read, none-read, session-map, session-read}
 use Rattle.protocol.proofs.Puts.{table, free-files, drop-session, NoneDone, none-same, none-free}
 
 -- nothing owed
@@ -45,12 +47,12 @@ sessionIn ss i = getD ss i noSession
 pub record Kept (ss : List Session) (m : List Mark) (d : Command) (scratch : List ℕ) (out : Stepped) : Type 0 where
   pub ok : TableOK (out .table) (hearingMark (hearing (out .told) scratch) (Mark.read d ∷ m))
   pub none : NoneDone (idle ss) (out .table)
-  pub taken : isRefusal (out .told) ≡ false
+  pub taken : isUnfed (out .told) ≡ false
 
 -- what is told is neither an ask nor a refusal
 pub record Silent (scratch : List ℕ) (w : Told) : Type 0 where
-  pub silent : hearing w scratch ≡ Hearing.silence
-  pub taken : isRefusal w ≡ false
+  pub silent : hearing w scratch ≡ Option.none
+  pub taken : isUnfed w ≡ false
 
 pub drop-silent : {scratch : List ℕ} (s : SessionState) → Silent scratch (dropTold s)
 drop-silent SessionState.Absent = record { silent = refl; taken = refl }
@@ -94,7 +96,7 @@ module _ {ss : List Session} {m : List Mark} {d : Command} (ok : TableOK (idle s
   still h f =
       record {
         alone = ok .alone;
-        each = λ i. session-map (λ o. holds-read d Hearing.silence (h i o)) (λ o j g. file-read d Hearing.silence (f i j o g)) (ok .each i);
+        each = λ i. session-map (λ o. holds-read d Option.none (h i o)) (λ o j g. file-read d Option.none (f i j o g)) (λ _ f. none-read m (fileKey (sessionIn ss i) f) d Option.none) (ok .each i);
         owed = λ e. no-way (sym e);
         told = ok .told;
       }
@@ -109,7 +111,7 @@ module _ {ss : List Session} {m : List Mark} {d : Command} (ok : TableOK (idle s
   still-nobody other =
       record {
         alone = ok .alone;
-        each = λ i. session-read d m Hearing.silence (sessionIn ss i) (other i) (ok .each i);
+        each = λ i. session-read d m Option.none (sessionIn ss i) (other i) (ok .each i);
         owed = λ e. no-way (sym e);
         told = ok .told;
       }
@@ -129,7 +131,7 @@ module _ {ss : List Session} {m : List Mark} {d : Command} (ok : TableOK (idle s
     kept-drop w r q =
         kept-silent (table (set ss i absentSession) Owed.Nothing) w r q
         (drop-session (idle ss) i Owed.Nothing ok (h .inside)
-        (λ j n. session-read d m Hearing.silence (sessionIn ss j) (others j n) (ok .each j)) (λ e. no-way (sym e)) (ok .told))
+        (λ j n. session-read d m Option.none (sessionIn ss j) (others j n) (ok .each j)) (λ e. no-way (sym e)) (ok .told))
         (none-free (idle ss) i absentSession Owed.Nothing free-files)
 
     -- one that is for none of its started files
@@ -149,18 +151,18 @@ module _ {ss : List Session} {m : List Mark} {d : Command} (ok : TableOK (idle s
             content-other k d (id-other k d (others n q o))
 
     -- an ask is told, and the table stays as it is but for what is owed
-    pub kept-asked : {scratch : List ℕ} (w : Told) (r : Reply) (a : Heard) (o : Owed) → hearing w scratch ≡ Hearing.heard a → isRefusal w ≡ false
+    pub kept-asked : {scratch : List ℕ} (w : Told) (r : Reply) (a : Heard) (o : Owed) → hearing w scratch ≡ Option.some a → isUnfed w ≡ false
         → isOwed o ≡ true → owing o ≡ i → sessionIn ss i .state ≡ SessionState.Open → About (sessionIn ss i) d a o
         → ((n : ℕ) → sessionIn ss n .state ≡ SessionState.Open → Holds true (idOf (sessionIn ss n)) (Mark.asked a ∷ Mark.read d ∷ m))
         → ((k : Key) → contentFor k d ≡ partFor k (Question.asks d a))
-        → StandsFor (Latest.command d) a (Mark.read d ∷ m)
+        → StandsFor (Option.some d) a (Mark.read d ∷ m)
         → Kept ss m d scratch (stepped (table ss o) w r)
     kept-asked w r a o hears taken b e open-state about holds content told =
         record {
           ok =
               rw hears (record {
                 alone = ok .alone;
-                each = λ n. rw b (session-map (λ q _. holds n q) (λ q j _. file-read d (Hearing.heard a) (content (keyOf (sessionIn ss n) (fileAt (sessionIn ss n) j)))) (ok .each n));
+                each = λ n. rw b (session-map (λ q _. holds n q) (λ q j _. file-read d (Option.some a) (content (keyOf (sessionIn ss n) (fileAt (sessionIn ss n) j)))) (λ _ f. none-read m (fileKey (sessionIn ss n) f) d (Option.some a)) (ok .each n));
                 owed =
                     λ _.
                     record {

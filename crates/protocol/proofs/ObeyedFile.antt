@@ -2,6 +2,7 @@
 use Prim.Native.Nat.{ℕ, _≤_, _<_}
 use mathlib.Core.Path.{_≡_, refl, sym, ap, _∙_}
 use mathlib.Core.Bool.{Bool, true, false}
+use mathlib.Core.Option.{Option}
 use mathlib.Core.List.{List, _∷_}
 use native.Mathlib.Omega.{arith}
 use lib.ListN.{length, set, length-set}
@@ -16,11 +17,12 @@ use Rattle.command.specs.declared.Action.the-variants as Action
 use Rattle.command.specs.declared.FileType.{FileType}
 use Rattle.command.specs.declared.FileType.the-variants as FileType
 use Rattle.command.specs.declared.Command.{Command as PlacedCommand}
-use Rattle.protocol.specs.Table.{noFile, fileAt, fileIdOf, findFile, first, isFree, putFile, putFileAt, withOwed}
+use Rattle.protocol.specs.Table.{noFile, fileAt, fileIdOf, findFile, first, isFree, putFile, putFileAt, withOwed, isUsed}
 use Rattle.protocol.specs.Replies.{noReply}
 use Rattle.protocol.specs.Files.{stringIn, fileIdIn, stepped, fileStatus, linkLike, isRsync, badPermissions, openOwed, opening, fileRoom, fileChecked, fileKnown, fileOf}
 use Rattle.protocol.specs.Calls.{isOwed}
-use Rattle.protocol.specs.History.{Command, Heard, Hearing, Mark, isData, isEnd}
+use Rattle.protocol.specs.History.{Command, Heard, Mark}
+use Rattle.protocol.specs.Stretches.{isData, isEnd}
 use Rattle.protocol.specs.declared.FileState.{FileState}
 use Rattle.protocol.specs.declared.FileState.the-variants as FileState
 use Rattle.protocol.specs.declared.SessionState.the-variants as SessionState
@@ -36,10 +38,18 @@ use Rattle.protocol.specs.declared.Found.the-variants as Found
 use Rattle.protocol.proofs.Laws.{no-way, equals-same, first-at, found-nowhere, padded-id}
 use Rattle.protocol.proofs.Refusals.{IsId}
 use Rattle.protocol.proofs.Means.{Means, acts-as}
-use Rattle.protocol.proofs.Invariant.{keyOf, fileUsed, OpenOK, owing, AtFile, About, TableOK}
-use Rattle.protocol.proofs.Marks.{content-none, holds-read, file-read, session-read}
+use Rattle.protocol.proofs.Invariant.{keyOf, isPast, fileKey, fileUsed, OpenOK, owing, AtFile, About, TableOK}
+use Rattle.protocol.proofs.Marks.{content-none, holds-read, file-read, none-read, session-read}
 use Rattle.protocol.proofs.Puts.{table, put-session, put-file, asking-here, none-file}
 use Rattle.protocol.proofs.Obeyed.{idle, sessionIn, Kept, status-silent, kept-same, Here, others, same-id, still-other}
+
+-- a free record is not past its opening
+free-past : (g : FileState) → pick (isUsed g) false true ≡ true → isPast g ≡ true → ⊥
+free-past FileState.Free e p = no-way (sym p)
+free-past FileState.Opening e p = no-way (sym p)
+free-past FileState.Started e p = no-way (sym e)
+free-past FileState.Done e p = no-way (sym e)
+free-past FileState.Failed e p = no-way (sym e)
 
 module _ {ss : List Session} {c : PlacedCommand} {text scratch : List ℕ} {d : Command} {m : List Mark} (means : Means c text scratch d)
     (ok : TableOK (idle ss) m) {i : ℕ} (h : Here ss d i) (o : sessionIn ss i .state ≡ SessionState.Open) (a : c .action ≡ Action.File) where
@@ -75,10 +85,12 @@ module _ {ss : List Session} {c : PlacedCommand} {text scratch : List ℕ} {d : 
     opened =
         let s = ok .each i .opened o in
         put-file (sessionIn ss i) j (opening (fileIdIn c text)) s within differs is-id
-        (holds-read d (Hearing.heard Heard.opens) (rw ends) (s .stand))
+        (holds-read d (Option.some Heard.opens) (rw ends) (s .stand))
         (λ n _ w. let k = keyOf (sessionIn ss i) (fileAt (sessionIn ss i) n) in
-        file-read d (Hearing.heard Heard.opens) (content-none k d brings) (s .each n w))
+        file-read d (Option.some Heard.opens) (content-none k d brings) (s .each n w))
         (λ (w : FileState.Opening ≡ FileState.Started). let z : _≡_ {A = ℕ} 0 1 = cc in absurd (omega arith))
+        (λ p. absurd (free-past (fileAt (sessionIn ss i) j .state) (first-at isFree noFile (sessionIn ss i .files) j room .1) p))
+        (λ g _. none-read m (fileKey (sessionIn ss i) g) d (Option.some Heard.opens))
 
     open-kept : (w : Owed) → isOwed w ≡ true → owing w ≡ i
         → About (putFile (sessionIn ss i) j (opening (fileIdIn c text))) d Heard.opens w
@@ -88,7 +100,7 @@ module _ {ss : List Session} {c : PlacedCommand} {text scratch : List ℕ} {d : 
         record {
           ok =
               put-session (idle ss) i s w ok (h .inside) (same-id ok h s refl)
-              (λ n u. rw b (session-read d m (Hearing.heard Heard.opens) (sessionIn ss n) (others ok h n u) (ok .each n)))
+              (λ n u. rw b (session-read d m (Option.some Heard.opens) (sessionIn ss n) (others ok h n u) (ok .each n)))
               (rw b (record { named = ok .each i .named; shut = λ n. absurd (n o); opened = λ _. opened }))
               (λ _. asking-here ss i s d Heard.opens w e (h .inside) o (h .id) about)
               (tt, ok .told);
@@ -105,9 +117,9 @@ module _ {ss : List Session} {c : PlacedCommand} {text scratch : List ℕ} {d : 
         → Kept ss m d scratch
         (stepped (withOwed (putFileAt (idle ss) i j (opening (fileIdIn c text))) (openOwed t i j)) (Told.Ask Ask.Open c) noReply)
     type-kept FileType.Regular e _ =
-        open-kept (Owed.OpenFile i j) refl refl (record { heard = refl; kind = means .file-type ∙ ap Slots.fileTypeCode e; at = at-file })
+        open-kept (Owed.OpenFile i j) refl refl (record { heard = refl; action = acts-as means Action.File a; kind = means .file-type ∙ ap Slots.fileTypeCode e; at = at-file })
     type-kept FileType.Directory e _ =
-        open-kept (Owed.OpenDirectory i j) refl refl (record { heard = refl; kind = means .file-type ∙ ap Slots.fileTypeCode e; at = at-file })
+        open-kept (Owed.OpenDirectory i j) refl refl (record { heard = refl; action = acts-as means Action.File a; kind = means .file-type ∙ ap Slots.fileTypeCode e; at = at-file })
     type-kept FileType.Symlink e q = no-way q
     type-kept FileType.Link e q = no-way q
 

@@ -2,6 +2,7 @@
 use Prim.Native.Nat.{ℕ, _+_, _≤_, _<_}
 use mathlib.Core.Path.{_≡_, refl, sym, ap, _∙_}
 use mathlib.Core.Bool.{Bool, true, false}
+use mathlib.Core.Option.{Option}
 use mathlib.Core.List.{List, _∷_}
 use native.Mathlib.Decide.{ℕ-discrete}
 use native.Mathlib.Omega.{arith}
@@ -15,7 +16,8 @@ use Rattle.command.specs.declared.Command.{Command as PlacedCommand}
 use Rattle.protocol.specs.Table.{noFile, fileAt, fileIdOf, isUsed, findFile, putFile, withOwed, moved}
 use Rattle.protocol.specs.Replies.{noReply}
 use Rattle.protocol.specs.Files.{fileIdIn, stepped, ignored, failedFile, writeOwed, writeAsk, countLimit, partAsked, partState, partFound, dataOf}
-use Rattle.protocol.specs.History.{Command, Hearing, hearing, Mark, Latest, Question, isData, isEnd, Key, partFor, contentFor, stands, StandsFor}
+use Rattle.protocol.specs.History.{Command, hearing, Mark, Question}
+use Rattle.protocol.specs.Stretches.{isData, isEnd, Key, partFor, contentFor, stands, StandsFor}
 use Rattle.protocol.specs.declared.FileState.{FileState}
 use Rattle.protocol.specs.declared.FileState.the-variants as FileState
 use Rattle.protocol.specs.declared.FileRecord.{FileRecord}
@@ -29,8 +31,8 @@ use Rattle.protocol.specs.declared.Found.{Found}
 use Rattle.protocol.specs.declared.Found.the-variants as Found
 use Rattle.protocol.proofs.Laws.{no-way, found-at, found-nowhere, unique-other}
 use Rattle.protocol.proofs.Means.{Means}
-use Rattle.protocol.proofs.Invariant.{keyOf, Holds, standing, committing, fileUsed, OpenOK, writeHeard, PartAsked, TableOK}
-use Rattle.protocol.proofs.Marks.{file-other, content-other, holds-read, file-read, session-read}
+use Rattle.protocol.proofs.Invariant.{keyOf, fileKey, Holds, standing, committing, fileUsed, OpenOK, writeHeard, PartAsked, TableOK}
+use Rattle.protocol.proofs.Marks.{file-other, content-other, holds-read, file-read, none-read, session-read}
 use Rattle.protocol.proofs.Puts.{table, put-session, put-file, none-file}
 use Rattle.protocol.proofs.Obeyed.{idle, sessionIn, Kept, status-silent, ignored-silent, kept-silent, kept-same, Here, others, same-id, still-files, kept-asked}
 
@@ -79,17 +81,18 @@ module _ {ss : List Session} {c : PlacedCommand} {text scratch : List ℕ} {d : 
           let s : Session = putFile (sessionIn ss i) j f in
           kept-silent (table (set ss i s) Owed.Nothing) (Told.Status w) _ (status-silent w)
           (put-session (idle ss) i s Owed.Nothing ok (h .inside) (same-id ok h s refl)
-          (λ n u. session-read d m Hearing.silence (sessionIn ss n) (others ok h n u) (ok .each n))
+          (λ n u. session-read d m Option.none (sessionIn ss n) (others ok h n u) (ok .each n))
           (record {
             named = ok .each i .named;
             shut = λ n. absurd (n o);
             opened =
                 λ _.
                 put-file (sessionIn ss i) j f s-ok (file .0) (λ n u p q. u (s-ok .alone n j p (file .1) q)) (s-ok .named j (file .1))
-                (holds-read d Hearing.silence (rw ends) (s-ok .stand))
+                (holds-read d Option.none (rw ends) (s-ok .stand))
                 (λ n u v. let k = keyOf (sessionIn ss i) (fileAt (sessionIn ss i) n) in
-                file-read d Hearing.silence (content-other k d (file-other k d (other-file n u v))) (s-ok .each n v))
-                (λ (q : FileState.Failed ≡ FileState.Started). let z : _≡_ {A = ℕ} 0 1 = cc in absurd (omega arith));
+                file-read d Option.none (content-other k d (file-other k d (other-file n u v))) (s-ok .each n v))
+                (λ (q : FileState.Failed ≡ FileState.Started). let z : _≡_ {A = ℕ} 0 1 = cc in absurd (omega arith))
+                (λ _. (refl, refl)) (λ g _. none-read m (fileKey (sessionIn ss i) g) d Option.none);
           })
           (λ e. no-way (sym e)) (ok .told))
           (none-file (idle ss) i j f Owed.Nothing (λ (q : FileState.Failed ≡ FileState.Done). let z : _≡_ {A = ℕ} 0 1 = cc in omega arith))
@@ -99,11 +102,11 @@ module _ {ss : List Session} {c : PlacedCommand} {text scratch : List ℕ} {d : 
       part-content true k = rw brings
       part-content false k = rw brings
 
-      part-stands : (v : Bool) → StandsFor (Latest.command d) (writeHeard v (Meaning.dataOf d)) (Mark.read d ∷ m)
+      part-stands : (v : Bool) → StandsFor (Option.some d) (writeHeard v (Meaning.dataOf d)) (Mark.read d ∷ m)
       part-stands true = rw (ends, ← (h .id)) (stands-still (s-ok .stand))
       part-stands false = rw (ends, ← (h .id)) (stands-still (s-ok .stand))
 
-      part-heard : (v : Bool) → hearing (Told.Ask (writeAsk v (c .payload)) c) scratch ≡ Hearing.heard (writeHeard v (Meaning.dataOf d))
+      part-heard : (v : Bool) → hearing (Told.Ask (writeAsk v (c .payload)) c) scratch ≡ Option.some (writeHeard v (Meaning.dataOf d))
       part-heard true = rw (means .part)
       part-heard false = rw (means .part)
 
@@ -116,10 +119,10 @@ module _ {ss : List Session} {c : PlacedCommand} {text scratch : List ℕ} {d : 
           → Kept ss m d scratch (stepped (withOwed (idle ss) (writeOwed v i j (c .payload .len))) (Told.Ask (writeAsk v (c .payload)) c) noReply)
       asked-kept true fits =
           kept-asked ok h _ noReply (writeHeard true (Meaning.dataOf d)) (Owed.WriteLast i j (c .payload .len)) (part-heard true) refl refl refl o (part-about true fits)
-          (λ n q. holds-read d (Hearing.heard (writeHeard true (Meaning.dataOf d))) (rw ends) (ok .each n .opened q .stand)) (part-content true) (part-stands true)
+          (λ n q. holds-read d (Option.some (writeHeard true (Meaning.dataOf d))) (rw ends) (ok .each n .opened q .stand)) (part-content true) (part-stands true)
       asked-kept false fits =
           kept-asked ok h _ noReply (writeHeard false (Meaning.dataOf d)) (Owed.Write i j (c .payload .len)) (part-heard false) refl refl refl o (part-about false fits)
-          (λ n q. holds-read d (Hearing.heard (writeHeard false (Meaning.dataOf d))) (rw ends) (ok .each n .opened q .stand)) (part-content false) (part-stands false)
+          (λ n q. holds-read d (Option.some (writeHeard false (Meaning.dataOf d))) (rw ends) (ok .each n .opened q .stand)) (part-content false) (part-stands false)
 
       size-kept : Kept ss m d scratch (partAsked (idle ss) i j last c text)
       unfolding partAsked

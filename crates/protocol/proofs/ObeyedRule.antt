@@ -2,6 +2,7 @@
 use Prim.Native.Nat.{ℕ}
 use mathlib.Core.Path.{_≡_, refl, sym, ap, _∙_}
 use mathlib.Core.Bool.{true, false}
+use mathlib.Core.Option.{Option}
 use mathlib.Core.List.{List, _∷_}
 use native.Mathlib.Decide.{ℕ-discrete}
 use native.Mathlib.Omega.{arith}
@@ -15,7 +16,8 @@ use Rattle.protocol.specs.Actions.{resultIn, kindOf}
 use Rattle.protocol.specs.Replies.{noReply}
 use Rattle.protocol.specs.Files.{idIn, stepped, finishFound, finishOf}
 use Rattle.protocol.specs.Sessions.{askedSession, sendRoom, absentResult, dropTold, presentResult, foundResult, obeyOf}
-use Rattle.protocol.specs.History.{Command, Heard, Hearing, Mark, isData, isEnd}
+use Rattle.protocol.specs.History.{Command, Heard, Mark}
+use Rattle.protocol.specs.Stretches.{isData, isEnd}
 use Rattle.protocol.specs.declared.SessionState.{SessionState}
 use Rattle.protocol.specs.declared.SessionState.the-variants as SessionState
 use Rattle.protocol.specs.declared.Session.{Session}
@@ -56,7 +58,7 @@ module _ {ss : List Session} {c : PlacedCommand} {text scratch : List ℕ} {d : 
     room-kept (Found.At i) q =
         kept-silent _ (Told.Asked c) noReply (record { silent = refl; taken = refl })
         (put-session (idle ss) i (askedSession c text) Owed.Nothing ok (first-at isAbsent noSession ss i q .0) differs
-        (λ j n. session-read d m Hearing.silence (sessionIn ss j) (nobody j) (ok .each j))
+        (λ j n. session-read d m Option.none (sessionIn ss j) (nobody j) (ok .each j))
         (shut-session (askedSession c text) (λ (z : SessionState.Asked ≡ SessionState.Open). let w : _≡_ {A = ℕ} 0 1 = cc in omega arith)
         (λ _. rw the-id (means .named .id)) free-files)
         (λ z. no-way (sym z)) (ok .told))
@@ -100,7 +102,7 @@ module _ {ss : List Session} {c : PlacedCommand} {text scratch : List ℕ} {d : 
               go : Dec (n ≡ i) → Holds true (idOf (sessionIn ss n)) (Mark.asked Heard.commits ∷ Mark.read d ∷ m)
               go (yes e) = committing refl (equals-same _ _ (rw e (h .id)))
               go (no u) =
-                  holds-read d (Hearing.heard Heard.commits) (rw (others ok h n u q) (both-false (isEnd d))) (ok .each n .opened q .stand)
+                  holds-read d (Option.some Heard.commits) (rw (others ok h n u q) (both-false (isEnd d))) (ok .each n .opened q .stand)
 
       open-kept : (a : Action) → c .action ≡ a → Kept ss m d scratch (presentResult (idle ss) i c text scratch (kindOf SessionState.Open a))
       unfolding kindOf resultIn finishOf

@@ -3,16 +3,20 @@
 use Prim.Native.Nat.{ℕ, _<_}
 use mathlib.Core.Path.{_≡_, refl, sym, _∙_}
 use mathlib.Core.Bool.{Bool, true, false}
+use mathlib.Core.Logic.{_⊎_, inl, inr}
 use mathlib.Core.List.{List, _∷_}
 use native.Mathlib.Omega.{arith}
 use lib.ListN.{length, getD, set, length-set}
+use native.Mathlib.Decide.{ℕ-discrete}
 use lib.Seq.{getD-set-same, getD-set-other}
 use Rattle.octets.specs.Choice.{pick}
 use Rattle.command.specs.Meaning as Meaning
 use Rattle.protocol.specs.Table.{absentSession, noFile, noSession, sessionAt, fileAt, idOf, fileIdOf, putFile}
 use Rattle.protocol.specs.Calls.{isOwed}
-use Rattle.protocol.specs.History.{Command, Heard, Mark, Question, lastAsk, AllStand}
-use Rattle.protocol.specs.Claim.{isRefusal}
+use Rattle.protocol.specs.History.{Command, Heard, Mark, Question, lastAsk}
+use Rattle.protocol.specs.Stretches.{Key, since, startStands, AllStand}
+use Rattle.protocol.specs.Machine.{isRefused}
+use Rattle.protocol.specs.Claim.{stateAt, IsDone, Closes}
 use Rattle.protocol.specs.declared.FileState.{FileState}
 use Rattle.protocol.specs.declared.FileState.the-variants as FileState
 use Rattle.protocol.specs.declared.FileRecord.{FileRecord}
@@ -24,7 +28,7 @@ use Rattle.protocol.specs.declared.Table.{Table}
 use Rattle.protocol.specs.declared.Stepped.{Stepped}
 use Rattle.protocol.proofs.Laws.{no-way, set-each, set-any, set-unique, replicate-each}
 use Rattle.protocol.proofs.Refusals.{IsId}
-use Rattle.protocol.proofs.Invariant.{keyOf, FileOK, Holds, fileUsed, OpenOK, sessionUsed, SessionOK, owing, About, Asking, TableOK}
+use Rattle.protocol.proofs.Invariant.{keyOf, isPast, fileKey, FileOK, Holds, fileUsed, OpenOK, sessionUsed, SessionOK, owing, About, Asking, TableOK}
 
 -- the table with other sessions, and with something owed
 abbrev pub table : List Session → Owed → Table
@@ -32,7 +36,7 @@ table ss o = record { sessions = ss; owed = o }
 
 -- the marks after a console call's step, which is refused or adds the mark x
 abbrev pub notedMarks : List Mark → Mark → Stepped → List Mark
-notedMarks m x out = pick (isRefusal (out .told)) m (x ∷ m)
+notedMarks m x out = pick (isRefused (out .told)) m (x ∷ m)
 
 -- ---- a session
 pub put-session : (t : Table) {m m′ : List Mark} (i : ℕ) (s : Session) (o : Owed) → TableOK t m → i < length (t .sessions)
@@ -77,14 +81,26 @@ pub put-file : {b b′ : Bool} {m m′ : List Mark} (s : Session) (j : ℕ) (f :
     → Holds b′ (idOf s) m′
     → ((n : ℕ) → (n ≡ j → ⊥) → fileAt s n .state ≡ FileState.Started → FileOK b′ m′ (keyOf s (fileAt s n)) (fileAt s n .count))
     → (f .state ≡ FileState.Started → FileOK b′ m′ (keyOf s f) (f .count))
+    → (isPast (fileAt s j .state) ≡ true → (isPast (f .state) ≡ true) × (fileIdOf f ≡ fileIdOf (fileAt s j)))
+    → ((g : List ℕ) → (isPast (f .state) ≡ true → fileIdOf f ≡ g → ⊥) → startStands (fileKey s g) (since (fileKey s g) m) ≡ false
+    → startStands (fileKey s g) (since (fileKey s g) m′) ≡ false)
     → OpenOK b′ m′ (putFile s j f)
-put-file {b} {b′} {m} {m′} s j f ok h new id hold there here =
+put-file {b} {b′} {m} {m′} s j f ok h new id hold there here past goes =
     record {
       stand = hold;
       alone = set-unique fileUsed fileIdOf noFile (s .files) j f h (ok .alone) (λ _. new);
       named = set-each (λ (x : FileRecord). fileUsed x ≡ true → IsId (fileIdOf x)) noFile (s .files) j f h (λ _. id) (λ n _. ok .named n);
       each = set-each (λ (x : FileRecord). x .state ≡ FileState.Started → FileOK b′ m′ (keyOf s x) (x .count)) noFile (s .files) j f h here there;
+      unstarted = λ g p. goes g (rw same at (p j)) (ok .unstarted g (λ n. still g p n (ℕ-discrete n j)));
     }
+  where
+    same : fileAt (putFile s j f) j ≡ f
+    same = getD-set-same (s .files) j f noFile h
+
+    still : (g : List ℕ) → ((n : ℕ) → isPast (fileAt (putFile s j f) n .state) ≡ true → fileIdOf (fileAt (putFile s j f) n) ≡ g → ⊥)
+        → (n : ℕ) → Dec (n ≡ j) → isPast (fileAt s n .state) ≡ true → fileIdOf (fileAt s n) ≡ g → ⊥
+    still g p n (yes e) q r = let u = past (rw e at q) in (rw same at (p j)) (u .0) (u .1 ∙ (rw e at r))
+    still g p n (no e) q r = (rw (getD-set-other (s .files) j n f noFile e) at (p n)) q r
 
 -- ---- what is owed
 pub not-owed : (o : Owed) → isOwed o ≡ false → o ≡ Owed.Nothing
@@ -124,30 +140,61 @@ asking-here ss i s d a o e h open-state id about =
       about = rw x about;
     }
 
--- ---- no record turns done
+-- ---- no record turns done: one that is done was so before, with the same ids
+abbrev pub WasDone : Session → Session → ℕ → Type 0
+WasDone s s′ j = (fileAt s j .state ≡ FileState.Done) × (keyOf s (fileAt s j) ≡ keyOf s′ (fileAt s′ j))
+
 abbrev pub NoneDone : Table → Table → Type 0
-NoneDone t t′ =
-    (i j : ℕ) → (fileAt (sessionAt t i) j .state ≡ FileState.Done → ⊥) → fileAt (sessionAt t′ i) j .state ≡ FileState.Done → ⊥
+NoneDone t t′ = (i j : ℕ) → stateAt t′ i j ≡ FileState.Done → WasDone (sessionAt t i) (sessionAt t′ i) j
 
 pub none-same : (t : Table) (o : Owed) → NoneDone t (table (t .sessions) o)
-none-same t o i j p q = p q
+none-same t o i j q = (q, refl)
 
-pub none-put : (t : Table) (i : ℕ) (s : Session) (o : Owed)
-    → ((j : ℕ) → (fileAt (sessionAt t i) j .state ≡ FileState.Done → ⊥) → fileAt s j .state ≡ FileState.Done → ⊥)
+pub none-put : (t : Table) (i : ℕ) (s : Session) (o : Owed) → ((j : ℕ) → fileAt s j .state ≡ FileState.Done → WasDone (sessionAt t i) s j)
     → NoneDone t (table (set (t .sessions) i s) o)
 none-put t i s o h i′ j =
-    set-any (λ (n : ℕ) (x : Session). (fileAt (sessionAt t n) j .state ≡ FileState.Done → ⊥) → fileAt x j .state ≡ FileState.Done → ⊥)
-    (t .sessions) i s noSession (h j) (λ n p q. p q) i′
+    set-any (λ (n : ℕ) (x : Session). fileAt x j .state ≡ FileState.Done → WasDone (sessionAt t n) x j) (t .sessions) i s noSession (h j) (λ n q. (q, refl)) i′
 
 pub none-free : (t : Table) (i : ℕ) (s : Session) (o : Owed) → ((j : ℕ) → fileAt s j .state ≡ FileState.Free)
     → NoneDone t (table (set (t .sessions) i s) o)
 none-free t i s o free =
-    none-put t i s o (λ j _ q. let e : FileState.Free ≡ FileState.Done = sym (free j) ∙ q in let z : _≡_ {A = ℕ} 0 1 = cc in omega arith)
+    none-put t i s o (λ j q. let e : FileState.Free ≡ FileState.Done = sym (free j) ∙ q in let z : _≡_ {A = ℕ} 0 1 = cc in absurd (omega arith))
+
+-- a record put at a place is the only one that can turn done
+pub only-there : (t : Table) (i j : ℕ) (f : FileRecord) (o : Owed) (i′ j′ : ℕ) → let t′ = table (set (t .sessions) i (putFile (sessionAt t i) j f)) o in
+    stateAt t′ i′ j′ ≡ FileState.Done → WasDone (sessionAt t i′) (sessionAt t′ i′) j′ ⊎ ((i′ ≡ i) × (j′ ≡ j) × (f .state ≡ FileState.Done))
+only-there t i j f o i′ j′ =
+    set-any (λ (n : ℕ) (x : Session). fileAt x j′ .state ≡ FileState.Done → WasDone (sessionAt t n) x j′ ⊎ ((n ≡ i) × (j′ ≡ j) × (f .state ≡ FileState.Done)))
+    (t .sessions) i (putFile (sessionAt t i) j f) noSession (λ q. here (inside j′ q)) (λ n q. inl (q, refl)) i′
+  where
+    s : Session
+    s = sessionAt t i
+
+    At : ℕ → FileRecord → Type 0
+    At n x = ((fileAt s n .state ≡ FileState.Done) × (keyOf s (fileAt s n) ≡ keyOf s x)) ⊎ ((n ≡ j) × (f .state ≡ FileState.Done))
+
+    inside : (n : ℕ) → fileAt (putFile s j f) n .state ≡ FileState.Done → At n (fileAt (putFile s j f) n)
+    inside =
+        set-any (λ (n : ℕ) (x : FileRecord). x .state ≡ FileState.Done → At n x) (s .files) j f noFile (λ q. inr (refl, q)) (λ n q. inl (q, refl))
+
+    here : At j′ (fileAt (putFile s j f) j′) → WasDone s (putFile s j f) j′ ⊎ ((i ≡ i) × (j′ ≡ j) × (f .state ≡ FileState.Done))
+    here (inl q) = inl q
+    here (inr q) = inr (refl, q .0, q .1)
 
 pub none-file : (t : Table) (i j : ℕ) (f : FileRecord) (o : Owed) → (f .state ≡ FileState.Done → ⊥)
     → NoneDone t (table (set (t .sessions) i (putFile (sessionAt t i) j f)) o)
-none-file t i j f o h =
-    none-put t i (putFile (sessionAt t i) j f) o
-    (λ j′.
-    set-any (λ (n : ℕ) (x : FileRecord). (fileAt (sessionAt t i) n .state ≡ FileState.Done → ⊥) → x .state ≡ FileState.Done → ⊥)
-    (sessionAt t i .files) j f noFile (λ _. h) (λ n p q. p q) j′)
+none-file t i j f o h i′ j′ q = go (only-there t i j f o i′ j′ q)
+  where
+    go : WasDone (sessionAt t i′) (sessionAt (table (set (t .sessions) i (putFile (sessionAt t i) j f)) o) i′) j′ ⊎ ((i′ ≡ i) × (j′ ≡ j) × (f .state ≡ FileState.Done))
+        → WasDone (sessionAt t i′) (sessionAt (table (set (t .sessions) i (putFile (sessionAt t i) j f)) o) i′) j′
+    go (inl w) = w
+    go (inr e) = absurd (h (e .2))
+
+-- a file that was done does not close; so where none turns done, no file closes
+pub was-closes : {t t′ : Table} {k : Key} {s quiet : ℕ} (c : Closes t t′ k s quiet)
+    → WasDone (sessionAt t (c .after .i)) (sessionAt t′ (c .after .i)) (c .after .j) → ⊥
+was-closes c was =
+    let a = c .after in c .before _ _ (record { i = a .i; j = a .j; key = was .1 ∙ a .key; state = was .0; counted = refl; hushed = refl })
+
+pub none-closes : {t t′ : Table} {k : Key} {s quiet : ℕ} → NoneDone t t′ → Closes t t′ k s quiet → ⊥
+none-closes none c = was-closes c (none (c .after .i) (c .after .j) (c .after .state))

@@ -14,7 +14,7 @@ use Rattle.protocol.specs.Replies.{repliedOf}
 use Rattle.protocol.specs.Answers.{refused}
 use Rattle.protocol.specs.Calls.{answeredBy, replied, guarded}
 use Rattle.protocol.specs.History.{Event, bytesOf, Mark, modeAfter, marksOf}
-use Rattle.protocol.specs.Claim.{World, isRefusal, afterCall, noted, start}
+use Rattle.protocol.specs.Machine.{World, isRefused, afterCall, noted, start}
 use Rattle.protocol.specs.declared.Session.{Session}
 use Rattle.protocol.specs.declared.Stepped.{Stepped}
 use Rattle.protocol.specs.declared.Answered.{Answered}
@@ -46,7 +46,7 @@ module _ {w : World} (ok : WorldOK w) (e : Event) (x : Mark) (bytes : bytesOf (e
     (marks : marksOf (e ∷ w .history) ≡ x ∷ marksOf (w .history)) where
   pub noted-ok : (s : Stepped) (n : ℕ) → TableOK (s .table) (notedMarks (marksOf (w .history)) x s)
       → WorldOK (afterCall w (answeredBy (w .receiver .framing) s n) (noted (s .told) e (w .history)))
-  noted-ok s n t = record { follows = kept (isRefusal (s .told)); table = moved (isRefusal (s .told)) t }
+  noted-ok s n t = record { follows = kept (isRefused (s .told)); table = moved (isRefused (s .told)) t }
     where
       kept : (b : Bool) → Follows (w .receiver .framing) (w .carry) (modeAfter (pick b (w .history) (e ∷ w .history)))
       kept true = ok .follows

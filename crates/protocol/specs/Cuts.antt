@@ -1,5 +1,5 @@
 -- "The reports, places apart, are the same however the bytes are cut, given the same console calls after the same reports."
-use Prim.Native.Nat.{ℕ}
+use Prim.Native.Nat.{ℕ, suc}
 use mathlib.Core.Path.{_≡_}
 use mathlib.Core.Bool.{Bool, true, false}
 use mathlib.Core.List.{List, [], _∷_, _++_}
@@ -11,9 +11,9 @@ use Rattle.frames.specs.Calls.{textOf}
 use Rattle.frames.specs.declared.Report.{Report}
 use Rattle.frames.specs.declared.Report.the-variants as Report
 use Rattle.command.specs.Slots.{valuesOf}
-use Rattle.protocol.specs.Calls.{Feeding, feedOf, allowOf, denyOf, dropOf, doneOf, failedOf}
+use Rattle.protocol.specs.Calls.{Feeding}
 use Rattle.protocol.specs.History.{Command, Heard, heardAsk, bytesOf}
-use Rattle.protocol.specs.Claim.{Call, World, Lent, step, start}
+use Rattle.protocol.specs.Machine.{Machine, Call, World, Lent, step, start}
 use Rattle.protocol.specs.declared.Status.{Status}
 use Rattle.protocol.specs.declared.Failure.{Failure}
 use Rattle.protocol.specs.declared.Told.{Told}
@@ -54,6 +54,14 @@ pub data Move : Type 0 where
   done : Move
   failed : (code : Failure) → Move
 
+abbrev pub isReportMove : Move → Bool
+isReportMove Move.report = true
+isReportMove (Move.allow id) = false
+isReportMove (Move.deny id) = false
+isReportMove (Move.drop id) = false
+isReportMove Move.done = false
+isReportMove (Move.failed code) = false
+
 -- what it gives: the reported text, what is told, and the reply
 pub record Output : Type 0 where
   pub move : Move
@@ -83,37 +91,37 @@ reportOf piece f =
 abbrev pub answerOf : Move → List ℕ → Outcome Answered → List Output
 answerOf m lent a = pick (ltb (length lent) 124) [] (output m [] (saying (a .answer .told) [] []) (take (a .answer .«reply_len») (a .buffer)) ∷ [])
 
-abbrev pub given : World → Call → List Output
-given w (Call.feed piece carry scratch reply) = reportOf piece (feedOf (w .receiver) piece carry scratch reply)
-given w (Call.allow id reply) = answerOf (Move.allow id) reply (allowOf (w .receiver) id reply)
-given w (Call.deny id reply) = answerOf (Move.deny id) reply (denyOf (w .receiver) id reply)
-given w (Call.drop id) = output (Move.drop id) [] (saying (dropOf (w .receiver) id .told) [] []) [] ∷ []
-given w (Call.done reply) = answerOf Move.done reply (doneOf (w .receiver) reply)
-given w (Call.failed code reply) = answerOf (Move.failed code) reply (failedOf (w .receiver) code reply)
+abbrev pub given : Machine → World → Call → List Output
+given m w (Call.feed piece carry scratch reply) = reportOf piece (m .feeds (w .receiver) piece carry scratch reply)
+given m w (Call.allow id reply) = answerOf (Move.allow id) reply (m .allows (w .receiver) id reply)
+given m w (Call.deny id reply) = answerOf (Move.deny id) reply (m .denies (w .receiver) id reply)
+given m w (Call.drop id) = output (Move.drop id) [] (saying (m .drops (w .receiver) id .told) [] []) [] ∷ []
+given m w (Call.done reply) = answerOf Move.done reply (m .dones (w .receiver) reply)
+given m w (Call.failed code reply) = answerOf (Move.failed code) reply (m .fails (w .receiver) code reply)
 
 -- ---- a list of calls
-abbrev pub allGiven : World → List Call → List Output
-allGiven w [] = []
-allGiven w (c ∷ cs) = given w c ++ allGiven (step w c) cs
+abbrev pub allGiven : Machine → World → List Call → List Output
+allGiven m w [] = []
+allGiven m w (c ∷ cs) = given m w c ++ allGiven m (step m w c) cs
 
-abbrev pub after : World → List Call → World
-after w [] = w
-after w (c ∷ cs) = after (step w c) cs
+abbrev pub after : Machine → World → List Call → World
+after m w [] = w
+after m w (c ∷ cs) = after m (step m w c) cs
 
 -- each feed not refused is lent the carry as the last one left it
-abbrev pub AllLent : World → List Call → Type 0
-AllLent w [] = Unit {0}
-AllLent w (c ∷ cs) = Lent w c × AllLent (step w c) cs
+abbrev pub AllLent : Machine → World → List Call → Type 0
+AllLent m w [] = Unit {0}
+AllLent m w (c ∷ cs) = Lent m w c × AllLent m (step m w c) cs
 
--- the console calls, each after the reports that it comes after
-abbrev pub moves : List Output → List Move
-moves [] = []
-moves (o ∷ os) = o .move ∷ moves os
+-- "the same console calls after the same reports": the console's calls alone, each with the number of reports before it, n of them so far
+abbrev pub consoleCalls : ℕ → List Output → List (ℕ × Move)
+consoleCalls n [] = []
+consoleCalls n (o ∷ os) = pick (isReportMove (o .move)) (consoleCalls (suc n) os) ((n, o .move) ∷ consoleCalls n os)
 
--- two lists of calls, from a fresh receiver and any first carry each, that consume the same bytes and make the same console calls after the
--- same reports: they give the same, and leave the same receiver
-abbrev pub CutsAlike : Type 0
-CutsAlike = (carry₁ carry₂ : List ℕ) (cs₁ cs₂ : List Call) → AllLent (start carry₁) cs₁ → AllLent (start carry₂) cs₂
-    → bytesOf (after (start carry₁) cs₁ .history) ≡ bytesOf (after (start carry₂) cs₂ .history)
-    → moves (allGiven (start carry₁) cs₁) ≡ moves (allGiven (start carry₂) cs₂)
-    → (allGiven (start carry₁) cs₁ ≡ allGiven (start carry₂) cs₂) × (after (start carry₁) cs₁ .receiver ≡ after (start carry₂) cs₂ .receiver)
+-- two lists of calls, from a fresh receiver and any first carry each, that consume the same bytes, and in which the console makes the same
+-- calls after as many reports: they give the same, reports and answers, and leave the same receiver
+abbrev pub CutsAlike : Machine → Type 0
+CutsAlike m = (carry₁ carry₂ : List ℕ) (cs₁ cs₂ : List Call) → AllLent m (start carry₁) cs₁ → AllLent m (start carry₂) cs₂
+    → bytesOf (after m (start carry₁) cs₁ .history) ≡ bytesOf (after m (start carry₂) cs₂ .history)
+    → consoleCalls 0 (allGiven m (start carry₁) cs₁) ≡ consoleCalls 0 (allGiven m (start carry₂) cs₂)
+    → (allGiven m (start carry₁) cs₁ ≡ allGiven m (start carry₂) cs₂) × (after m (start carry₁) cs₁ .receiver ≡ after m (start carry₂) cs₂ .receiver)

@@ -6,6 +6,9 @@ pub mod Sessions
 pub mod Answers
 pub mod Calls
 pub mod History
+pub mod Stretches
+pub mod Machine
 pub mod Claim
 pub mod Cuts
+pub mod WrongMachines
 pub mod Starred

@@ -6,8 +6,10 @@
 ghost use mathlib.Core.Path.{_≡_};
 ghost use Rattle.protocol.specs.Claim.{EveryHistory};
 ghost use Rattle.protocol.specs.Cuts.{CutsAlike};
+ghost use Rattle.protocol.specs.Machine.{ours};
 ghost use Rattle.protocol.specs.Starred.{AllHold, starred};
 ghost use Rattle.protocol.specs.Table.{freshReceiver};
+ghost use Rattle.protocol.specs.WrongMachines.{Teeth};
 use command::Command;
 use command::Place;
 use frames::Framing;
@@ -251,7 +253,7 @@ impl Receiver {
     // keeps (demand 3), that cuts do not matter, and document 01's starred cases stand here too, so that
     // nobody can drop a theorem unseen.
     pub fn fresh() -> Receiver
-        ensures { λ r. ⌜ (r ≡ freshReceiver) × EveryHistory × CutsAlike × AllHold starred ⌝ }
+        ensures { λ r. ⌜ (r ≡ freshReceiver) × EveryHistory ours × CutsAlike ours × Teeth × AllHold starred ⌝ }
     {
         Receiver {
             framing: Framing::Plain,

@@ -1,0 +1,251 @@
+-- How a claim is refuted of a machine: a list of calls from a fresh receiver, and a test that computes to false at its end.
+use Prim.Native.Nat.{ℕ, zero, suc}
+use mathlib.Core.Path.{_≡_, refl, sym, ap, _∙_}
+use mathlib.Core.Bool.{Bool, true, false, not}
+use mathlib.Core.Logic.{_⊎_, inl, inr}
+use mathlib.Core.Option.{Option}
+use mathlib.Core.List.{List, [], _∷_, _++_}
+use lib.ListN.{length, take, drop, getD, replicate}
+use lib.Dec.{eqb}
+use borrow.Author.Tests.{eq-eqb}
+use Rattle.octets.specs.Choice.{both, either, every}
+use Rattle.octets.specs.Slices.{equals}
+use Rattle.octets.specs.Ascii.{ascii}
+use Rattle.octets.specs.Outcome.{Outcome}
+use Rattle.decimal.specs.declared.Number.{Number}
+use Rattle.command.specs.Meaning.{Meaning, meaningOf, sizeOf}
+use Rattle.protocol.specs.Table.{noFile, noSession, fileAt}
+use Rattle.protocol.specs.Replies.{framed}
+use Rattle.protocol.specs.History.{Command, Heard, Mark, marksOf, Question, lastAsk}
+use Rattle.protocol.specs.Stretches.{Key, isFor, isFile, isDirectory, Stretch, since, parts, contents, startStands, AllStand}
+use Rattle.protocol.specs.Machine.{Machine, Call, World, isRefused, Lent, step, start}
+use Rattle.protocol.specs.Claim.{stateAt, countAt, keyAt, quietAt, IsDone, LastPartAsked, DirectoryAsked, ClosingReply, ClosedWhole, TurnedDone, Right, Everywhere, EveryHistory}
+use Rattle.protocol.specs.Cuts.{AllLent}
+use Rattle.protocol.specs.declared.FileState.{FileState}
+use Rattle.protocol.specs.declared.FileState.the-variants as FileState
+use Rattle.protocol.specs.declared.FileRecord.{FileRecord}
+use Rattle.protocol.specs.declared.Session.{Session}
+use Rattle.protocol.specs.declared.Table.{Table}
+use Rattle.protocol.specs.declared.Answered.{Answered}
+use Rattle.protocol.proofs.Laws.{no-way, equals-same}
+
+-- ---- a list of calls: every feed is lent the world's carry, and the other buffers are all alike
+unfoldable pub carry₀ : List ℕ
+carry₀ = replicate 8192 0
+
+unfoldable pub scratch₀ : List ℕ
+scratch₀ = replicate 6144 0
+
+unfoldable pub reply₀ : List ℕ
+reply₀ = replicate 124 0
+
+pub data Deed : Type 0 where
+  feed : List ℕ → Deed
+  allow : List ℕ → Deed
+  done : Deed
+
+abbrev pub callOf : World → Deed → Call
+callOf w (Deed.feed piece) = Call.feed piece (w .carry) scratch₀ reply₀
+callOf w (Deed.allow id) = Call.allow id reply₀
+callOf w Deed.done = Call.done reply₀
+
+lent : (m : Machine) (w : World) (c : Deed) → Lent m w (callOf w c)
+lent m w (Deed.feed piece) = λ _. refl
+lent m w (Deed.allow id) = tt
+lent m w Deed.done = tt
+
+module _ (m : Machine) where
+  abbrev pub calls : World → List Deed → List Call
+  calls w [] = []
+  calls w (c ∷ cs) = callOf w c ∷ calls (step m w (callOf w c)) cs
+
+  pub all-lent : (w : World) (cs : List Deed) → AllLent m w (calls w cs)
+  all-lent w [] = tt
+  all-lent w (c ∷ cs) = (lent m w c, all-lent (step m w (callOf w c)) cs)
+
+  -- the world after them, and what the claim says of the call after that
+  abbrev afterwards : World → List Deed → World
+  afterwards w [] = w
+  afterwards w (c ∷ cs) = afterwards (step m w (callOf w c)) cs
+
+  right-after : (w : World) (cs : List Deed) (d : Deed) → Everywhere m w (calls w (cs ++ (d ∷ []))) → Right m (afterwards w cs) (callOf (afterwards w cs) d)
+  right-after w [] d e = e (lent m w d) .0
+  right-after w (c ∷ cs) d e = right-after (step m w (callOf w c)) cs d (e (lent m w c) .1)
+
+  abbrev pub afterAll : List Deed → World
+  afterAll cs = afterwards (start carry₀) cs
+
+  right-at : (cs : List Deed) (d : Deed) → EveryHistory m → Right m (afterAll cs) (callOf (afterAll cs) d)
+  right-at cs d claim = right-after (start carry₀) cs d (claim carry₀ (calls (start carry₀) (cs ++ (d ∷ []))))
+
+-- ---- a part is handed over where none may be, at the feed of a piece
+abbrev pub HandsBadly : Machine → List Deed → List ℕ → Type 0
+HandsBadly m cs piece = AllStand (marksOf (step m (afterAll m cs) (callOf (afterAll m cs) (Deed.feed piece)) .history)) → ⊥
+
+pub hands-badly : (m : Machine) (cs : List Deed) (piece : List ℕ) → HandsBadly m cs piece → EveryHistory m → ⊥
+hands-badly m cs piece h claim = h (right-at m cs (Deed.feed piece) claim .partsStand)
+
+-- ---- no record of a table is done
+abbrev isDone : FileState → Bool
+isDone FileState.Free = false
+isDone FileState.Opening = false
+isDone FileState.Started = false
+isDone FileState.Done = true
+isDone FileState.Failed = false
+
+abbrev undone : FileRecord → Bool
+undone f = not (isDone (f .state))
+
+abbrev pub noneDone : Table → Bool
+noneDone t = every (λ (s : Session). every undone (s .files)) (t .sessions)
+
+every-at : {A : Type 0} (p : A → Bool) (d : A) → p d ≡ true → (l : List A) → every p l ≡ true → (i : ℕ) → p (getD l i d) ≡ true
+unfolding every
+every-at p d h [] e i = h
+every-at p d h (x ∷ xs) e zero = go (p x) refl e
+  where
+    go : (b : Bool) → p x ≡ b → both b (every p xs) ≡ true → p x ≡ true
+    go true q e = q
+    go false q e = no-way (sym e)
+every-at p d h (x ∷ xs) e (suc i) = every-at p d h xs (go (p x) e) i
+  where
+    go : (b : Bool) → both b (every p xs) ≡ true → every p xs ≡ true
+    go true e = e
+    go false e = no-way (sym e)
+
+pub none-done : (t : Table) → noneDone t ≡ true → {k : Key} (n q : ℕ) → IsDone t k n q → ⊥
+unfolding every
+none-done t e n q d =
+    let here = every-at (λ (s : Session). every undone (s .files)) noSession refl (t .sessions) e (d .i) in
+    no-way (sym (every-at undone noFile refl (getD (t .sessions) (d .i) noSession .files) here (d .j)) ∙ ap (λ (g : FileState). not (isDone g)) (d .state))
+
+-- ---- a file closes that is not whole: the claim's words as tests
+abbrev pub key : Key
+key = record { id = ascii "m"; file = ascii "a" }
+
+-- the open of a directory
+abbrev opensDirectory : Key → Question → Bool
+opensDirectory k Question.none = false
+opensDirectory k (Question.asks d Heard.opens) = both (isFile d) (both (isDirectory d) (isFor k d))
+opensDirectory k (Question.asks d (Heard.writes p)) = false
+opensDirectory k (Question.asks d (Heard.writesLast p)) = false
+opensDirectory k (Question.asks d Heard.commits) = false
+
+abbrev isDirectoryDone : Key → List Mark → Bool
+isDirectoryDone k m = both (not (startStands k (since k m))) (opensDirectory k (lastAsk m))
+
+directory-done : (k : Key) (m : List Mark) → DirectoryAsked k m → isDirectoryDone k m ≡ true
+directory-done k m d = rw (d .unstarted, d .asked, d .action, d .directory) (d .forIt)
+
+-- the last part
+abbrev asksLast : Key → Question → Bool
+asksLast k Question.none = false
+asksLast k (Question.asks d Heard.opens) = false
+asksLast k (Question.asks d (Heard.writes p)) = false
+asksLast k (Question.asks d (Heard.writesLast p)) = isFor k d
+asksLast k (Question.asks d Heard.commits) = false
+
+last-asked : (k : Key) (q : Question) → LastPartAsked k q → asksLast k q ≡ true
+last-asked k q l = rw (l .asked) (l .forIt)
+
+-- start, parts, contents and count
+abbrev isWhole : Key → Option Stretch → ℕ → Bool
+isWhole k Option.none n = false
+isWhole k (Option.some s) n = both (equals (parts k (s .marks)) (contents k (s .marks))) (eqb n (length (contents k (s .marks))))
+
+-- the reply's size: its frame taken off, its text read
+abbrev inner : List ℕ → List ℕ
+inner [] = []
+inner (a ∷ []) = []
+inner (a ∷ b ∷ []) = []
+inner (a ∷ b ∷ c ∷ l) = a ∷ inner (b ∷ c ∷ l)
+
+inner-append : (t : List ℕ) → inner (t ++ 0x1B ∷ 0x5C ∷ []) ≡ t
+inner-append [] = refl
+inner-append (a ∷ []) = refl
+inner-append (a ∷ b ∷ []) = refl
+inner-append (a ∷ b ∷ c ∷ t) = ap (λ (r : List ℕ). a ∷ r) (inner-append (b ∷ c ∷ t))
+
+abbrev sizeMeant : Meaning → ℕ
+sizeMeant (Meaning.command c) = sizeOf c .magnitude
+sizeMeant (Meaning.refused n) = 0
+
+abbrev sizeSent : Outcome Answered → ℕ
+sizeSent a = sizeMeant (meaningOf (inner (drop 2 (take (a .answer .«reply_len») (a .buffer)))))
+
+size-sent : (k : Key) (s : ℕ) (a : Outcome Answered) → ClosingReply k s 0 a → sizeSent a ≡ s
+size-sent k s a r = rw (r .sent refl, inner-append (r .text), r .reads) (ap (λ (n : Number). n .magnitude) (r .size))
+
+either-right : (b : Bool) → either b true ≡ true
+either-right true = refl
+either-right false = refl
+
+-- the first file of the first session: its state, ids and count, and the session's quiet
+abbrev FileShown : Type 0
+FileShown = FileState × Key × ℕ × ℕ
+
+abbrev firstFile : Table → FileShown
+firstFile t = (stateAt t 0 0, keyAt t 0 0, countAt t 0 0, quietAt t 0)
+
+first-done : (t : Table) {k : Key} {n q : ℕ} → firstFile t ≡ (FileState.Done, k, n, q) → IsDone t k n q
+first-done t e =
+    record {
+      i = 0;
+      j = 0;
+      key = ap (λ (x : FileShown). x .1) e;
+      state = ap (λ (x : FileShown). x .0) e;
+      counted = ap (λ (x : FileShown). x .2) e;
+      hushed = ap (λ (x : FileShown). x .3) e;
+    }
+
+module _ (m : Machine) (cs : List Deed) where
+  abbrev w : World
+  w = afterAll m cs
+
+  abbrev w′ : World
+  w′ = step m w (Call.done reply₀)
+
+  -- what `TurnedDone` asks of file a, closed with count n
+  abbrev pub turnsRight : ℕ → Bool
+  turnsRight n =
+      either (isDirectoryDone key (marksOf (w .history)))
+      (both (asksLast key (lastAsk (marksOf (w .history))))
+      (both (isWhole key (since key (marksOf (w′ .history))) n) (eqb (sizeSent (m .dones (w .receiver) reply₀)) n)))
+
+  -- the file a closes at a done, in a session that is not quiet
+  pub record ClosesBadly : Type 0 where
+    pub count : ℕ
+    pub before : noneDone (w .receiver .table) ≡ true
+    pub after : firstFile (w′ .receiver .table) ≡ (FileState.Done, key, count, 0)
+    pub wrong : turnsRight count ≡ false
+
+  abbrev replyIn : Call → List ℕ
+  replyIn (Call.feed piece carry scratch reply) = []
+  replyIn (Call.allow id reply) = []
+  replyIn (Call.deny id reply) = []
+  replyIn (Call.drop id) = []
+  replyIn (Call.done reply) = reply
+  replyIn (Call.failed code reply) = []
+
+  turns-right : (n : ℕ) → DirectoryAsked key (marksOf (w .history)) ⊎ ClosedWhole m w reply₀ key n 0 → turnsRight n ≡ true
+  turns-right n (inl d) = rw (directory-done key (marksOf (w .history)) d)
+  turns-right n (inr c) =
+      rw (last-asked key _ (c .lastPart), c .started, equals-same _ _ (c .joined), eq-eqb _ _ (c .counted), eq-eqb _ _ (size-sent key n _ (c .replied)))
+      (either-right (isDirectoryDone key (marksOf (w .history))))
+
+  pub closes-badly : ClosesBadly → EveryHistory m → ⊥
+  closes-badly b claim = no-way (sym (turns-right (b .count) (rw (← (ap replyIn (turned .byDone))) at (turned .right))) ∙ b .wrong)
+    where
+      turned : TurnedDone m w (Call.done reply₀) key (b .count) 0
+      turned = right-at m cs Deed.done claim .closes key (b .count) 0 (record { before = none-done (w .receiver .table) (b .before); after = first-done (w′ .receiver .table) (b .after) })
+
+  -- a last part is answered done, and no file is done after it
+  pub record StaysOpen (d : Command) (p : List ℕ) : Type 0 where
+    pub asked : lastAsk (marksOf (w .history)) ≡ Question.asks d (Heard.writesLast p)
+    pub taken : isRefused (m .dones (w .receiver) reply₀ .answer .told) ≡ false
+    pub after : noneDone (w′ .receiver .table) ≡ true
+
+  pub stays-open : {d : Command} {p : List ℕ} → StaysOpen d p → EveryHistory m → ⊥
+  stays-open {d} {p} b claim =
+      let c = right-at m cs Deed.done claim .closed d p reply₀ (b .asked) refl (b .taken) in
+      none-done (w′ .receiver .table) (b .after) (c .count) (c .quiet) (c .closes .after)

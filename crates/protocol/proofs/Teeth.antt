@@ -1,0 +1,153 @@
+-- The claims are false of each wrong machine: what each does is computed.
+use Prim.Native.Nat.{ℕ}
+use mathlib.Core.Path.{_≡_, refl, sym, ap, _∙_}
+use mathlib.Core.Bool.{true}
+use mathlib.Core.List.{List, [], _∷_, _++_}
+use native.Mathlib.Omega.{arith}
+use lib.ListN.{length, take}
+use Rattle.bytes.specs.Bytes.{indexOf, indexAfter}
+use Rattle.octets.specs.Choice.{every}
+use Rattle.octets.specs.Ascii.{ascii}
+use Rattle.octets.specs.Slices.{equals, startsWith, partOf}
+use Rattle.octets.specs.Split.{split, onto, join}
+use Rattle.base64.specs.Alphabet as Base64
+use Rattle.base64.specs.Decode as Decode
+use Rattle.base64.specs.Encode as Base64Text
+use Rattle.decimal.specs.Read as DecimalRead
+use Rattle.decimal.specs.Write as Decimal
+use Rattle.pathname.specs.Name.{rooted, validComponent, validComponents, validName}
+use Rattle.pathname.specs.Utf8.{followers, sequences}
+use Rattle.frames.specs.Stream.{readByte, stream}
+use Rattle.frames.specs.Framings.{mayBeCommand}
+use Rattle.frames.specs.Steps.{stepOf, walkFrom}
+use Rattle.frames.specs.Carry.{heldOf, carryOf}
+use Rattle.frames.specs.Calls.{reportOf, scanOf, textOf}
+use Rattle.command.specs.Keys.{placeIn}
+use Rattle.command.specs.Letters.{keyByte, safeByte, textByte}
+use Rattle.command.specs.Values.{aliasRead, wordRead, safeRead, valueRead}
+use Rattle.command.specs.Fields.{isKey, fieldRead, fieldsRead, textRead}
+use Rattle.command.specs.Meaning.{meaningOf}
+use Rattle.command.specs.Slots.{actionOf, fileTypeOf, transmissionOf, commandOf}
+use Rattle.command.specs.Read.{kept, readOf}
+use Rattle.protocol.specs.Table.{first}
+use Rattle.protocol.specs.Actions.{resultIn, kindOf}
+use Rattle.protocol.specs.Replies.{statusText, replyBytes, repliedOf}
+use Rattle.protocol.specs.Files.{fileChecked, fileOf, partAsked, dataOf, finishOf}
+use Rattle.protocol.specs.Sessions.{obeyOf}
+use Rattle.protocol.specs.Answers.{settleDone, allowedOf}
+use Rattle.protocol.specs.Calls.{scannedFeed, feedOf, guarded, allowOf, doneOf}
+use Rattle.protocol.specs.History.{Command, Question, bytesOf, marksOf, lastAsk}
+use Rattle.protocol.specs.Machine.{Machine, ours, start}
+use Rattle.protocol.specs.Cuts.{allGiven, after, consoleCalls, CutsAlike}
+use Rattle.protocol.specs.WrongMachines.{sendPiece, filePiece, directoryPiece, dataPiece, longerIdPiece, endPiece, cancelPiece, oneTooSmall, lastOnly, otherSize, skipping, twice, shorterIds, dataOpens, reopening, neverClosing, unasked, deaf, closerLost, Teeth}
+use Rattle.protocol.proofs.Laws.{no-way}
+use Rattle.protocol.proofs.Refuting.{carry₀, scratch₀, reply₀, Deed, feed, allow, done, calls, all-lent, afterAll, HandsBadly, hands-badly, turnsRight, ClosesBadly, closes-badly, StaysOpen, stays-open}
+
+-- a session allowed, a file started in it, and abc written
+abbrev allowed : List Deed
+allowed = feed sendPiece ∷ allow (ascii "m") ∷ []
+
+abbrev started : List Deed
+started = allowed ++ (feed filePiece ∷ done ∷ [])
+
+abbrev written : List Deed
+written = started ++ (feed dataPiece ∷ done ∷ [])
+
+abbrev ended : List Deed
+ended = written ++ (feed endPiece ∷ [])
+
+-- the command of the ask told last
+abbrev commandIn : Question → Command
+commandIn Question.none = []
+commandIn (Question.asks d a) = d
+
+abbrev lastCommand : Machine → List Deed → Command
+lastCommand m cs = commandIn (lastAsk (marksOf (afterAll m cs .history)))
+
+-- one command in one piece, and in two that part its closer
+abbrev whole : List Deed
+whole = feed sendPiece ∷ []
+
+abbrev parted : List Deed
+parted = feed (take 20 sendPiece) ∷ feed (0x5C ∷ []) ∷ []
+
+-- a part asked for in a session that was never allowed, and after a cancel
+abbrev unallowed : List Deed
+unallowed = feed sendPiece ∷ feed filePiece ∷ done ∷ []
+
+abbrev canceled : List Deed
+canceled = started ++ (feed cancelPiece ∷ [])
+
+-- ---- what each does
+record Computed : Type 0 where
+  oneTooSmall-closes : ClosesBadly oneTooSmall ended
+  lastOnly-closes : ClosesBadly lastOnly ended
+  otherSize-closes : ClosesBadly otherSize ended
+  skipping-closes : ClosesBadly skipping (started ++ (feed dataPiece ∷ feed endPiece ∷ []))
+  twice-closes : ClosesBadly twice (written ++ (feed [] ∷ done ∷ feed endPiece ∷ []))
+  shorterIds-closes : ClosesBadly shorterIds (started ++ (feed longerIdPiece ∷ done ∷ feed endPiece ∷ []))
+  dataOpens-closes : ClosesBadly dataOpens (allowed ++ (feed dataPiece ∷ done ∷ feed endPiece ∷ []))
+  reopening-closes : ClosesBadly reopening (started ++ (feed directoryPiece ∷ []))
+  neverClosing-stays : StaysOpen neverClosing ended (lastCommand neverClosing ended) (ascii "A")
+  unasked-hands : HandsBadly unasked unallowed dataPiece
+  deaf-hands : HandsBadly deaf canceled dataPiece
+  -- two ways to bring the same bytes, with no console call: one report, and none
+  same-bytes : bytesOf (after closerLost (start carry₀) (calls closerLost (start carry₀) whole) .history)
+      ≡ bytesOf (after closerLost (start carry₀) (calls closerLost (start carry₀) parted) .history)
+  same-calls : consoleCalls 0 (allGiven closerLost (start carry₀) (calls closerLost (start carry₀) whole))
+      ≡ consoleCalls 0 (allGiven closerLost (start carry₀) (calls closerLost (start carry₀) parted))
+  one-report : length (allGiven closerLost (start carry₀) (calls closerLost (start carry₀) whole)) ≡ 1
+  no-report : length (allGiven closerLost (start carry₀) (calls closerLost (start carry₀) parted)) ≡ 0
+  -- and ours at the same places: the tests hold
+  ours-closes : turnsRight ours ended 4 ≡ true
+  ours-directory : turnsRight ours (allowed ++ (feed directoryPiece ∷ [])) 0 ≡ true
+  ours-parted : length (allGiven ours (start carry₀) (calls ours (start carry₀) parted)) ≡ 1
+
+computed : Computed
+unfolding carry₀ scratch₀ reply₀ indexOf indexAfter every equals startsWith partOf split onto join Base64.valueOf Base64.letterOf Decode.verdictOf Decode.bytesOf Decode.scan Decode.ending Decode.group Base64Text.textOf DecimalRead.parseOf DecimalRead.magnitudeOf DecimalRead.digitsOf DecimalRead.rangedOf Decimal.writable Decimal.textOf Decimal.fixed Decimal.widthFrom rooted validComponent validComponents validName followers sequences readByte stream mayBeCommand stepOf walkFrom heldOf carryOf reportOf scanOf textOf placeIn keyByte safeByte textByte aliasRead wordRead safeRead valueRead isKey fieldRead fieldsRead textRead meaningOf actionOf fileTypeOf transmissionOf commandOf kept readOf first resultIn kindOf statusText replyBytes repliedOf fileChecked fileOf partAsked dataOf finishOf obeyOf settleDone allowedOf scannedFeed feedOf guarded allowOf doneOf marksOf
+computed = record {
+  oneTooSmall-closes = record { count = 3; before = refl; after = refl; wrong = refl };
+  lastOnly-closes = record { count = 1; before = refl; after = refl; wrong = refl };
+  otherSize-closes = record { count = 4; before = refl; after = refl; wrong = refl };
+  skipping-closes = record { count = 1; before = refl; after = refl; wrong = refl };
+  twice-closes = record { count = 7; before = refl; after = refl; wrong = refl };
+  shorterIds-closes = record { count = 4; before = refl; after = refl; wrong = refl };
+  dataOpens-closes = record { count = 1; before = refl; after = refl; wrong = refl };
+  reopening-closes = record { count = 0; before = refl; after = refl; wrong = refl };
+  neverClosing-stays = record { asked = refl; taken = refl; after = refl };
+  unasked-hands = λ a. no-way (sym (a .0));
+  deaf-hands = λ a. no-way (sym (a .0));
+  same-bytes = refl;
+  same-calls = refl;
+  one-report = refl;
+  no-report = refl;
+  ours-closes = refl;
+  ours-directory = refl;
+  ours-parted = refl;
+}
+
+-- ---- the claims are false of each
+cut-closer-lost : CutsAlike closerLost → ⊥
+cut-closer-lost alike =
+    let w = start carry₀ in
+    let same = alike carry₀ carry₀ (calls closerLost w whole) (calls closerLost w parted) (all-lent closerLost w whole) (all-lent closerLost w parted)
+    (computed .same-bytes) (computed .same-calls) in
+    let z : _≡_ {A = ℕ} 1 0 = sym (computed .one-report) ∙ ap length (same .0) ∙ computed .no-report in
+    omega arith
+
+pub teeth : Teeth
+teeth =
+    record {
+      countOneTooSmall = closes-badly _ _ (computed .oneTooSmall-closes);
+      countOfTheLastPart = closes-badly _ _ (computed .lastOnly-closes);
+      otherSizeReplied = closes-badly _ _ (computed .otherSize-closes);
+      dataSkipped = closes-badly _ _ (computed .skipping-closes);
+      partTwice = closes-badly _ _ (computed .twice-closes);
+      idsUpToTheShorter = closes-badly _ _ (computed .shorterIds-closes);
+      openedByData = closes-badly _ _ (computed .dataOpens-closes);
+      directoryOverAStartedFile = closes-badly _ _ (computed .reopening-closes);
+      neverClosed = stays-open _ _ (computed .neverClosing-stays);
+      neverAllowed = hands-badly unasked unallowed dataPiece (computed .unasked-hands);
+      afterACancel = hands-badly deaf canceled dataPiece (computed .deaf-hands);
+      cutCloserLost = cut-closer-lost;
+    }

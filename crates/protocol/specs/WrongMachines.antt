@@ -1,0 +1,183 @@
+-- Wrong receivers, made by wrapping our calls, each with one error. A claim that held of one of them would be worth nothing; `Teeth` says
+-- that the claims are false of each.
+use Prim.Native.Nat.{ℕ, zero, suc}
+use mathlib.Core.List.{List, [], _∷_}
+use lib.ListN.{length}
+use Rattle.octets.specs.Choice.{pick}
+use Rattle.octets.specs.Ascii.{ascii}
+use Rattle.octets.specs.Outcome.{Outcome, outcome}
+use Rattle.octets.specs.Slices.{equals}
+use Rattle.frames.specs.declared.Framing.the-variants as Framing
+use Rattle.protocol.specs.Table.{freeFile, sessionAt, fileAt, putSession, putFileAt, moved, withOwed, withState}
+use Rattle.protocol.specs.Replies.{framed}
+use Rattle.protocol.specs.Calls.{Feeding, feedOf, allowOf, denyOf, dropOf, doneOf, failedOf}
+use Rattle.protocol.specs.Machine.{Machine}
+use Rattle.protocol.specs.Claim.{EveryHistory}
+use Rattle.protocol.specs.Cuts.{CutsAlike}
+use Rattle.protocol.specs.declared.SessionState.{SessionState}
+use Rattle.protocol.specs.declared.SessionState.the-variants as SessionState
+use Rattle.protocol.specs.declared.Owed.{Owed}
+use Rattle.protocol.specs.declared.Owed.the-variants as Owed
+use Rattle.protocol.specs.declared.Table.{Table}
+use Rattle.protocol.specs.declared.Receiver.{Receiver}
+use Rattle.protocol.specs.declared.Answered.{Answered}
+
+-- ---- pieces: the commands of session m and its file a
+abbrev pub sendPiece : List ℕ
+sendPiece = framed (ascii "5113;ac=send;id=m")
+
+abbrev pub filePiece : List ℕ
+filePiece = framed (ascii "5113;ac=file;id=m;fid=a;n=L256")
+
+abbrev pub directoryPiece : List ℕ
+directoryPiece = framed (ascii "5113;ac=file;id=m;fid=a;ft=directory;n=L256")
+
+abbrev pub dataPiece : List ℕ
+dataPiece = framed (ascii "5113;ac=data;id=m;fid=a;d=YWJj")
+
+-- data of another file, whose id begins with a's
+abbrev pub longerIdPiece : List ℕ
+longerIdPiece = framed (ascii "5113;ac=data;id=m;fid=ab;d=YWJj")
+
+abbrev pub endPiece : List ℕ
+endPiece = framed (ascii "5113;ac=end_data;id=m;fid=a;d=QQ==")
+
+abbrev pub cancelPiece : List ℕ
+cancelPiece = framed (ascii "5113;ac=cancel;id=m")
+
+abbrev pub statusPiece : List ℕ
+statusPiece = framed (ascii "5113;ac=status;id=m")
+
+-- ---- wrappers
+-- our calls but for feed, or but for done
+abbrev pub feedingBy : (Receiver → List ℕ → List ℕ → List ℕ → List ℕ → Feeding) → Machine
+feedingBy f = record { feeds = f; allows = allowOf; denies = denyOf; drops = dropOf; dones = doneOf; fails = failedOf }
+
+abbrev pub answeringBy : (Receiver → List ℕ → Outcome Answered) → Machine
+answeringBy d = record { feeds = feedOf; allows = allowOf; denies = denyOf; drops = dropOf; dones = d; fails = failedOf }
+
+abbrev pub withTable : Receiver → Table → Receiver
+withTable r t = record { framing = r .framing; table = t }
+
+-- a feed that says to have consumed n bytes
+abbrev pub consuming : ℕ → Feeding → Feeding
+consuming n f =
+    record {
+      fed = record { receiver = f .fed .receiver; consumed = n; report = f .fed .report; told = f .fed .told; «reply_len» = f .fed .«reply_len» };
+      carry = f .carry;
+      scratch = f .scratch;
+      reply = f .reply;
+    }
+
+-- one piece is taken for another, by the receiver as f changes it
+abbrev pub mistaking : List ℕ → List ℕ → (Receiver → Receiver) → Machine
+mistaking one other f =
+    feedingBy (λ r piece carry scratch reply.
+    pick (equals piece one) (consuming (length one) (feedOf (f r) other carry scratch reply)) (feedOf r piece carry scratch reply))
+
+-- done answers as if the table were another
+abbrev pub answeringOf : (Table → Owed → Table) → Machine
+answeringOf f = answeringBy (λ r. doneOf (withTable r (f (r .table) (r .table .owed))))
+
+-- what is owed, a last part changed
+abbrev pub withLast : (ℕ → ℕ → ℕ → Owed) → Owed → Owed
+withLast f Owed.Nothing = Owed.Nothing
+withLast f (Owed.OpenFile i j) = Owed.OpenFile i j
+withLast f (Owed.OpenDirectory i j) = Owed.OpenDirectory i j
+withLast f (Owed.Write i j n) = Owed.Write i j n
+withLast f (Owed.WriteLast i j n) = f i j n
+withLast f (Owed.Commit i) = Owed.Commit i
+
+-- ---- wrong counts
+-- one too small, in the record and in the reply
+abbrev pub less : ℕ → ℕ
+less zero = zero
+less (suc n) = n
+
+abbrev pub oneTooSmall : Machine
+oneTooSmall = answeringOf (λ t o. withOwed t (withLast (λ i j n. Owed.WriteLast i j (less n)) o))
+
+-- that of the last part only, in the record and in the reply
+abbrev pub uncounted : Table → Owed → Table
+uncounted t Owed.Nothing = t
+uncounted t (Owed.OpenFile i j) = t
+uncounted t (Owed.OpenDirectory i j) = t
+uncounted t (Owed.Write i j n) = t
+uncounted t (Owed.WriteLast i j n) = let f = fileAt (sessionAt t i) j in putFileAt t i j (moved f (f .state) 0)
+uncounted t (Owed.Commit i) = t
+
+abbrev pub lastOnly : Machine
+lastOnly = answeringOf uncounted
+
+-- a reply whose `sz` is one more than the record's count
+abbrev pub otherSize : Machine
+otherSize =
+    answeringBy (λ r reply.
+    let b = doneOf (withTable r (withOwed (r .table) (withLast (λ i j n. Owed.WriteLast i j (suc n)) (r .table .owed)))) reply in
+    outcome (record { receiver = doneOf r reply .answer .receiver; told = b .answer .told; «reply_len» = b .answer .«reply_len» }) (b .buffer))
+
+-- ---- wrong parts
+-- data that is read and never handed over
+abbrev pub skipping : Machine
+skipping = mistaking dataPiece statusPiece (λ r. r)
+
+-- a part handed over once more, at a feed of nothing
+abbrev pub twice : Machine
+twice = mistaking [] dataPiece (λ r. r)
+
+-- a part of another file: its id is compared up to the shorter one's end
+abbrev pub shorterIds : Machine
+shorterIds = mistaking longerIdPiece dataPiece (λ r. r)
+
+-- ---- wrong starts and ends
+-- open is asked on data for an unknown file, whose bytes are lost
+abbrev pub dataOpens : Machine
+dataOpens = mistaking dataPiece filePiece (λ r. r)
+
+-- no EEXIST: a directory takes the record of a started file
+abbrev pub reopening : Machine
+reopening = mistaking directoryPiece directoryPiece (λ r. withTable r (putFileAt (r .table) 0 0 freeFile))
+
+-- a last part answered done leaves its file started
+abbrev pub neverClosing : Machine
+neverClosing = answeringOf (λ t o. withOwed t (withLast Owed.Write o))
+
+-- ---- parts outside an allowed session
+-- in one that was never allowed
+abbrev pub opened : SessionState → SessionState
+opened SessionState.Absent = SessionState.Absent
+opened SessionState.Asked = SessionState.Open
+opened SessionState.Open = SessionState.Open
+
+abbrev pub unasked : Machine
+unasked =
+    feedingBy (λ r.
+    let s = sessionAt (r .table) 0 in
+    feedOf (withTable r (putSession (r .table) 0 (withState s (opened (s .state))))))
+
+-- after a cancel was read
+abbrev pub deaf : Machine
+deaf = mistaking cancelPiece statusPiece (λ r. r)
+
+-- ---- cuts
+-- a closer is lost whose 1B and 5C fall in two pieces
+abbrev pub closerLost : Machine
+closerLost =
+    feedingBy (λ r piece carry scratch reply.
+    pick (equals piece (0x5C ∷ [])) (feedOf (record { framing = Framing.Plain; table = r .table }) piece carry scratch reply)
+    (feedOf r piece carry scratch reply))
+
+-- ---- the claims are false of each
+pub record Teeth : Type 0 where
+  pub countOneTooSmall : EveryHistory oneTooSmall → ⊥
+  pub countOfTheLastPart : EveryHistory lastOnly → ⊥
+  pub otherSizeReplied : EveryHistory otherSize → ⊥
+  pub dataSkipped : EveryHistory skipping → ⊥
+  pub partTwice : EveryHistory twice → ⊥
+  pub idsUpToTheShorter : EveryHistory shorterIds → ⊥
+  pub openedByData : EveryHistory dataOpens → ⊥
+  pub directoryOverAStartedFile : EveryHistory reopening → ⊥
+  pub neverClosed : EveryHistory neverClosing → ⊥
+  pub neverAllowed : EveryHistory unasked → ⊥
+  pub afterACancel : EveryHistory deaf → ⊥
+  pub cutCloserLost : CutsAlike closerLost → ⊥
