@@ -68,6 +68,26 @@ transmissionOf n = pick (eqb n 1) Transmission.Rsync Transmission.Simple
 abbrev pub nowhere : Place
 nowhere = record { start = 0; len = 0 }
 
+-- the command without a field: each at what absent means
+abbrev pub noCommand : Command
+noCommand =
+    record {
+      action = Action.None;
+      «file_type» = FileType.Regular;
+      transmission = Transmission.Simple;
+      id = nowhere;
+      «file_id» = nowhere;
+      bypass = nowhere;
+      quiet = 0;
+      modified = count 0;
+      permissions = count 0;
+      size = count 0;
+      name = nowhere;
+      status = nowhere;
+      parent = nowhere;
+      payload = nowhere;
+    }
+
 -- the slot of a key that has not stood
 abbrev pub free : Slot
 free = record { stood = false; number = count 0; place = nowhere }

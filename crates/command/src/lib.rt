@@ -59,6 +59,40 @@ pub struct Command {
     pub payload: Place,
 }
 
+impl Command {
+    // Every field at what absent means.
+    pub const NONE: Command = Command {
+        action: Action::None,
+        file_type: FileType::Regular,
+        transmission: Transmission::Simple,
+        id: Place::NOWHERE,
+        file_id: Place::NOWHERE,
+        bypass: Place::NOWHERE,
+        quiet: 0,
+        modified: Number {
+            negative: false,
+            magnitude: 0,
+        },
+        permissions: Number {
+            negative: false,
+            magnitude: 0,
+        },
+        size: Number {
+            negative: false,
+            magnitude: 0,
+        },
+        name: Place::NOWHERE,
+        status: Place::NOWHERE,
+        parent: Place::NOWHERE,
+        payload: Place::NOWHERE,
+    };
+}
+
+impl Place {
+    // No bytes.
+    pub const NOWHERE: Place = Place { start: 0, len: 0 };
+}
+
 // Why a text is not read, or a command not written.
 pub enum Refusal {
     TextTooLong,
