@@ -10,6 +10,7 @@ use lib.Dec.{ltb}
 use borrow.Author.Tests.{ltb-false, le-ltb}
 use Rattle.octets.specs.Choice.{pick, either}
 use Rattle.octets.specs.Outcome.{outcome}
+use Rattle.frames.specs.Stream.{textLimit}
 use Rattle.command.specs.Keys.{keys}
 use Rattle.command.specs.Values.{Value}
 use Rattle.command.specs.Meaning.{missing}
@@ -20,12 +21,12 @@ use Rattle.command.specs.Write.{Checked, checkedOf, Answer, storedText, 
 pub record Accepted (c : List Value) (out : List ℕ) : Type 0 where
   pub kinds : checkedOf keys c ≡ Checked.fine
   pub whole : missing c ≡ false
-  pub short : length (canonical c) ≤ 8192
+  pub short : length (canonical c) ≤ textLimit
   pub room : length (canonical c) ≤ length out
 
 pub accepted-writes : (c : List Value) (out : List ℕ) → Accepted c out → writeOf c out ≡ outcome (Answer.written (length (canonical c))) (sets out 0 (canonical c))
 unfolding writeOf
-accepted-writes c out a = rw (a .kinds, a .whole, le-ltb 8192 (length (canonical c)) (a .short), le-ltb (length out) (length (canonical c)) (a .room))
+accepted-writes c out a = rw (a .kinds, a .whole, le-ltb textLimit (length (canonical c)) (a .short), le-ltb (length out) (length (canonical c)) (a .room))
 
 not-written : {r n : ℕ} {A : Type 0} → Answer.refused r ≡ Answer.written n → A
 not-written e = let z : _≡_ {A = ℕ} 0 1 = cc in absurd (omega arith)
@@ -34,7 +35,7 @@ pub writes-accepted : (c : List Value) (out : List ℕ) (n : ℕ) → writeOf c 
 unfolding writeOf
 writes-accepted c out n e = kinds (checkedOf keys c) refl e
   where
-    fits : (x y : Bool) → ltb 8192 (length (canonical c)) ≡ x → ltb (length out) (length (canonical c)) ≡ y → checkedOf keys c ≡ Checked.fine → missing c ≡ false
+    fits : (x y : Bool) → ltb textLimit (length (canonical c)) ≡ x → ltb (length out) (length (canonical c)) ≡ y → checkedOf keys c ≡ Checked.fine → missing c ≡ false
         → pick (either x y) (outcome (Answer.refused 9) out) (outcome (Answer.written (length (canonical c))) (sets out 0 (canonical c))) .answer ≡ Answer.written n
         → Accepted c out
     fits false false l r k w q = record { kinds = k; whole = w; short = ltb-false _ _ l; room = ltb-false _ _ r }
@@ -43,7 +44,7 @@ writes-accepted c out n e = kinds (checkedOf keys c) refl e
 
     whole : (m : Bool) → missing c ≡ m → checkedOf keys c ≡ Checked.fine
         → pick m (outcome (Answer.refused 7) out) (storedText (canonical c) out) .answer ≡ Answer.written n → Accepted c out
-    whole false w k q = fits (ltb 8192 (length (canonical c))) (ltb (length out) (length (canonical c))) refl refl k w q
+    whole false w k q = fits (ltb textLimit (length (canonical c))) (ltb (length out) (length (canonical c))) refl refl k w q
     whole true w k q = not-written q
 
     kinds : (x : Checked) → checkedOf keys c ≡ x → writtenBy x c out .answer ≡ Answer.written n → Accepted c out

@@ -11,6 +11,7 @@ use lib.Dec.{ltb, eqb, lit<}
 use borrow.Author.Tests.{le-ltb, le-leb, ltb-false}
 use Rattle.octets.specs.Choice.{pick, either}
 use Rattle.octets.specs.Outcome.{outcome}
+use Rattle.frames.specs.Stream.{textLimit}
 use Rattle.command.specs.Keys.{keys, kindAt}
 use Rattle.command.specs.Values.{Got, valueRead}
 use Rattle.command.specs.Fields.{Turn, textRead}
@@ -18,7 +19,7 @@ use Rattle.command.specs.Meaning as Meaning
 use Rattle.command.specs.Meaning.{Field, stored, once, meant, blank, bytesIn, Meaning, meaningOf}
 use Rattle.command.specs.Slots.{actionCode, slotsOf, commandOf, bytesAt, valuesOf}
 use Rattle.command.specs.Read as Read
-use Rattle.command.specs.Read.{Reader, storedFor, keptBy, kept, begun, Answer, readOf, meaningIn}
+use Rattle.command.specs.Read.{Reader, scratchRoom, storedFor, keptBy, kept, begun, Answer, readOf, meaningIn}
 use Rattle.command.specs.declared.Place.{Place}
 use Rattle.command.specs.declared.Slot.{Slot}
 use Rattle.command.specs.declared.Command.{Command}
@@ -32,20 +33,20 @@ module _ (t scratch : List ℕ) where
   -- bytes always have room, and each slot holds its field
   pub record Alike (at : ℕ) (s : Reader) (fs : List Field) : Type 0 where
     pub few : 4 * s .used ≤ 3 * at
-    pub fits : s .used ≤ 6144
+    pub fits : s .used ≤ scratchRoom
     pub size : length (s .scratch) ≡ length scratch
     pub each : Each (Holds t (s .scratch) (s .used)) keys (s .slots) fs
 
   alike-later : {a b : ℕ} {s : Reader} {fs : List Field} → a ≤ b → Alike a s fs → Alike b s fs
   alike-later h r = record { few = omega (arith, r .few); fits = r .fits; size = r .size; each = r .each }
 
-  module _ (enough : 6144 ≤ length scratch) (short : length t ≤ 8192) (n from at : ℕ) (v : List ℕ) (h : from ≤ at) (a : At t at v) where
+  module _ (enough : scratchRoom ≤ length scratch) (short : length t ≤ textLimit) (n from at : ℕ) (v : List ℕ) (h : from ≤ at) (a : At t at v) where
     kept-agree : {s : Reader} {fs : List Field} (g : Got) → Alike from s fs → Reads (kindAt keys n) v g
         → Agree (Alike (at + length v)) (keptBy (kindAt keys n) n at s g) (stored n fs g)
     kept-agree {s} {fs} (Got.got x) r d =
         let b = storedFor (kindAt keys n) x in
         let few : 4 * (s .used + length b) ≤ 3 * (at + length v) = omega (arith, r .few, stored-room d) in
-        let fits : s .used + length b ≤ 6144 = omega (arith, a .within) in
+        let fits : s .used + length b ≤ scratchRoom = omega (arith, a .within) in
         let room : s .used + length b ≤ length (s .scratch) = omega (arith, r .size) in
         on (record {
           few = few;
@@ -61,7 +62,7 @@ module _ (t scratch : List ℕ) where
     once-agree r g empty = g
     once-agree r g (full _ _ _ _ _ _ _) = off (alike-later (omega arith) r)
 
-  related : 6144 ≤ length scratch → Related t Alike kept meant
+  related : scratchRoom ≤ length scratch → Related t Alike kept meant
   unfolding kept
   related enough =
       record {
@@ -70,7 +71,7 @@ module _ (t scratch : List ℕ) where
             once-agree enough short n from at v h a r (kept-agree enough short n from at v h a (valueRead (kindAt keys n) v) r (reads (kindAt keys n) v)) (each-at n l (r .each));
       }
 
-  pub read-agree : 6144 ≤ length scratch → Agree (Alike (length t)) (textRead kept t (begun scratch)) (textRead meant t (blank keys))
+  pub read-agree : scratchRoom ≤ length scratch → Agree (Alike (length t)) (textRead kept t (begun scratch)) (textRead meant t (blank keys))
   read-agree enough =
       text-agree t (related enough) (record { few = omega arith; fits = omega arith; size = refl; each = each-blank (λ k. empty) keys })
 
@@ -91,7 +92,7 @@ complete-means t scratch c h = rw (bytes-length t (c .id) h) (go (either (eqb (a
     go true = refl
     go false = refl
 
-finished-means : {t scratch : List ℕ} {at : ℕ} {x : Turn Reader} {y : Turn (List Field)} → 6144 ≤ length scratch → Agree (Alike t scratch at) x y
+finished-means : {t scratch : List ℕ} {at : ℕ} {x : Turn Reader} {y : Turn (List Field)} → scratchRoom ≤ length scratch → Agree (Alike t scratch at) x y
     → meaningIn t (Read.finished x) ≡ Meaning.finished y
 unfolding commandOf
 finished-means {t} enough (on {s} r) =
@@ -100,20 +101,20 @@ finished-means {t} enough (on {s} r) =
 finished-means enough (off r) = refl
 
 -- of a text and a scratch of 6,144 bytes or more, the answer, with the text and the scratch afterwards, is what the text means
-pub read-means : (t scratch : List ℕ) → 6144 ≤ length scratch → meaningIn t (readOf t scratch) ≡ meaningOf t
+pub read-means : (t scratch : List ℕ) → scratchRoom ≤ length scratch → meaningIn t (readOf t scratch) ≡ meaningOf t
 unfolding readOf meaningOf
 read-means t scratch enough = rw (le-ltb _ _ enough) (finished-means enough (read-agree t scratch enough))
 
 -- the scratch keeps its length
 pub read-length : (t scratch : List ℕ) → length (readOf t scratch .buffer) ≡ length scratch
 unfolding readOf
-read-length t scratch = go (ltb (length scratch) 6144) refl
+read-length t scratch = go (ltb (length scratch) scratchRoom) refl
   where
     ends : {x : Turn Reader} {y : Turn (List Field)} → Agree (Alike t scratch (length t)) x y → length (Read.finished x .buffer) ≡ length scratch
     ends (on r) = r .size
     ends (off r) = r .size
 
-    go : (b : Bool) → ltb (length scratch) 6144 ≡ b
+    go : (b : Bool) → ltb (length scratch) scratchRoom ≡ b
         → length (pick b (outcome (Answer.refused 9) scratch) (Read.finished (textRead kept t (begun scratch))) .buffer) ≡ length scratch
     go true e = refl
     go false e = ends (read-agree t scratch (ltb-false _ _ e))

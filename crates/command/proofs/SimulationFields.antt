@@ -15,6 +15,7 @@ use Rattle.octets.specs.Slices.{startsWith}
 use Rattle.octets.specs.Split.{split, join}
 use Rattle.octets.proofs.Compare.{starts-sound}
 use Rattle.octets.proofs.Splits.{join-split}
+use Rattle.frames.specs.Stream.{textLimit}
 use Rattle.command.specs.Keys.{keys, numberOf}
 use Rattle.command.specs.Letters.{textByte}
 use Rattle.command.specs.Fields.{Turn, andThen, Step, isKey, equalsSign, keyOf, valueOf, fieldRead, fieldsRead, textRead}
@@ -64,7 +65,7 @@ pub data Agree {S S′ : Type 0} (R : S → S′ → Type 0) : Turn S → Turn S
 -- R is what holds of two states when the text before a place is read; it goes on holding, and the steps keep it
 pub record Related (t : List ℕ) {S S′ : Type 0} (R : ℕ → S → S′ → Type 0) (step : Step S) (step′ : Step S′) : Type 0 where
   pub later : {a b : ℕ} {s : S} {s′ : S′} → a ≤ b → R a s s′ → R b s s′
-  pub steps : (n from at : ℕ) (v : List ℕ) {s : S} {s′ : S′} → length t ≤ 8192 → n < length keys → from ≤ at → At t at v → R from s s′
+  pub steps : (n from at : ℕ) (v : List ℕ) {s : S} {s′ : S′} → length t ≤ textLimit → n < length keys → from ≤ at → At t at v → R from s s′
       → Agree (R (at + length v)) (step n at v s) (step′ n at v s′)
 
 module _ (t : List ℕ) {S S′ : Type 0} {R : ℕ → S → S′ → Type 0} {step : Step S} {step′ : Step S′} (related : Related t R step step′) where
@@ -77,7 +78,7 @@ module _ (t : List ℕ) {S S′ : Type 0} {R : ℕ → S → S′ → Type 0} {s
   agree-then h (on {s} {s′} r) then = then s s′ r
   agree-then h (off r) then = off (related .later h r)
 
-  field-agree : (from at : ℕ) (f : List ℕ) {s : S} {s′ : S′} → length t ≤ 8192 → from ≤ at → At t at f → R from s s′
+  field-agree : (from at : ℕ) (f : List ℕ) {s : S} {s′ : S′} → length t ≤ textLimit → from ≤ at → At t at f → R from s s′
       → Agree (R (at + length f)) (fieldRead step at f s) (fieldRead step′ at f s′)
   unfolding fieldRead
   field-agree from at f {s} {s′} short h a r = go (ltb (equalsSign f) (length f)) refl (isKey (keyOf f)) (ltb (numberOf keys (keyOf f)) (length keys)) refl
@@ -96,7 +97,7 @@ module _ (t : List ℕ) {S S′ : Type 0} {R : ℕ → S → S′ → Type 0} {s
           (related .steps (numberOf keys (keyOf f)) from (at + (equalsSign f + 1)) (valueOf f) short (ltb-true _ _ ez) (omega arith)
           (value-at t at f (equalsSign f + 1) k a) r)
 
-  fields-agree : (from at : ℕ) (fs : List (List ℕ)) {s : S} {s′ : S′} → length t ≤ 8192 → from ≤ at → from ≤ length t → Stand t at fs → R from s s′
+  fields-agree : (from at : ℕ) (fs : List (List ℕ)) {s : S} {s′ : S′} → length t ≤ textLimit → from ≤ at → from ≤ length t → Stand t at fs → R from s s′
       → Agree (R (length t)) (fieldsRead step at fs s) (fieldsRead step′ at fs s′)
   unfolding fieldsRead
   fields-agree from at [] short h l none r = on (related .later l r)
@@ -106,9 +107,9 @@ module _ (t : List ℕ) {S S′ : Type 0} {R : ℕ → S → S′ → Type 0} {s
 
   pub text-agree : {s : S} {s′ : S′} → R 0 s s′ → Agree (R (length t)) (textRead step t s) (textRead step′ t s′)
   unfolding textRead
-  text-agree {s} {s′} r = go (ltb 8192 (length t)) refl (every textByte t) (startsWith t (ascii "5113;")) refl
+  text-agree {s} {s′} r = go (ltb textLimit (length t)) refl (every textByte t) (startsWith t (ascii "5113;")) refl
     where
-      go : (x : Bool) → ltb 8192 (length t) ≡ x → (y z : Bool) → startsWith t (ascii "5113;") ≡ z
+      go : (x : Bool) → ltb textLimit (length t) ≡ x → (y z : Bool) → startsWith t (ascii "5113;") ≡ z
           → Agree (R (length t))
           (pick x (Turn.off 1 s) (pick y (pick z (fieldsRead step 5 (split 59 (drop 5 t)) s) (Turn.off 4 s)) (Turn.off 3 s)))
           (pick x (Turn.off 1 s′) (pick y (pick z (fieldsRead step′ 5 (split 59 (drop 5 t)) s′) (Turn.off 4 s′)) (Turn.off 3 s′)))

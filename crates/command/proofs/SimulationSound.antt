@@ -14,7 +14,7 @@ use Rattle.command.specs.Fields.{Turn, textRead}
 use Rattle.command.specs.Meaning.{Field}
 use Rattle.command.specs.Slots.{actionCode, commandOf}
 use Rattle.command.specs.Read as Read
-use Rattle.command.specs.Read.{Reader, kept, begun, Answer, readOf}
+use Rattle.command.specs.Read.{Reader, scratchRoom, kept, begun, Answer, readOf}
 use Rattle.command.specs.declared.Action.the-variants as Action
 use Rattle.command.specs.declared.Place.{Place}
 use Rattle.command.specs.declared.Command.{Command}
@@ -38,12 +38,12 @@ pub record Sound (t scratch : List ℕ) (c : Command) : Type 0 where
   pub file-id-in : Within (length t) (c .«file_id»)
   pub bypass-in : Within (length t) (c .bypass)
   pub parent-in : Within (length t) (c .parent)
-  pub name-in : Within 6144 (c .name)  -- decoded bytes in the scratch, which has room for them
-  pub status-in : Within 6144 (c .status)
-  pub payload-in : Within 6144 (c .payload)
-  pub room : 6144 ≤ length scratch
+  pub name-in : Within scratchRoom (c .name)  -- decoded bytes in the scratch, which has room for them
+  pub status-in : Within scratchRoom (c .status)
+  pub payload-in : Within scratchRoom (c .payload)
+  pub room : scratchRoom ≤ length scratch
 
-slots-sound : {t scratch : List ℕ} {at : ℕ} {s : Reader} {fs : List Field} → 6144 ≤ length scratch → Alike t scratch at s fs
+slots-sound : {t scratch : List ℕ} {at : ℕ} {s : Reader} {fs : List Field} → scratchRoom ≤ length scratch → Alike t scratch at s fs
     → (actionCode (commandOf (s .slots) .action) ≡ 0 → ⊥) → (commandOf (s .slots) .id .len ≡ 0 → ⊥) → Sound t scratch (commandOf (s .slots))
 unfolding commandOf split onto
 slots-sound enough r acts some =
@@ -71,7 +71,7 @@ slots-sound enough r acts some =
 not-read : {A : Type 0} {n : ℕ} {c : Command} → Answer.refused n ≡ Answer.read c → A
 not-read e = let z : _≡_ {A = ℕ} 0 1 = cc in absurd (omega arith)
 
-complete-sound : {t scratch : List ℕ} {at : ℕ} {s : Reader} {fs : List Field} (c : Command) → 6144 ≤ length scratch → Alike t scratch at s fs
+complete-sound : {t scratch : List ℕ} {at : ℕ} {s : Reader} {fs : List Field} (c : Command) → scratchRoom ≤ length scratch → Alike t scratch at s fs
     → Read.complete (commandOf (s .slots)) ≡ Answer.read c → Sound t scratch c
 complete-sound {t} {scratch} {at} {s} c enough r q = go (eqb (actionCode (commandOf (s .slots) .action)) 0) refl (eqb (commandOf (s .slots) .id .len) 0) refl q
   where
@@ -83,7 +83,7 @@ complete-sound {t} {scratch} {at} {s} c enough r q = go (eqb (actionCode (comman
         let z : commandOf (s .slots) ≡ c = cc in
         rw (← z) (slots-sound enough r (eqb-false _ _ ea) (eqb-false _ _ eb))
 
-finished-sound : {t scratch : List ℕ} {at : ℕ} {x : Turn Reader} {y : Turn (List Field)} (c : Command) → 6144 ≤ length scratch
+finished-sound : {t scratch : List ℕ} {at : ℕ} {x : Turn Reader} {y : Turn (List Field)} (c : Command) → scratchRoom ≤ length scratch
     → Agree (Alike t scratch at) x y → Read.finished x .answer ≡ Answer.read c → Sound t scratch c
 finished-sound c enough (on r) q = complete-sound c enough r q
 finished-sound c enough (off r) q = not-read q
@@ -91,11 +91,11 @@ finished-sound c enough (off r) q = not-read q
 -- every command that was read is so
 pub read-sound : (t scratch : List ℕ) (c : Command) → readOf t scratch .answer ≡ Answer.read c → Sound t scratch c
 unfolding readOf
-read-sound t scratch c q = go (ltb (length scratch) 6144) refl q
+read-sound t scratch c q = go (ltb (length scratch) scratchRoom) refl q
   where
-    go : (b : Bool) → ltb (length scratch) 6144 ≡ b
+    go : (b : Bool) → ltb (length scratch) scratchRoom ≡ b
         → pick b (outcome (Answer.refused 9) scratch) (Read.finished (textRead kept t (begun scratch))) .answer ≡ Answer.read c → Sound t scratch c
     go true e w = not-read w
     go false e w =
-        let enough : 6144 ≤ length scratch = ltb-false _ _ e in
+        let enough : scratchRoom ≤ length scratch = ltb-false _ _ e in
         finished-sound c enough (read-agree t scratch enough) w

@@ -10,6 +10,7 @@ use Rattle.octets.specs.Choice.{pick, both, every}
 use Rattle.octets.specs.Ascii.{ascii}
 use Rattle.octets.specs.Slices.{startsWith}
 use Rattle.octets.specs.Split.{split}
+use Rattle.frames.specs.Stream.{textLimit}
 use Rattle.command.specs.Keys.{keys, numberOf}
 use Rattle.command.specs.Letters.{keyByte, textByte}
 
@@ -61,7 +62,7 @@ fieldsRead step at (f ∷ fs) s = andThen (fieldRead step at f s) (λ s′. fiel
 -- "a text read by itself gives 1 if over 8,192 bytes, and 4, after 3, if not starting `5113;`"; "fields separated by `;`"
 unfoldable pub textRead : {S : Type 0} → Step S → List ℕ → S → Turn S
 textRead step t s =
-    pick (ltb 8192 (length t)) (Turn.off 1 s)
+    pick (ltb textLimit (length t)) (Turn.off 1 s)
     (pick (every textByte t)
     (pick (startsWith t (ascii "5113;")) (fieldsRead step 5 (split 59 (drop 5 t)) s) (Turn.off 4 s))
     (Turn.off 3 s))

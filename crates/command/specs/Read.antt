@@ -78,9 +78,13 @@ abbrev pub finished : Turn Reader → Outcome Answer
 finished (Turn.on s) = outcome (complete (commandOf (s .slots))) (s .scratch)
 finished (Turn.off r s) = outcome (Answer.refused r) (s .scratch)
 
+-- how many bytes a scratch has at least: three for each four of the longest text
+abbrev pub scratchRoom : ℕ
+scratchRoom = 6144
+
 -- 9 first: "scratch under 6,144 bytes"
 unfoldable pub readOf : List ℕ → List ℕ → Outcome Answer
-readOf t scratch = pick (ltb (length scratch) 6144) (outcome (Answer.refused 9) scratch) (finished (textRead kept t (begun scratch)))
+readOf t scratch = pick (ltb (length scratch) scratchRoom) (outcome (Answer.refused 9) scratch) (finished (textRead kept t (begun scratch)))
 
 -- the code's answer, its refusal by document 01's number
 abbrev pub answered : Reading → Answer

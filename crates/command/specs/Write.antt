@@ -6,6 +6,7 @@ use lib.Seq.{sets}
 use lib.Dec.{ltb}
 use Rattle.octets.specs.Choice.{pick, either}
 use Rattle.octets.specs.Outcome.{Outcome, outcome}
+use Rattle.frames.specs.Stream.{textLimit}
 use Rattle.command.specs.Keys.{Key, keys}
 use Rattle.command.specs.Values.{Value, Shown, shown}
 use Rattle.command.specs.Meaning.{missing}
@@ -39,7 +40,7 @@ pub data Answer : Type 0 where
 -- "9 exactly when its buffer is shorter than the text or the text would pass 8,192 bytes"
 abbrev pub storedText : List ℕ → List ℕ → Outcome Answer
 storedText t out =
-    pick (either (ltb 8192 (length t)) (ltb (length out) (length t)))
+    pick (either (ltb textLimit (length t)) (ltb (length out) (length t)))
     (outcome (Answer.refused 9) out)
     (outcome (Answer.written (length t)) (sets out 0 t))
 

@@ -60,6 +60,9 @@ pub struct Command {
 }
 
 impl Command {
+    // How many bytes a scratch has at least: three for each four of the longest text.
+    pub const SCRATCH_ROOM: usize = 6144;
+
     // Every field at what absent means.
     pub const NONE: Command = Command {
         action: Action::None,

@@ -7,8 +7,9 @@ ghost use lib.ListN.{length, take, drop};
 ghost use Rattle.octets.specs.Choice.{both};
 ghost use Rattle.octets.specs.Outcome.{outcome};
 ghost use Rattle.octets.specs.Split.{split};
+ghost use Rattle.frames.specs.Stream.{textLimit};
 ghost use Rattle.command.specs.Fields.{isKey, fieldRead, fieldsRead};
-ghost use Rattle.command.specs.Read.{answered, begun, finished, kept};
+ghost use Rattle.command.specs.Read.{answered, begun, finished, kept, scratchRoom};
 ghost use Rattle.command_reader.specs.States.{readerOf, turned};
 use crate::slots::complete;
 use crate::values;
@@ -42,7 +43,7 @@ pub struct Turn {
 
 // Reads the fields of a text that starts `5113;`, and puts the command together.
 pub(crate) fn read_fields(text: &[u8], scratch: &mut [u8]) -> Reading
-    requires { ⌜ (5 ≤ length (now text)) × (length (now text) ≤ 8192) × (6144 ≤ length (now scratch)) ⌝ }
+    requires { ⌜ (5 ≤ length (now text)) × (length (now text) ≤ textLimit) × (scratchRoom ≤ length (now scratch)) ⌝ }
     ensures { λ r. ⌜ outcome (answered r) (now (scratch .exit)) ≡ finished (fieldsRead kept 5 (split 59 (drop 5 (now (text .entry)))) (begun (now (scratch .entry)))) ⌝ }
 {
     let mut state = fresh();
@@ -76,7 +77,7 @@ fn fresh() -> State
             negative: false,
             magnitude: 0,
         },
-        place: Place { start: 0, len: 0 },
+        place: Place::NOWHERE,
     };
     State {
         slots: [free; 15],
@@ -86,7 +87,7 @@ fn fresh() -> State
 
 // Reads the field from place `at` up to `end`. An unknown key is ignored.
 fn field(state: State, text: &[u8], at: usize, end: usize, scratch: &mut [u8]) -> Turn
-    requires { ⌜ (at ≤ end) × (end ≤ length (now text)) × (length (now text) ≤ 8192) × (6144 ≤ length (now scratch)) × (4 * state .used ≤ 3 * at) ⌝ }
+    requires { ⌜ (at ≤ end) × (end ≤ length (now text)) × (length (now text) ≤ textLimit) × (scratchRoom ≤ length (now scratch)) × (4 * state .used ≤ 3 * at) ⌝ }
     ensures { λ r. ⌜ turned r (now (scratch .exit)) ≡ fieldRead kept at (take (end - at) (drop at (now (text .entry)))) (readerOf state (now (scratch .entry))) ⌝ }
 {
     let f = &text[at..end];

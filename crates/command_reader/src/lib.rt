@@ -10,20 +10,22 @@ mod words;
 ghost use mathlib.Core.Path.{_≡_};
 ghost use Rattle.octets.specs.Outcome.{outcome};
 ghost use Rattle.command.specs.Read.{answered, readOf};
+use command::Command;
 use command::Reading;
 use command::Refusal;
 use command::letters;
 use command::letters::Class;
+use frames::TEXT_LIMIT;
 
 // The command of a text, or why it has none. 9 comes first, and leaves the scratch as before; after
 // another refusal the scratch holds the values accepted before the refused field.
 pub fn read(text: &[u8], scratch: &mut [u8]) -> Reading
     ensures { λ r. ⌜ outcome (answered r) (now (scratch .exit)) ≡ readOf (now (text .entry)) (now (scratch .entry)) ⌝ }
 {
-    if scratch.len() < 6144 {
+    if scratch.len() < Command::SCRATCH_ROOM {
         return Reading::Refused(Refusal::ShortBuffer);
     }
-    if text.len() > 8192 {
+    if text.len() > TEXT_LIMIT {
         return Reading::Refused(Refusal::TextTooLong);
     }
     if !letters::all(Class::Text, text) {

@@ -30,7 +30,7 @@ pub(crate) fn numbered(n: Number) -> Slot
     Slot {
         stood: true,
         number: n,
-        place: Place { start: 0, len: 0 },
+        place: Place::NOWHERE,
     }
 }
 

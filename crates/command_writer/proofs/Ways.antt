@@ -11,6 +11,7 @@ use borrow.Author.Tests.{lt-ltb, ltb-false, leb-true}
 use Rattle.octets.specs.Choice.{pick, either}
 use Rattle.octets.specs.Outcome.{outcome}
 use Rattle.decimal.specs.declared.Number.{Number}
+use Rattle.frames.specs.Stream.{textLimit}
 use Rattle.command.specs.Keys.{Kind, keys}
 use Rattle.command.specs.Values.{Value, Shown, wordShown, shown}
 use Rattle.command.specs.Meaning.{bytesIn, missing}
@@ -50,12 +51,12 @@ word-there first ws n h e = go (n .negative) (ltb (n .magnitude - first) (length
     go false false q = let z : _≡_ {A = ℕ} 0 1 = cc in omega arith
 
 -- ---- lengths
--- lengths that are the same up to 8,193 are over the limit, or over another length, together
-over-same : (n m len : ℕ) → spare n ≡ spare m → either (ltb 8192 n) (ltb len n) ≡ either (ltb 8192 m) (ltb len m)
-over-same n m len s = go (decLt 8192 n)
+-- lengths that leave the same are over the limit, or over another length, together
+over-same : (n m len : ℕ) → spare n ≡ spare m → either (ltb textLimit n) (ltb len n) ≡ either (ltb textLimit m) (ltb len m)
+over-same n m len s = go (decLt textLimit n)
   where
-    go : Dec (8192 < n) → either (ltb 8192 n) (ltb len n) ≡ either (ltb 8192 m) (ltb len m)
-    go (yes h) = rw (lt-ltb 8192 n h, lt-ltb 8192 m (omega arith))
+    go : Dec (textLimit < n) → either (ltb textLimit n) (ltb len n) ≡ either (ltb textLimit m) (ltb len m)
+    go (yes h) = rw (lt-ltb textLimit n h, lt-ltb textLimit m (omega arith))
     go (no h) = let e : n ≡ m = omega arith in rw e
 
 -- ---- the answers
@@ -85,9 +86,9 @@ module _ (c : Command) (text scratch out : List ℕ) where
       canonical-is = canonical-pieces _ _ fine (λ e. word-there _ _ _ (either-false _ _ there .0) e)
 
       abbrev short : Bool
-      short = either (ltb 8192 n) (ltb (length out) n)
+      short = either (ltb textLimit n) (ltb (length out) n)
 
-      short-is : either (ltb 8192 (length (canonical vs))) (ltb (length out) (length (canonical vs))) ≡ short
+      short-is : either (ltb textLimit (length (canonical vs))) (ltb (length out) (length (canonical vs))) ≡ short
       short-is = rw canonical-is (sym (over-same n (length (whole vs)) (length out) size))
 
       pub refused-room : short ≡ true → outcome (Answer.refused 9) out ≡ writeOf vs out
@@ -98,8 +99,8 @@ module _ (c : Command) (text scratch out : List ℕ) where
           → outcome (answered r) after ≡ writeOf vs out
       unfolding writeOf
       written o r after (end, q, p) =
-          let u = either-false (ltb 8192 n) (ltb (length out) n) o in
-          let h = ltb-false 8192 n (u .0) in
+          let u = either-false (ltb textLimit n) (ltb (length out) n) o in
+          let h = ltb-false textLimit n (u .0) in
           let k = ltb-false (length out) n (u .1) in
           let i : end ≡ length (whole vs) = omega (arith, p .ends) in
           rw (q, i, p .stores (omega arith) (omega arith), fine, missing-is, there, short-is, o, canonical-is)

@@ -4,18 +4,19 @@ use mathlib.Core.Path.{_≡_}
 use mathlib.Core.List.{List}
 use lib.ListN.{length}
 use lib.Seq.{sets}
+use Rattle.frames.specs.Stream.{textLimit}
 use Rattle.command.specs.Write.{Checked, Answer, answered}
 use Rattle.command.specs.declared.Written.{Written}
 use Rattle.command.specs.declared.Written.the-variants as Written
 
--- what a length leaves of 8,193: every length over 8,192 leaves nothing
+-- what a length leaves of one byte more than a text may have: every length over that of a text leaves nothing
 abbrev pub spare : ℕ → ℕ
-spare n = 8193 - n
+spare n = (textLimit + 1) - n
 
--- t put at a place: where it ends, as far as 8,193 counts, and the buffer afterwards, if t fits and passes no 8,192
+-- t put at a place: where it ends, as far as that counts, and the buffer afterwards, if t fits and does not pass that length
 pub record Put (t out : List ℕ) (at end : ℕ) (after : List ℕ) : Type 0 where
   pub ends : spare end ≡ spare (at + length t)
-  pub stores : at + length t ≤ 8192 → at + length t ≤ length out → after ≡ sets out at t
+  pub stores : at + length t ≤ textLimit → at + length t ≤ length out → after ≡ sets out at t
 
 -- what is answered: where t ends, put at a place; or the fault, and then nothing is said of the buffer
 abbrev pub PutOr : Checked → List ℕ → List ℕ → ℕ → Written → List ℕ → Type 0

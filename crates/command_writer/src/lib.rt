@@ -13,6 +13,7 @@ ghost use lib.ListN.{length};
 ghost use lib.Dec.{ltb, eqb};
 ghost use Rattle.octets.specs.Choice.{either};
 ghost use Rattle.octets.specs.Outcome.{outcome};
+ghost use Rattle.frames.specs.Stream.{textLimit};
 ghost use Rattle.command.specs.Keys.{keys};
 ghost use Rattle.command.specs.Slots.{actionCode, valuesOf};
 ghost use Rattle.command.specs.Write.{Checked, checkedOf, answered, writeOf};
@@ -21,6 +22,7 @@ ghost use Rattle.command_writer.specs.Stores.{spare};
 use command::Command;
 use command::Refusal;
 use command::Written;
+use frames::TEXT_LIMIT;
 
 // Stores the canonical text of a command, whose places lie in text and scratch, at the start of out.
 // A refusal leaves out as before.
@@ -69,9 +71,9 @@ fn lacks(command: Command) -> bool
 
 // Whether a text of n bytes passes the limit, or a buffer of this length is shorter.
 fn no_room(n: usize, len: usize) -> bool
-    ensures { λ r. ⌜ r ≡ either (ltb 8192 n) (ltb len n) ⌝ }
+    ensures { λ r. ⌜ r ≡ either (ltb textLimit n) (ltb len n) ⌝ }
 {
-    if n > store::LIMIT {
+    if n > TEXT_LIMIT {
         return true;
     }
     n > len

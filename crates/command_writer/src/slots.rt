@@ -56,7 +56,7 @@ fn numbered(number: Number) -> Slot
     Slot {
         stood: true,
         number: number,
-        place: Place { start: 0, len: 0 },
+        place: Place::NOWHERE,
     }
 }
 

@@ -13,18 +13,16 @@ use crate::table::part;
 use command::Refusal;
 use command::Written;
 use decimal::Number;
-
-// "the text would pass 8,192 bytes"
-pub(crate) const LIMIT: usize = 8192;
+use frames::TEXT_LIMIT;
 
 // Where n bytes from place `at` on end, or any place over the limit.
 fn end_of(at: usize, n: usize) -> usize
     ensures { λ r. ⌜ spare r ≡ spare (at + n) ⌝ }
 {
-    if at > LIMIT {
+    if at > TEXT_LIMIT {
         return at;
     }
-    if n > LIMIT {
+    if n > TEXT_LIMIT {
         return n;
     }
     at + n
