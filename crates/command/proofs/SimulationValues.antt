@@ -1,10 +1,10 @@
 -- A value that was read and the slot that keeps it: what the slot's place and number give is the value, also after later stores.
 use Prim.Native.Nat.{ℕ, suc, _+_, _-_, _*_, _≤_, _<_, max}
-use mathlib.Core.Path.{_≡_, refl, _∙_, ap}
+use mathlib.Core.Path.{_≡_, refl, _∙_}
 use mathlib.Core.Bool.{Bool, true, false}
 use mathlib.Core.List.{List, [], _∷_}
 use native.Mathlib.Omega.{arith}
-use lib.ListN.{length, take, drop, set}
+use lib.ListN.{length, take, drop}
 use lib.Seq.{sets, take-append-seam}
 use lib.Dec.{ltb}
 use borrow.Author.Tests.{ltb-true, le-leb}

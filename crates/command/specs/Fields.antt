@@ -4,7 +4,7 @@ use Prim.Native.Nat.{ℕ, _+_}
 use mathlib.Core.Bool.{Bool}
 use mathlib.Core.List.{List, [], _∷_}
 use lib.ListN.{length, take, drop}
-use lib.Dec.{ltb, eqb}
+use lib.Dec.{ltb}
 use Rattle.bytes.specs.Bytes.{indexOf}
 use Rattle.octets.specs.Choice.{pick, both, every}
 use Rattle.octets.specs.Ascii.{ascii}

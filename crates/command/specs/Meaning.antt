@@ -1,6 +1,6 @@
 -- What a text means: the abstract reader, on lists alone. A command is the list of its values, one for each key in writing order.
 use Prim.Native.Nat.{ℕ}
-use mathlib.Core.Bool.{Bool, true, false}
+use mathlib.Core.Bool.{Bool}
 use mathlib.Core.List.{List, [], _∷_}
 use lib.ListN.{length, getD, set}
 use lib.Dec.{eqb}

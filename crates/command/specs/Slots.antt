@@ -1,6 +1,6 @@
 -- A command as it is kept: a slot for each key, in writing order, and the places of strings in the text and in the scratch.
 use Prim.Native.Nat.{ℕ, _+_}
-use mathlib.Core.Bool.{Bool, true, false}
+use mathlib.Core.Bool.{true, false}
 use mathlib.Core.List.{List, [], _∷_}
 use lib.ListN.{length, take, drop, getD}
 use lib.Dec.{leb, eqb}
