@@ -49,7 +49,7 @@ unfolding calm
 calm-text c e = both-test (textByte c) _ e .0
 
 -- ---- what is calm
-either-test : (t u : Bool) → either t u ≡ true → (t ≡ true) ⊎ (u ≡ true)
+pub either-test : (t u : Bool) → either t u ≡ true → (t ≡ true) ⊎ (u ≡ true)
 either-test true u e = inl refl
 either-test false u e = inr e
 

@@ -13,15 +13,11 @@ use Rattle.octets.proofs.Below.{both-test}
 use Rattle.command.specs.Keys.{Key, keys}
 use Rattle.command.specs.Letters.{keyByte}
 use Rattle.command.specs.Values.{Value, valueRead}
-use Rattle.command.specs.Fields.{Turn, fieldRead}
+use Rattle.command.specs.Fields.{fieldRead}
 use Rattle.command.specs.Meaning.{Field, stored, meant}
 use Rattle.command.proofs.Every.{every-cons}
 use Rattle.command.proofs.Calm.{calm, plain, key-plain}
 use Rattle.command.proofs.Table.{Named, key-letters}
-
--- a refusal is no state
-pub not-on : {S : Type 0} {r : ℕ} {x s : S} {A : Type 0} → Turn.off r x ≡ Turn.on s → A
-not-on e = let z : _≡_ {A = ℕ} 0 1 = cc in absurd (omega arith)
 
 -- the first `=` of a field stands after its key
 equals-sign : (a v : List ℕ) → every keyByte a ≡ true → indexOf 61 (a ++ 61 ∷ v) ≡ length a

@@ -1,49 +1,38 @@
 -- "A command that is written and read again is the same command, and canonical text that is read and written again is the same
 -- text."
 use Prim.Native.Nat.{ℕ, _≤_}
-use mathlib.Core.Path.{_≡_, refl, sym, _∙_, ap}
-use mathlib.Core.Bool.{true, false}
-use mathlib.Core.List.{List, [], _∷_}
+use mathlib.Core.Path.{_≡_, refl, sym}
+use mathlib.Core.Bool.{true}
+use mathlib.Core.List.{List, []}
 use native.Mathlib.Omega.{arith}
 use lib.ListN.{length, take, drop}
 use lib.Seq.{sets, sets-eq, take-append-seam}
+use borrow.Author.Tests.{le-ltb}
 use Rattle.octets.specs.Ascii.{ascii}
 use Rattle.octets.specs.Choice.{every}
 use Rattle.octets.specs.Outcome.{outcome}
 use Rattle.octets.specs.Slices.{startsWith}
 use Rattle.octets.specs.Split.{split, join}
 use Rattle.octets.proofs.Compare.{starts-append}
-use Rattle.octets.proofs.Splits.{join-split}
+use Rattle.frames.specs.Stream.{textLimit}
 use Rattle.command.specs.Keys.{keys}
 use Rattle.command.specs.Letters.{textByte}
 use Rattle.command.specs.Values.{Value}
-use Rattle.command.specs.Fields.{Turn, fieldsRead}
-use Rattle.command.specs.Meaning.{Field, blank, valuesIn, missing, Meaning, meaningOf}
-use Rattle.command.specs.Canonical.{fieldsOf, canonical, CanonicalText}
+use Rattle.command.specs.Fields.{textRead}
+use Rattle.command.specs.Meaning.{Meaning, meaningOf}
+use Rattle.command.specs.Canonical.{fieldsOf, canonical}
+use Rattle.command.specs.Grammar.{CanonicalText}
 use Rattle.command.specs.Write.{Answer, writeOf}
 use Rattle.command.proofs.Every.{every-append}
 use Rattle.command.proofs.Calm.{join-text, split-again}
 use Rattle.command.proofs.Table.{table}
+use Rattle.command.proofs.Fits.{Fits, canonical-fits, fits-canonical, fits-fields, taken-fits, fits-whole, some-field}
 use Rattle.command.proofs.WrittenFields.{ReadsAs, fields-read}
-use Rattle.command.proofs.ReadFields.{fields-again}
-use Rattle.command.proofs.ReadTexts.{text-fields, means}
-use Rattle.command.proofs.Taken.{read-taken}
 use Rattle.command.proofs.Accepted.{Accepted, accepted-writes, writes-accepted}
 
 -- ---- the canonical text of a command that the writer takes
--- it has a field
-some-field : (c : List Value) (fs : List (List ℕ)) → ReadsAs keys [] c fs → missing c ≡ false → (f : List ℕ) × (r : List (List ℕ)) × (fs ≡ f ∷ r)
-unfolding fieldsRead
-some-field c [] r m =
-    let e : Turn.on (blank keys) ≡ Turn.on (r .after) = r .reads 0 in
-    let q : blank keys ≡ r .after = cc in
-    let v : true ≡ false = ap (λ (s : List Field). missing (valuesIn keys s)) q ∙ ap missing (r .values) ∙ m in
-    let z : _≡_ {A = ℕ} 0 1 = cc in
-    absurd (omega arith)
-some-field c (f ∷ fs) r m = (f, fs, refl)
-
 -- it passes the tests before its fields, and divides into them again
-module _ (c : List Value) (r : ReadsAs keys [] c (fieldsOf keys c)) (m : missing c ≡ false) where
+module _ (c : List Value) (f : Fits keys c (fieldsOf keys c)) (r : ReadsAs keys [] c (fieldsOf keys c)) where
   canonical-bytes : every textByte (canonical c) ≡ true
   unfolding canonical every textByte
   canonical-bytes = every-append textByte (ascii "5113;") (join 59 (fieldsOf keys c)) refl (join-text (fieldsOf keys c) (r .quiet))
@@ -54,9 +43,8 @@ module _ (c : List Value) (r : ReadsAs keys [] c (fieldsOf keys c)) (m : missing
 
   canonical-fields : split 59 (drop 5 (canonical c)) ≡ fieldsOf keys c
   unfolding canonical
-  canonical-fields = let s = some-field c (fieldsOf keys c) r m in rw (s .2) (split-again (s .0) (s .1) (rw (s .2) at (r .quiet)))
+  canonical-fields = let s = some-field f in rw (s .2) (split-again (s .0) (s .1) (rw (s .2) at (r .quiet)))
 
--- ---- written, then read
 module _ (c : List Value) (out : List ℕ) (n : ℕ) (e : writeOf c out .answer ≡ Answer.written n) where
   -- the text of the length that was answered stands at the buffer's start
   pub written-text : (n ≡ length (canonical c)) × (take n (writeOf c out .buffer) ≡ canonical c)
@@ -68,49 +56,53 @@ module _ (c : List Value) (out : List ℕ) (n : ℕ) (e : writeOf c out .answer 
         rw (l, w, sets-eq (canonical c) out 0 (omega (arith, a .room))) (take-append-seam (canonical c) _),
       )
 
-  -- "The writer writes only this text": canonical text, by its grammar
+  -- it is canonical by its grammar
   pub writes-canonical : CanonicalText (canonical c)
   unfolding canonical
   writes-canonical =
       let a = writes-accepted c out n e in
-      let r = fields-read keys c [] 0 table refl (a .kinds) in
-      record { rest = join 59 (fieldsOf keys c); marked = refl; inOrder = rw (canonical-fields c r (a .whole)) (r .inOrder) }
+      record { fields = fieldsOf keys c; inOrder = fits-canonical (taken-fits c (a .kinds) (a .whole)); joined = refl; short = a .short }
 
-  -- "A command that is written and read again is the same command"
+  -- and reads as the command
   pub read-written : meaningOf (canonical c) ≡ Meaning.command c
-  unfolding meaningOf
+  unfolding meaningOf textRead
   read-written =
       let a = writes-accepted c out n e in
-      let r = fields-read keys c [] 0 table refl (a .kinds) in
+      let f = taken-fits c (a .kinds) (a .whole) in
+      let r = fields-read f [] 0 table refl in
       rw (
-        text-fields (canonical c) (a .short) (canonical-bytes c r (a .whole)) (canonical-marked c r (a .whole)),
-        canonical-fields c r (a .whole),
+        le-ltb textLimit (length (canonical c)) (a .short),
+        canonical-bytes c f r,
+        canonical-marked c f r,
+        canonical-fields c f r,
         r .reads 5,
         r .values,
         a .whole,
       )
 
-  -- read from the buffer
-  pub read-buffer : meaningOf (take n (writeOf c out .buffer)) ≡ Meaning.command c
-  read-buffer = rw (written-text .1) read-written
+-- ---- a canonical text is that of a command that the writer takes
+pub record Canonized (t : List ℕ) : Type 0 where
+  pub values : List Value
+  pub text : canonical values ≡ t
+  pub taken : (out : List ℕ) → length t ≤ length out → Accepted values out
 
--- ---- read, then written
--- "canonical text that is read and written again is the same text"
-pub written-read : (t : List ℕ) (c : List Value) → CanonicalText t → meaningOf t ≡ Meaning.command c → canonical c ≡ t
-unfolding canonical
-written-read t c h e =
-    let m = means t c e in
-    let d : drop 5 t ≡ h .rest = ap (drop 5) (h .marked) in
-    let a = fields-again (h .inOrder) [] (m .state) 0 5 table refl (rw d at (m .fields)) in
-    let v : fieldsOf keys c ≡ split 59 (h .rest) = rw (m .values, a .state) (a .written) in
-    rw (v, join-split 59 (h .rest)) (sym (h .marked))
+pub canonized : (t : List ℕ) → CanonicalText t → Canonized t
+canonized t h =
+    let g = canonical-fits (h .inOrder) in
+    let f = fits-fields (g .1) in
+    let w : canonical (g .0) ≡ t = unfold canonical in rw (f .0) (sym (h .joined)) in
+    record {
+      values = g .0;
+      text = w;
+      taken = λ (out : List ℕ) (l : length t ≤ length out).
+          record { kinds = f .1; whole = fits-whole (g .1); short = rw w (h .short); room = rw w l };
+    }
 
--- by the call, into a buffer that holds the text
-pub writes-again : (t : List ℕ) (c : List Value) (out : List ℕ) → CanonicalText t → meaningOf t ≡ Meaning.command c → length t ≤ length out
-    → writeOf c out ≡ outcome (Answer.written (length t)) (sets out 0 t)
-writes-again t c out h e l =
-    let m = means t c e in
-    let k = read-taken t c e in
-    let w = written-read t c h e in
-    let a : Accepted c out = record { kinds = k .0; whole = k .1; short = rw w (m .short); room = rw w l } in
-    rw w at (accepted-writes c out a)
+module _ {t : List ℕ} (z : Canonized t) where
+  canonized-writes : (out : List ℕ) → length t ≤ length out → writeOf (z .values) out ≡ outcome (Answer.written (length t)) (sets out 0 t)
+  canonized-writes out l = rw (z .text) at (accepted-writes (z .values) out (z .taken out l))
+
+  pub canonized-means : meaningOf t ≡ Meaning.command (z .values)
+  canonized-means =
+      let e : writeOf (z .values) t .answer ≡ Answer.written (length t) = rw (canonized-writes t (omega arith)) in
+      rw (z .text) at (read-written (z .values) t (length t) e)

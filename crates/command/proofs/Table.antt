@@ -1,6 +1,6 @@
 -- What the round trips need of the table of keys: each key is found by its name, and each kind's words are told apart. One test,
 -- which the checker computes of `keys`; no theorem names a key.
-use Prim.Native.Nat.{ℕ, zero, suc, _-_, _≤_, _<_}
+use Prim.Native.Nat.{ℕ, zero, suc, _≤_, _<_}
 use mathlib.Core.Path.{_≡_, refl, ap}
 use mathlib.Core.Bool.{Bool, true}
 use mathlib.Core.List.{List, [], _∷_}
@@ -22,32 +22,26 @@ use Rattle.command.proofs.Calm.{calm}
 unfoldable pub apart : List (List ℕ) → ℕ → Bool
 apart ws i = both (eqb (placeIn ws (getD ws i [])) i) (every calm (getD ws i []))
 
--- an alias stands for a word's code
-unfoldable pub aliased : ℕ → List (List ℕ) → Alias → Bool
-aliased first ws a = ltb (a .code - first) (length ws)
-
--- of a kind of words: codes count from 0 or 1, the words are told apart, the aliases stand for them
+-- of a kind of words: codes count from 0 or 1, and the words are told apart
 unfoldable pub fit : Kind → Bool
-fit (Kind.word first ws aliases) = both (leb first 1) (both (all (length ws) (apart ws)) (every (aliased first ws) aliases))
+fit (Kind.word first ws aliases) = both (leb first 1) (all (length ws) (apart ws))
 fit (Kind.safe short) = true
 fit Kind.integer = true
 fit Kind.base64 = true
 
 -- what the test says of one
-pub record Words (first : ℕ) (ws : List (List ℕ)) (aliases : List Alias) : Type 0 where
+pub record Words (first : ℕ) (ws : List (List ℕ)) : Type 0 where
   pub counted : first ≤ 1
   pub found : (i : ℕ) → i < length ws → placeIn ws (getD ws i []) ≡ i
   pub quiet : (i : ℕ) → i < length ws → every calm (getD ws i []) ≡ true
-  pub stand : every (aliased first ws) aliases ≡ true
 
-pub fit-words : (first : ℕ) (ws : List (List ℕ)) (aliases : List Alias) → fit (Kind.word first ws aliases) ≡ true → Words first ws aliases
+pub fit-words : (first : ℕ) (ws : List (List ℕ)) (aliases : List Alias) → fit (Kind.word first ws aliases) ≡ true → Words first ws
 unfolding fit apart
 fit-words first ws aliases e =
-    let a = both-test (leb first 1) (both (all (length ws) (apart ws)) (every (aliased first ws) aliases)) e in
-    let b = both-test (all (length ws) (apart ws)) (every (aliased first ws) aliases) (a .1) in
+    let a = both-test (leb first 1) (all (length ws) (apart ws)) e in
     let w : (i : ℕ) → i < length ws → (eqb (placeIn ws (getD ws i [])) i ≡ true) × (every calm (getD ws i []) ≡ true) =
-    λ i h. both-test _ _ (at (length ws) (apart ws) (b .0) i h) in
-    record { counted = leb-true first 1 (a .0); found = λ i h. eqb-true _ _ (w i h .0); quiet = λ i h. w i h .1; stand = b .1 }
+    λ i h. both-test _ _ (at (length ws) (apart ws) (a .1) i h) in
+    record { counted = leb-true first 1 (a .0); found = λ i h. eqb-true _ _ (w i h .0); quiet = λ i h. w i h .1 }
 
 -- of each key: its name finds its number and is a key's name, and its kind is fit
 unfoldable named : ℕ → List Key → Bool
@@ -55,7 +49,7 @@ named n [] = true
 named n (k ∷ ks) = both (eqb (numberOf keys (k .name)) n) (both (isKey (k .name)) (both (fit (k .kind)) (named (suc n) ks)))
 
 tested : named 0 keys ≡ true
-unfolding named fit aliased apart calm textByte every isKey keyByte placeIn equals split onto
+unfolding named fit apart calm textByte every isKey keyByte placeIn equals split onto
 tested = refl
 
 -- ---- what it says of each key
@@ -96,9 +90,3 @@ all-named n (k ∷ ks) e t =
 
 pub table : AllNamed 0 keys
 table = all-named 0 keys refl tested
-
--- a kind that is not there is an integer
-pub kind-fits : (ks : List Key) (n : ℕ) → AllNamed n ks → (i : ℕ) → fit (kindAt ks i) ≡ true
-kind-fits [] n t i = unfold fit in refl
-kind-fits (k ∷ ks) n t zero = t .0 .fits
-kind-fits (k ∷ ks) n t (suc i) = kind-fits ks (suc n) (t .1) i

@@ -1,4 +1,4 @@
--- A value and the text that it is written as, by kind: the text reads as the same value, is calm and is canonical.
+-- A value and the text that it is written as, by kind: the text reads as the same value, and is calm.
 use Prim.Native.Nat.{ℕ, _+_, _-_, _<_}
 use mathlib.Core.Path.{_≡_, refl, sym, _∙_, ap}
 use mathlib.Core.Bool.{Bool, true, false}
@@ -7,26 +7,19 @@ use native.Mathlib.Omega.{arith}
 use lib.ListN.{length, getD}
 use lib.Dec.{ltb, eqb}
 use borrow.Author.Tests.{eqb-true, eqb-false, ne-eqb, ltb-true, lt-ltb}
-use Rattle.octets.specs.Ascii.{ascii}
 use Rattle.octets.specs.Bytes.{Bytes}
 use Rattle.octets.specs.Choice.{pick, both, every}
-use Rattle.octets.specs.Slices.{startsWith}
 use Rattle.base64.specs.Decode.{bytesOf}
 use Rattle.base64.specs.Encode as Base64
 use Rattle.base64.proofs.Groups.{valid-groups}
 use Rattle.base64.proofs.RoundTrip.{paddingOf, valid-text, bytes-text}
-use Rattle.decimal.specs.Read.{parseOf, magnitudeOf, digitsOf, rangedOf}
 use Rattle.decimal.specs.Write as Decimal
 use Rattle.decimal.specs.declared.Number.{Number}
-use Rattle.decimal.specs.declared.Parsed.the-variants as Parsed
 use Rattle.decimal.proofs.RoundTrip as decimal
-use Rattle.decimal.proofs.Texts.{canonical-text}
 use Rattle.decimal.proofs.Writes.{writable-is}
 use Rattle.command.specs.Keys.{Alias, Kind, placeIn}
 use Rattle.command.specs.Letters.{safeByte, isByte}
 use Rattle.command.specs.Values.{Value, count, absent, Got, wordRead, over, safeRead, valueRead, Shown, textOr, wordShown, safeShown, integerShown, base64Shown, shown}
-use Rattle.command.specs.Canonical.{CanonicalValue}
-use Rattle.command.specs.Canonical as Grammar
 use Rattle.command.proofs.Every.{every-map, bytes-every, every-bytes}
 use Rattle.command.proofs.Calm.{calm, safe-calm, integer-calm, groups-calm}
 use Rattle.command.proofs.Table.{fit, Words, fit-words}
@@ -146,7 +139,7 @@ absent-shown Kind.base64 = refl
 
 -- ---- written, then read
 -- a word reads as its code
-pub word-reads : (first : ℕ) (ws : List (List ℕ)) (aliases : List Alias) → Words first ws aliases → (i : ℕ) (v : List ℕ) → i < length ws → getD ws i [] ≡ v
+word-reads : (first : ℕ) (ws : List (List ℕ)) (aliases : List Alias) → Words first ws → (i : ℕ) (v : List ℕ) → i < length ws → getD ws i [] ≡ v
     → wordRead first ws aliases v ≡ Got.got (Value.number (count (first + i)))
 unfolding wordRead
 word-reads first ws aliases f i v h e =
@@ -170,16 +163,3 @@ spelled-calm (word {first} {ws} {aliases} {n} s z i e) f = rw e at (fit-words fi
 spelled-calm (string {short} {x} {v} s l) f = every-map safeByte calm safe-calm (x ∷ v) s
 spelled-calm (integer {n} w z e) f = rw e at (integer-calm n)
 spelled-calm (base64 {b} h e) f = rw e at (groups-calm (valid-groups (Base64.textOf b) (paddingOf b) (valid-text b h)))
-
--- which is canonical: a number other than 0 is not written `0`
-zero-text : (n : Number) → Decimal.writable n ≡ true → Decimal.textOf n ≡ ascii "0" → n .magnitude ≡ 0
-unfolding parseOf startsWith magnitudeOf digitsOf rangedOf
-zero-text n w e = let p : Parsed.Integer (count 0) ≡ Parsed.Integer n = rw e at (decimal.read-written n w) in let q : count 0 ≡ n = cc in rw (← q)
-
-pub spelled-canonical : {k : Kind} {v : Value} {t : List ℕ} → Spelled k v t → fit k ≡ true → CanonicalValue k t
-spelled-canonical (word {first} {ws} {aliases} {n} s z i e) f =
-    Grammar.a-word (n .magnitude - first) i e (λ (q : first + (n .magnitude - first) ≡ 0). z (omega (arith, fit-words first ws aliases f .counted)))
-spelled-canonical (string s l) f = Grammar.a-string
-spelled-canonical (integer {n} {v} w z e) f =
-    Grammar.an-integer (rw e at (canonical-text n w)) (λ (q : v ≡ ascii "0"). z (zero-text n w (e ∙ q)))
-spelled-canonical (base64 h e) f = Grammar.a-base64

@@ -5,6 +5,7 @@ pub mod Values
 pub mod Fields
 pub mod Meaning
 pub mod Canonical
+pub mod Grammar
 pub mod Slots
 pub mod Read
 pub mod Write

@@ -1,0 +1,82 @@
+-- The canonical texts of values are exactly the texts that values of their kinds are written as.
+use Prim.Native.Nat.{ℕ, _+_, _-_, _≤_, _<_}
+use mathlib.Core.Path.{_≡_, refl, sym, _∙_, ap}
+use mathlib.Core.Bool.{Bool, true, false}
+use mathlib.Core.List.{List, [], _∷_}
+use native.Mathlib.Omega.{arith}
+use lib.ListN.{length, getD}
+use borrow.Author.Tests.{le-ltb, ltb-false}
+use Rattle.octets.specs.Ascii.{ascii}
+use Rattle.octets.specs.Choice.{every}
+use Rattle.octets.specs.Slices.{startsWith}
+use Rattle.base64.specs.Decode.{verdictOf, bytesOf}
+use Rattle.base64.specs.declared.Verdict.the-variants.{Valid}
+use Rattle.base64.proofs.Lengths.{bytes-below}
+use Rattle.base64.proofs.RoundTrip.{paddingOf, valid-text, text-bytes}
+use Rattle.decimal.specs.Canonical.{Canonical}
+use Rattle.decimal.specs.Read.{parseOf, magnitudeOf, digitsOf, rangedOf}
+use Rattle.decimal.specs.Write as Decimal
+use Rattle.decimal.specs.declared.Number.{Number}
+use Rattle.decimal.specs.declared.Parsed.the-variants.{Integer}
+use Rattle.decimal.proofs.RoundTrip as decimal
+use Rattle.decimal.proofs.Texts.{canonical-text}
+use Rattle.command.specs.Keys.{Alias, Kind}
+use Rattle.command.specs.Letters.{safeByte}
+use Rattle.command.specs.Values.{Value, count, over}
+use Rattle.command.specs.Grammar.{CanonicalValue, a-word, a-string, an-integer, a-base64}
+use Rattle.command.proofs.WrittenValues.{Spelled, writable-nought}
+use Rattle.command.proofs.WrittenValues as Spelled
+
+-- ---- a canonical text is what a value is written as
+-- a value that is written as t
+abbrev Spelling : Kind → List ℕ → Type 0
+Spelling k t = (x : Value) × Spelled k x t
+
+word-spelled : (first : ℕ) (ws : List (List ℕ)) (aliases : List Alias) (t : List ℕ) (i : ℕ) → i < length ws → getD ws i [] ≡ t
+    → (first + i ≡ 0 → ⊥) → Spelling (Kind.word first ws aliases) t
+word-spelled first ws aliases t i h w z =
+    let s : first + i - first ≡ i = omega arith in
+    let l : first + i - first < length ws = omega arith in
+    let g : getD ws (first + i - first) [] ≡ t = rw s w in
+    (Value.number (count (first + i)), Spelled.word refl z l g)
+
+not-over : (short : Bool) (t : List ℕ) → (short ≡ true → length t ≤ 32) → over short t ≡ false
+not-over true t h = le-ltb 32 (length t) (h refl)
+not-over false t h = refl
+
+string-spelled : (short : Bool) (t : List ℕ) → every safeByte t ≡ true → (short ≡ true → length t ≤ 32) → (t ≡ [] → ⊥)
+    → Spelling (Kind.safe short) t
+string-spelled short [] s l z = absurd (z refl)
+string-spelled short (x ∷ t) s l z = (Value.bytes (x ∷ t), Spelled.string s (not-over short (x ∷ t) l))
+
+integer-spelled : (t : List ℕ) (n : Number) → parseOf t ≡ Integer n → Canonical t → (t ≡ ascii "0" → ⊥) → Spelling Kind.integer t
+integer-spelled t n p c z =
+    let w = decimal.parse-writable t n p in
+    let e = decimal.written-read n c p in
+    let o : Decimal.textOf (count 0) ≡ ascii "0" = unfold Decimal.textOf Decimal.fixed Decimal.widthFrom in refl in
+    (Value.number n, Spelled.integer w (λ (q : n .magnitude ≡ 0). z (sym e ∙ ap Decimal.textOf (writable-nought n w q) ∙ o)) e)
+
+base64-spelled : (t : List ℕ) (padding : ℕ) → verdictOf t ≡ Valid padding → (t ≡ [] → ⊥) → Spelling Kind.base64 t
+base64-spelled [] padding d z = absurd (z refl)
+base64-spelled (x ∷ t) padding d z = (Value.bytes (bytesOf (x ∷ t)), Spelled.base64 (bytes-below (x ∷ t)) (text-bytes (x ∷ t) padding d))
+
+pub value-spelled : {k : Kind} {t : List ℕ} → CanonicalValue k t → Spelling k t
+value-spelled (a-word {first} {ws} {aliases} {v} i h w z) = word-spelled first ws aliases v i h w z
+value-spelled (a-string {short} {v} s l z) = string-spelled short v s l z
+value-spelled (an-integer {v} n p c z) = integer-spelled v n p c z
+value-spelled (a-base64 {v} padding d z) = base64-spelled v padding d z
+
+-- ---- what a value is written as is canonical
+-- a number other than 0 is not written `0`
+zero-text : (n : Number) → Decimal.writable n ≡ true → Decimal.textOf n ≡ ascii "0" → n .magnitude ≡ 0
+unfolding parseOf startsWith magnitudeOf digitsOf rangedOf
+zero-text n w e = let p : Integer (count 0) ≡ Integer n = rw e at (decimal.read-written n w) in let q : count 0 ≡ n = cc in rw (← q)
+
+pub spelled-canonical : {k : Kind} {v : Value} {t : List ℕ} → Spelled k v t → CanonicalValue k t
+spelled-canonical (Spelled.word {first} {ws} {aliases} {n} s z i e) =
+    a-word (n .magnitude - first) i e (λ (q : first + (n .magnitude - first) ≡ 0). z (omega arith))
+spelled-canonical (Spelled.string {short} {x} {v} s l) =
+    a-string {short = short} s (λ (q : short ≡ true). ltb-false 32 (length (x ∷ v)) (rw q at l)) (λ q. omega (arith, ap length q))
+spelled-canonical (Spelled.integer {n} {v} w z e) =
+    an-integer n (rw e at (decimal.read-written n w)) (rw e at (canonical-text n w)) (λ (q : v ≡ ascii "0"). z (zero-text n w (e ∙ q)))
+spelled-canonical (Spelled.base64 {b} h e) = a-base64 (paddingOf b) (rw e at (valid-text b h)) (λ q. omega (arith, ap length q))
