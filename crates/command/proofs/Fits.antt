@@ -13,7 +13,7 @@ use borrow.Author.Tests.{ne-eqb, eqb-true, eqb-false}
 use Rattle.octets.specs.Choice.{either}
 use Rattle.octets.specs.Slices.{equals}
 use Rattle.octets.proofs.Below.{at}
-use Rattle.command.specs.Keys.{Alias, Kind, Key, key, keys, kindAt}
+use Rattle.command.specs.Keys.{Alias, Kind, Key, key, keys, keyAt, kindAt}
 use Rattle.command.specs.Values.{Value, absent, Shown, shown}
 use Rattle.command.specs.Meaning.{numberIn, bytesIn, actionCode, idOf, missing}
 use Rattle.command.specs.Canonical.{field, fieldsOf}
@@ -32,6 +32,7 @@ pub data Fits : List Key → List Value → List (List ℕ) → Type 0 where
   with-text : {k : Key} {ks : List Key} {x : Value} {c : List Value} {fs : List (List ℕ)} (v : List ℕ)
       → Spelled (k .kind) x v → Fits ks c fs → Fits (k ∷ ks) (x ∷ c) ((k .name ++ 61 ∷ v) ∷ fs)
 
+-- a test does not hold and fail
 not-both : {A : Type 0} → true ≡ false → A
 not-both e = let z : _≡_ {A = ℕ} 0 1 = cc in absurd (omega arith)
 
@@ -56,10 +57,6 @@ unfolding fieldsOf checkedOf
 fits-fields none = (refl, refl)
 fits-fields (out {k} e n r) = let h = fits-fields r in (rw (e, absent-shown (k .kind)) (h .0), rw (e, absent-shown (k .kind)) (h .1))
 fits-fields (with-text v s r) = let h = fits-fields r in (rw (spelled-shown s, h .0), rw (spelled-shown s) (h .1))
-
--- the key with a number
-abbrev keyAt : List Key → ℕ → Key
-keyAt ks i = getD ks i (key "" Kind.integer)
 
 -- a key that must be there has more than what absent means
 abbrev Given : List Key → List Value → Type 0

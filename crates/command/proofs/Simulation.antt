@@ -12,7 +12,7 @@ use borrow.Author.Tests.{le-ltb, le-leb, ltb-false}
 use Rattle.octets.specs.Choice.{pick, either}
 use Rattle.octets.specs.Outcome.{outcome}
 use Rattle.frames.specs.Stream.{textLimit}
-use Rattle.command.specs.Keys.{keys, kindAt}
+use Rattle.command.specs.Keys.{keys, keyAt, kindAt}
 use Rattle.command.specs.Values.{Got, valueRead}
 use Rattle.command.specs.Fields.{Turn, textRead}
 use Rattle.command.specs.Meaning as Meaning
@@ -25,7 +25,7 @@ use Rattle.command.specs.declared.Slot.{Slot}
 use Rattle.command.specs.declared.Command.{Command}
 use Rattle.command.proofs.SimulationFields.{At, Agree, on, off, Related, text-agree}
 use Rattle.command.proofs.SimulationValues.{Reads, reads, stored-room, Holds, empty, full, holds-later, holds-new}
-use Rattle.command.proofs.SimulationSlots.{keyAt, Each, each-at, each-set, each-blank, each-map, string-slot, command-values}
+use Rattle.command.proofs.SimulationSlots.{Each, each-at, each-set, each-blank, each-map, string-slot, command-values}
 
 -- ---- the two readers, value by value
 module _ (t scratch : List ℕ) where

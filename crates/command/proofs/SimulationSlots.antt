@@ -9,17 +9,13 @@ use lib.Dec.{eqb, lit<}
 use borrow.Author.Tests.{ltb-false, eqb-true}
 use Rattle.octets.specs.Split.{onto, split}
 use Rattle.octets.proofs.Below
-use Rattle.command.specs.Keys.{Alias, Kind, Key, key, keys}
+use Rattle.command.specs.Keys.{Alias, Kind, Key, keys, keyAt}
 use Rattle.command.specs.Values.{Value, count}
 use Rattle.command.specs.Meaning.{Field, blank, valueIn, valuesIn}
 use Rattle.command.specs.Slots.{actionCode, actionOf, fileTypeCode, fileTypeOf, transmissionCode, transmissionOf, free, slotsOf, commandOf, valueAt, valuesAt, valuesOf}
 use Rattle.command.specs.Read.{frees}
 use Rattle.command.specs.declared.Slot.{Slot}
 use Rattle.command.proofs.SimulationValues.{codesEnd, as-word, as-string, as-bytes, Holds, empty, full, holds-value}
-
--- the key with a number
-abbrev pub keyAt : List Key → ℕ → Key
-keyAt ks n = getD ks n (key "" Kind.integer)
 
 -- ---- each key has one slot and one field, which H relates
 pub data Each (H : Key → Slot → Field → Type 0) : List Key → List Slot → List Field → Type 0 where

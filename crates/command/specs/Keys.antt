@@ -71,6 +71,9 @@ names (k ∷ ks) = k .name ∷ names ks
 abbrev pub numberOf : List Key → List ℕ → ℕ
 numberOf ks n = placeIn (names ks) n
 
--- the kind of the key with a number
+-- the key with a number, and its kind
+abbrev pub keyAt : List Key → ℕ → Key
+keyAt ks n = getD ks n (key "" integer)
+
 abbrev pub kindAt : List Key → ℕ → Kind
-kindAt ks n = getD ks n (key "" integer) .kind
+kindAt ks n = keyAt ks n .kind
