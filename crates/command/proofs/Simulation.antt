@@ -19,7 +19,7 @@ use Rattle.command.specs.Meaning as Meaning
 use Rattle.command.specs.Meaning.{Field, stored, once, meant, blank, bytesIn, Meaning, meaningOf}
 use Rattle.command.specs.Slots.{actionCode, slotsOf, commandOf, bytesAt, valuesOf}
 use Rattle.command.specs.Read as Read
-use Rattle.command.specs.Read.{Reader, scratchRoom, storedFor, keptBy, kept, begun, Answer, readOf, meaningIn}
+use Rattle.command.specs.Read.{Reader, scratchRoom, storedFor, keptBy, kept, begun, Answer, readOf, meaningIn, ReadMeans}
 use Rattle.command.specs.declared.Place.{Place}
 use Rattle.command.specs.declared.Slot.{Slot}
 use Rattle.command.specs.declared.Command.{Command}
@@ -100,8 +100,8 @@ finished-means {t} enough (on {s} r) =
     ∙ ap Meaning.complete (command-values t (s .scratch) (s .used) (omega (arith, r .fits, r .size)) (r .each))
 finished-means enough (off r) = refl
 
--- of a text and a scratch of 6,144 bytes or more, the answer, with the text and the scratch afterwards, is what the text means
-pub read-means : (t scratch : List ℕ) → scratchRoom ≤ length scratch → meaningIn t (readOf t scratch) ≡ meaningOf t
+-- of a text and a scratch that has room, the answer, with the text and the scratch afterwards, is what the text means
+pub read-means : ReadMeans
 unfolding readOf meaningOf
 read-means t scratch enough = rw (le-ltb _ _ enough) (finished-means enough (read-agree t scratch enough))
 

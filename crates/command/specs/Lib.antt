@@ -9,3 +9,4 @@ pub mod Grammar
 pub mod Slots
 pub mod Read
 pub mod Write
+pub mod RoundTrips

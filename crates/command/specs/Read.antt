@@ -1,6 +1,7 @@
 -- Reading a text into slots and the scratch: what `read` answers, and the scratch afterwards.
-use Prim.Native.Nat.{ℕ, _+_}
-use mathlib.Core.Bool.{Bool, true, false}
+use Prim.Native.Nat.{ℕ, _+_, _≤_}
+use mathlib.Core.Path.{_≡_}
+use mathlib.Core.Bool.{true}
 use mathlib.Core.List.{List, [], _∷_}
 use lib.ListN.{length, getD, set}
 use lib.Seq.{sets}
@@ -10,7 +11,7 @@ use Rattle.octets.specs.Outcome.{Outcome, outcome}
 use Rattle.command.specs.Keys.{Kind, Key, keys, kindAt}
 use Rattle.command.specs.Values.{Value, Got, valueRead}
 use Rattle.command.specs.Fields.{Turn, Step, textRead}
-use Rattle.command.specs.Meaning.{Meaning, numberIn, bytesIn}
+use Rattle.command.specs.Meaning.{Meaning, meaningOf, numberIn, bytesIn}
 use Rattle.command.specs.Slots.{refusalNumber, actionCode, free, commandOf, valuesOf}
 use Rattle.command.specs.declared.Place.{Place}
 use Rattle.command.specs.declared.Slot.{Slot}
@@ -98,3 +99,7 @@ meaningIn t o = go (o .answer)
     go : Answer → Meaning
     go (Answer.read c) = Meaning.command (valuesOf c t (o .buffer))
     go (Answer.refused r) = Meaning.refused r
+
+-- the reader with places is the abstract reader: of every text, refusals included
+abbrev pub ReadMeans : Type 0
+ReadMeans = (t scratch : List ℕ) → scratchRoom ≤ length scratch → meaningIn t (readOf t scratch) ≡ meaningOf t

@@ -9,7 +9,8 @@ mod words;
 
 ghost use mathlib.Core.Path.{_≡_};
 ghost use Rattle.octets.specs.Outcome.{outcome};
-ghost use Rattle.command.specs.Read.{answered, readOf};
+ghost use Rattle.command.specs.Read.{answered, readOf, ReadMeans};
+ghost use Rattle.command.specs.RoundTrips.{ReadThenWritten};
 use command::Command;
 use command::Reading;
 use command::Refusal;
@@ -18,9 +19,11 @@ use command::letters::Class;
 use frames::TEXT_LIMIT;
 
 // The command of a text, or why it has none. 9 comes first, and leaves the scratch as before; after
-// another refusal the scratch holds the values accepted before the refused field.
+// another refusal the scratch holds the values accepted before the refused field. What is read is what
+// the text means, and canonical text that is read and written again is the same text.
 pub fn read(text: &[u8], scratch: &mut [u8]) -> Reading
     ensures { λ r. ⌜ outcome (answered r) (now (scratch .exit)) ≡ readOf (now (text .entry)) (now (scratch .entry)) ⌝ }
+    ensures { λ _. ⌜ ReadMeans × ReadThenWritten ⌝ }
 {
     if scratch.len() < Command::SCRATCH_ROOM {
         return Reading::Refused(Refusal::ShortBuffer);

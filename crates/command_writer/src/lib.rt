@@ -17,6 +17,7 @@ ghost use Rattle.frames.specs.Stream.{textLimit};
 ghost use Rattle.command.specs.Keys.{keys};
 ghost use Rattle.command.specs.Slots.{actionCode, valuesOf};
 ghost use Rattle.command.specs.Write.{Checked, checkedOf, answered, writeOf};
+ghost use Rattle.command.specs.RoundTrips.{WrittenThenRead, WritesCanonical};
 ghost use Rattle.command_writer.specs.Pieces.{whole};
 ghost use Rattle.command_writer.specs.Stores.{spare};
 use command::Command;
@@ -25,9 +26,11 @@ use command::Written;
 use frames::TEXT_LIMIT;
 
 // Stores the canonical text of a command, whose places lie in text and scratch, at the start of out.
-// A refusal leaves out as before.
+// A refusal leaves out as before. What is written is exactly the canonical texts, and a command that is
+// written and read again is the same command.
 pub fn write<'a>(command: Command, text: &'a [u8], scratch: &'a [u8], out: &mut [u8]) -> Written
     ensures { λ r. ⌜ outcome (answered r) (now (out .exit)) ≡ writeOf (valuesOf command (now (text .entry)) (now (scratch .entry))) (now (out .entry)) ⌝ }
+    ensures { λ _. ⌜ WrittenThenRead × WritesCanonical ⌝ }
 {
     let mut empty = [0u8; 0];
     match fields::put_fields(command, text, scratch, &mut empty) {

@@ -5,25 +5,32 @@ use Rattle.octets.specs.Ascii.{ascii}
 use Rattle.octets.proofs.Compare.{starts-sound}
 use borrow.Author.Tests.{lt-ltb, le-ltb, not-true, not-false}
 use Rattle.command.specs.Fields.{textRead}
-use Rattle.command.specs.Read.{readOf}
+use Rattle.command.specs.Read.{readOf, ReadMeans}
+use Rattle.command.specs.RoundTrips.{ReadThenWritten}
+use Rattle.command.proofs.Simulation.{read-means}
+use Rattle.command.proofs.RoundTrip.{read-then-written}
 use borrow.Author.Needs.{needs}
 use Rattle.command_reader.proofs.read.Statement.{statement}
 use Rattle.command_reader.proofs.read.Tie as tie
 
+-- what the contract says of every text
+claims : ReadMeans × ReadThenWritten
+claims = (read-means, read-then-written)
+
 returns : tie.Need-returns
 unfolding readOf
-returns c = rw (lt-ltb _ _ (c .if1 .taken))
+returns c = (rw (lt-ltb _ _ (c .if1 .taken)), claims)
 
 returns-2 : tie.Need-returns-2
 unfolding readOf textRead
-returns-2 c = rw (le-ltb _ _ (c .before .if1 .left), lt-ltb _ _ (c .if2 .taken))
+returns-2 c = (rw (le-ltb _ _ (c .before .if1 .left), lt-ltb _ _ (c .if2 .taken)), claims)
 
 all-requires : tie.Need-all-requires
 all-requires c κs = search needs
 
 returns-3 : tie.Need-returns-3
 unfolding readOf textRead
-returns-3 c = rw (le-ltb _ _ (c .before .before .before .if1 .left), le-ltb _ _ (c .before .before .if2 .left), ← c .before .all .ensures, not-true (c .before .all .result) (c .if3 .taken))
+returns-3 c = (rw (le-ltb _ _ (c .before .before .before .if1 .left), le-ltb _ _ (c .before .before .if2 .left), ← c .before .all .ensures, not-true (c .before .all .result) (c .if3 .taken)), claims)
 
 slice-aggregate-starts-with : tie.Need-slice-aggregate-starts-with
 slice-aggregate-starts-with c = search needs
@@ -36,7 +43,7 @@ unfolding readOf textRead
 returns-4 c =
     let k = c .before .before .before in
     let l = k .before .before in
-    rw (le-ltb _ _ (l .before .if1 .left), le-ltb _ _ (l .if2 .left), ← k .before .all .ensures, not-false (k .before .all .result) (k .if3 .left), ← c .before .starts-with .ensures, not-true (c .before .starts-with .result) (c .if4 .taken))
+    (rw (le-ltb _ _ (l .before .if1 .left), le-ltb _ _ (l .if2 .left), ← k .before .all .ensures, not-false (k .before .all .result) (k .if3 .left), ← c .before .starts-with .ensures, not-true (c .before .starts-with .result) (c .if4 .taken)), claims)
 
 read-fields-requires : tie.Need-read-fields-requires
 read-fields-requires c κs =
@@ -51,9 +58,11 @@ unfolding readOf textRead
 returns-5 c =
     let m = c .before .before .before .before in
     let k = m .before .before .before in
-    let l = k .before .before in
-    rw (le-ltb _ _ (l .before .if1 .left), le-ltb _ _ (l .if2 .left), ← k .before .all .ensures, not-false (k .before .all .result) (k .if3 .left), ← m .before .starts-with .ensures, not-false (m .before .starts-with .result) (m .if4 .left))
-    (c .before .before .read-fields .ensures)
+    let l = k .before .before in (
+      rw (le-ltb _ _ (l .before .if1 .left), le-ltb _ _ (l .if2 .left), ← k .before .all .ensures, not-false (k .before .all .result) (k .if3 .left), ← m .before .starts-with .ensures, not-false (m .before .starts-with .result) (m .if4 .left))
+          (c .before .before .read-fields .ensures),
+      claims,
+    )
 
 pub read-spec : {M : Type 1} → statement M
 read-spec =

@@ -2,6 +2,8 @@ use native.Mathlib.Omega.{arith}
 use Rattle.command.specs.Keys.{keys}
 use Rattle.command.specs.Slots.{valuesOf}
 use Rattle.command.specs.Write.{checkedOf}
+use Rattle.command.specs.RoundTrips.{WrittenThenRead, WritesCanonical}
+use Rattle.command.proofs.RoundTrip.{written-then-read, writes-exactly}
 use Rattle.command_writer.proofs.Checks.{put-fine, put-fault}
 use Rattle.command_writer.proofs.Ways.{refused-fault}
 use borrow.Author.Needs.{needs}
@@ -28,13 +30,19 @@ enum-known-refusal c = search needs
 same-length : tie.Need-same-length
 same-length c = search needs
 
+-- what the contract says of every command
+claims : WrittenThenRead × WritesCanonical
+claims = (written-then-read, writes-exactly)
+
 returns : tie.Need-returns
-returns c = c .before .before .write-measured .ensures
+returns c = (c .before .before .write-measured .ensures, claims)
 
 returns-2 : tie.Need-returns-2
-returns-2 c = let a = c .before .before .before .before .before .before .before .before .before .args in
-    refused-fault (a .command) (a .text .now) (a .scratch .now) (a .out .now) _
-    (put-fault (checkedOf keys (valuesOf (a .command) (a .text .now) (a .scratch .now))) _ _ _ 0 (c .before .refusal .given .0 .0) (rw (c .before .refusal .given .1) at (c .before .before .before .before .put-fields .ensures)))
+returns-2 c = let a = c .before .before .before .before .before .before .before .before .before .args in (
+  refused-fault (a .command) (a .text .now) (a .scratch .now) (a .out .now) _
+      (put-fault (checkedOf keys (valuesOf (a .command) (a .text .now) (a .scratch .now))) _ _ _ 0 (c .before .refusal .given .0 .0) (rw (c .before .refusal .given .1) at (c .before .before .before .before .put-fields .ensures))),
+  claims,
+)
 
 pub write-spec : {M : Type 1} → statement M
 write-spec =

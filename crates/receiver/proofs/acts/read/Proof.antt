@@ -24,13 +24,13 @@ same-length : tie.Need-same-length
 same-length c = search needs
 
 returns : tie.Need-returns
-returns c = rw (← c .before .before .before .before .before .before .before .read .ensures, c .before .before .before .command .given .1, c .obey .ensures)
+returns c = rw (← c .before .before .before .before .before .before .before .read .ensures .0, c .before .before .before .command .given .1, c .obey .ensures)
 
 same-length-2 : tie.Need-same-length-2
 same-length-2 c = search needs
 
 returns-2 : tie.Need-returns-2
-returns-2 c = rw (← c .before .before .before .before .before .before .before .read .ensures, c .before .before .before .refusal .given .1, c .tell .ensures, c .before .number .ensures)
+returns-2 c = rw (← c .before .before .before .before .before .before .before .read .ensures .0, c .before .before .before .refusal .given .1, c .tell .ensures, c .before .number .ensures)
 
 pub read-spec : {M : Type 1} → statement M
 read-spec =
