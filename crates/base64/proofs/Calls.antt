@@ -1,20 +1,19 @@
--- The round trips of the calls, by their definitions: decoding what `encode` stored stores the bytes again, and encoding what
--- `decode` stored stores the text again.
-use Prim.Native.Nat.{ℕ, _+_, _*_, _/_, _≤_}
+-- The round trips of the calls: `decode` undoes `encode`, and `encode` undoes `decode`.
+use Prim.Native.Nat.{ℕ, _+_, _≤_}
 use mathlib.Core.Path.{_≡_, refl, ap}
 use mathlib.Core.Bool.{Bool, true, false}
 use mathlib.Core.List.{List}
 use native.Mathlib.Omega.{arith}
-use lib.ListN.{length, take, drop}
+use lib.ListN.{length}
 use lib.Seq.{sets}
 use lib.Dec.{leb}
 use borrow.Author.Tests.{le-leb, leb-true}
-use Rattle.octets.specs.Bytes.{Bytes}
 use Rattle.octets.specs.Outcome.{outcome}
 use Rattle.octets.specs.declared.Stored.the-variants as Stored
 use Rattle.octets.proofs.Stores.{part-stored}
 use Rattle.base64.specs.Decode.{verdictOf, bytesOf, decodeOf}
 use Rattle.base64.specs.Encode.{textOf, encodeOf}
+use Rattle.base64.specs.Claims.{EncodedDecodes, DecodedEncodes}
 use Rattle.base64.specs.declared.Verdict.{Verdict}
 use Rattle.base64.specs.declared.Verdict.the-variants as Verdict
 use Rattle.base64.specs.declared.Decoded.the-variants as Decoded
@@ -32,10 +31,7 @@ decode-room : (t out : List ℕ) (at k : ℕ) → verdictOf t ≡ Verdict.Valid 
 unfolding decodeOf
 decode-room t out at k e h = rw (e, le-leb _ _ h)
 
--- bytes encoded into a buffer with room, and that text decoded into a buffer with room
-pub encode-decode : (x out into : List ℕ) (at to : ℕ) → Bytes x → at + (length x + 2) / 3 * 4 ≤ length out → to + length x ≤ length into
-    → (encodeOf x out at .answer ≡ Stored.End (at + (length x + 2) / 3 * 4))
-    × (decodeOf (take ((length x + 2) / 3 * 4) (drop at (encodeOf x out at .buffer))) into to ≡ outcome (Decoded.Length (length x)) (sets into to x))
+pub encode-decode : EncodedDecodes
 encode-decode x out into at to b h k =
     let n = length-text x in
     let d = bytes-text x b in
@@ -45,7 +41,7 @@ encode-decode x out into at to b h k =
     )
 
 -- a text that decodes is valid, and its bytes had room
-pub decoded : (t out : List ℕ) (at n : ℕ) → decodeOf t out at .answer ≡ Decoded.Length n
+decoded : (t out : List ℕ) (at n : ℕ) → decodeOf t out at .answer ≡ Decoded.Length n
     → (k : ℕ) × (verdictOf t ≡ Verdict.Valid k) × (n ≡ length (bytesOf t)) × (at + length (bytesOf t) ≤ length out)
 unfolding decodeOf
 decoded t out at n e = go (verdictOf t) refl (leb (at + length (bytesOf t)) (length out)) refl
@@ -58,9 +54,7 @@ decoded t out at n e = go (verdictOf t) refl (leb (at + length (bytesOf t)) (len
     go (Verdict.Valid k) ev false eb = let z : _≡_ {A = ℕ} 0 1 = cc (rw (ev, eb) at e) in absurd (omega arith)
     go (Verdict.Invalid f) ev b eb = let z : _≡_ {A = ℕ} 0 1 = cc (rw ev at e) in absurd (omega arith)
 
--- a text that decodes, and its bytes encoded into a buffer with room
-pub decode-encode : (t out into : List ℕ) (at to n : ℕ) → decodeOf t out at .answer ≡ Decoded.Length n → to + length t ≤ length into
-    → encodeOf (take n (drop at (decodeOf t out at .buffer))) into to ≡ outcome (Stored.End (to + length t)) (sets into to t)
+pub decode-encode : DecodedEncodes
 decode-encode t out into at to n e h =
     let d = decoded t out at n e in
     let b = text-bytes t (d .0) (d .1) in

@@ -36,9 +36,9 @@ groups-scan p none = unfold scan in refl
 groups-scan p (full {a} {b} {c} {d} ha hb hc hd g) =
     scan-letter p a _ ha ∙ scan-letter _ b _ hb ∙ scan-letter _ c _ hc ∙ scan-letter _ d _ hd ∙ groups-scan (valueOf d) g
 groups-scan p (pad1 {a} {b} {c} ha hb hc z) =
-    scan-letter p a _ ha ∙ scan-letter _ b _ hb ∙ scan-letter _ c _ hc ∙ scan-pad _ _ ∙ (unfold ending in rw (eq-eqb _ _ z))
+    scan-letter p a _ ha ∙ scan-letter _ b _ hb ∙ scan-letter _ c _ hc ∙ scan-pad _ _ ∙ (unfold ending in rw z)
 groups-scan p (pad2 {a} {b} ha hb z) =
-    scan-letter p a _ ha ∙ scan-letter _ b _ hb ∙ scan-pad _ _ ∙ (unfold ending in rw (eq-eqb _ _ z))
+    scan-letter p a _ ha ∙ scan-letter _ b _ hb ∙ scan-pad _ _ ∙ (unfold ending in rw z)
 
 pub groups-length : {t : List ℕ} {k : ℕ} → Groups t k → length t % 4 ≡ 0
 groups-length none = refl

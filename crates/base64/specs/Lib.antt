@@ -2,3 +2,4 @@ pub mod Alphabet
 pub mod Decode
 pub mod Letters
 pub mod Encode
+pub mod Claims

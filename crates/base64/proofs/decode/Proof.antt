@@ -58,9 +58,10 @@ same-length c = search needs
 returns-2 : tie.Need-returns-2
 unfolding decodeOf
 returns-2 c =
-    let k = c .before .before .before .before .before .before in
-    let f = c .before .before .before .before .before .fits2 in
-    rw (valid k, size k, ← f .ensures, not-false (f .result) (c .before .before .before .before .if1 .left), c .before .before .fill .ensures)
+    let e = c .before .before .before .before in
+    let k = e .before .before in
+    let f = e .before .fits2 in
+    rw (valid k, size k, ← f .ensures, not-false (f .result) (e .if1 .left), c .before .before .fill .ensures .0)
 
 returns-3 : tie.Need-returns-3
 unfolding decodeOf

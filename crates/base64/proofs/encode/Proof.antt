@@ -39,8 +39,10 @@ same-length c = search needs
 returns-2 : tie.Need-returns-2
 unfolding encodeOf
 returns-2 c =
-    let f = c .before .before .before .before .before .fits2 in
-    rw (length-text (c .before .before .before .before .before .before .before .before .args .«data» .now), ← f .ensures, not-false (f .result) (c .before .before .before .before .if1 .left), c .before .before .fill .ensures)
+    let e = c .before .before .before .before in
+    let f = e .before .fits2 in
+    let d = e .before .before .before .before .args .«data» .now in
+    rw (length-text d, ← f .ensures, not-false (f .result) (e .if1 .left), c .before .before .fill .ensures .0)
 
 pub encode-spec : {M : Type 1} → statement M
 encode-spec =
