@@ -14,6 +14,7 @@ use borrow.Author.Tests.{le-ltb, ltb-false}
 use Rattle.octets.proofs.Stores.{sets-last}
 use Rattle.decimal.specs.Read.{digitsOf}
 use Rattle.decimal.specs.Write.{fixed}
+use Rattle.decimal.specs.Claims.{FixedReads, ReadsFixed}
 use Rattle.decimal.specs.declared.reader.Run.the-variants.{Value}
 use Rattle.decimal.proofs.Powers.{ten-pos}
 
@@ -43,8 +44,7 @@ unfolding digitsOf
 digits-cons a d r h =
     rw (le-ltb (d + 48) 48 (omega arith), le-ltb 57 (d + 48) (omega arith)) (ap (λ (k : ℕ). digitsOf (a * 10 + k) r) (omega arith))
 
--- the last w digits of n, after digits of value a, for every width
-pub read-fixed : (w a n : ℕ) → digitsOf a (fixed w n) ≡ Value (a * 10 ^ w + n % 10 ^ w)
+pub read-fixed : FixedReads
 unfolding fixed
 read-fixed zero a n = unfold digitsOf in ap Value (omega arith)
 read-fixed (suc w) a n =
@@ -62,8 +62,7 @@ digits-first a c r m e = go (ltb c 48) refl (ltb 57 c) refl
     go false ex true ey = let z : _≡_ {A = ℕ} 0 1 = cc (simp (ex, ey) at e) in absurd (omega arith)
     go false ex false ey = (ltb-false _ _ ex, ltb-false _ _ ey, simp (ex, ey) at e)
 
--- conversely, for every width, digits that read as m after the value a are the last digits of m, and a stands above them
-pub fixed-read : (ds : List ℕ) (a m : ℕ) → digitsOf a ds ≡ Value m → (m / 10 ^ length ds ≡ a) × (fixed (length ds) m ≡ ds)
+pub fixed-read : ReadsFixed
 unfolding fixed
 fixed-read [] a m e = unfold digitsOf in (let q : a ≡ m = cc in omega arith, refl)
 fixed-read (c ∷ r) a m e =

@@ -7,7 +7,7 @@ use native.Mathlib.Omega.{arith}
 use native.Mathlib.Nat.{mod-eq-of-lt}
 use lib.ListN.{length, drop}
 use lib.Dec.{ltb, eqb}
-use borrow.Author.Tests.{ne-eqb, le-ltb, eqb-true, ltb-false}
+use borrow.Author.Tests.{ne-eqb, le-ltb, le-leb, eqb-true, ltb-false}
 use Rattle.octets.specs.Choice.{pick, both}
 use Rattle.octets.specs.Slices.{startsWith}
 use Rattle.octets.specs.Ascii.{ascii}
@@ -16,6 +16,7 @@ use Rattle.decimal.specs.Read.{digitsOf, signed, rangedOf, digitsRanged,
 use Rattle.decimal.specs.Write.{fixed, widthFrom, widthOf, signedText, textOf, writable}
 use Rattle.decimal.specs.Canonical.{Canonical}
 use Rattle.decimal.specs.Canonical as C
+use Rattle.decimal.specs.Claims.{WrittenReads, ReadWrites}
 use Rattle.decimal.specs.declared.Number.{Number}
 use Rattle.decimal.specs.declared.reader.Run.{Run}
 use Rattle.decimal.specs.declared.reader.Run.the-variants.{Value, NotDigits}
@@ -23,7 +24,8 @@ use Rattle.decimal.specs.declared.Parsed.the-variants.{Integer, Malforme
 use Rattle.decimal.proofs.Powers.{ten-pos, above-some, above-none}
 use Rattle.decimal.proofs.Widths.{width-least, width-unique}
 use Rattle.decimal.proofs.Digits.{length-fixed, read-fixed, digits-first, fixed-read}
-use Rattle.decimal.proofs.Writes.{limit-lt, writable-is}
+use Rattle.decimal.proofs.Writes.{limit-lt, writable-is, write-stores}
+use Rattle.decimal.proofs.Texts.{canonical-text}
 
 -- ---- written, then read
 -- the digits of a magnitude within the limit
@@ -127,3 +129,10 @@ parse-writable t n e = go (startsWith t (ascii "-")) e
     go : (b : Bool) → pick b (magnitudeOf true (drop 1 t)) (magnitudeOf false t) ≡ Integer n → writable n ≡ true
     go true q = accepted true (drop 1 t) q
     go false q = accepted false t q
+
+-- ---- the claims
+pub written-reads : WrittenReads
+written-reads n out at w h = (write-stores n out at w ∙ rw (le-leb _ _ h), canonical-text n w, read-written n w)
+
+pub read-writes : ReadWrites
+read-writes t n e = (parse-writable t n e, λ k. written-read n k e)

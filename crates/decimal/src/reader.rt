@@ -3,6 +3,7 @@ ghost use mathlib.Core.Path.{_≡_};
 ghost use Prim.Native.Nat.{_≤_};
 ghost use lib.ListN.{length};
 ghost use Rattle.decimal.specs.Read.{digitsOf, magnitudeOf, rangedOf};
+ghost use Rattle.decimal.specs.Claims.{ReadsFixed, ReadWrites};
 use crate::Number;
 use crate::Parsed;
 
@@ -12,9 +13,11 @@ pub enum Run {
     NotDigits,
 }
 
-// The integer of this sign whose digits are the whole text.
+// The integer of this sign whose digits are the whole text. That what is read can be written again
+// stands here.
 pub(crate) fn magnitude(negative: bool, text: &[u8]) -> Parsed
     ensures { λ r. ⌜ r ≡ magnitudeOf negative (now (text .entry)) ⌝ }
+    ensures { λ _. ⌜ ReadWrites ⌝ }
 {
     if text.len() == 0 {
         return Parsed::Malformed;
@@ -60,6 +63,7 @@ fn ranged(negative: bool, m: u64) -> Parsed
 fn digits(text: &[u8]) -> Run
     requires { ⌜ length (now text) ≤ 19 ⌝ }
     ensures { λ r. ⌜ r ≡ digitsOf 0 (now (text .entry)) ⌝ }
+    ensures { λ _. ⌜ ReadsFixed ⌝ }
 {
     let mut value: u64 = 0;
     let mut i = 0;

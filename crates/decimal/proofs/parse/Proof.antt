@@ -36,14 +36,17 @@ magnitude-requires c κs = search needs
 
 returns : tie.Need-returns
 unfolding parseOf
-returns c = c .magnitude .ensures ∙ rw (part-rest (c .before .before .before .before .before .before .args .text .now) 1, ← c .before .before .before .starts-with .ensures, c .before .before .if1 .taken)
+returns c =
+    let e = c .before .before in
+    c .magnitude .ensures .0
+    ∙ rw (part-rest (e .before .before .before .before .args .text .now) 1, ← e .before .starts-with .ensures, e .if1 .taken)
 
 magnitude-requires-2 : tie.Need-magnitude-requires-2
 magnitude-requires-2 c κs = search needs
 
 returns-2 : tie.Need-returns-2
 unfolding parseOf
-returns-2 c = c .magnitude2 .ensures ∙ rw (← c .before .before .starts-with .ensures, c .before .if1 .left)
+returns-2 c = c .magnitude2 .ensures .0 ∙ rw (← c .before .before .starts-with .ensures, c .before .if1 .left)
 
 pub parse-spec : {M : Type 1} → statement M
 parse-spec =

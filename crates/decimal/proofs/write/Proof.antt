@@ -69,7 +69,7 @@ same-length c = search needs
 returns-5 : tie.Need-returns-5
 returns-5 c =
     let e = c .before .before .before .before in
-    rw (c .before .before .fill .ensures) (sym (stored (e .before) ∙ rw (not-false (e .before .fits2 .result) (e .if5 .left))))
+    rw (c .before .before .fill .ensures .0) (sym (stored (e .before) ∙ rw (not-false (e .before .fits2 .result) (e .if5 .left))))
 
 pub write-spec : {M : Type 1} → statement M
 write-spec =

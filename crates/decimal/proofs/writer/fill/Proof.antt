@@ -5,6 +5,7 @@ use lib.ListN.{length-set}
 use borrow.Author.Needs.{needs}
 use Rattle.decimal.specs.Write.{textOf}
 use Rattle.decimal.proofs.Digits.{length-fixed}
+use Rattle.decimal.proofs.RoundTrip.{written-reads}
 use Rattle.decimal.proofs.writer.fill.Statement.{statement}
 use Rattle.decimal.proofs.writer.fill.Tie as tie
 
@@ -33,14 +34,18 @@ same-length c = let a = c .before .before .before .before .before .before .befor
 
 returns : tie.Need-returns
 unfolding textOf
-returns c = rw (c .before .before .before .before .if1 .taken) (c .before .before .digits .ensures ∙ rw (c .before .before .before .before .before .width .ensures .0, add-one))
+returns c =
+    let e = c .before .before .before .before in
+    (rw (e .if1 .taken) (c .before .before .digits .ensures .0 ∙ rw (e .before .width .ensures .0, add-one)), written-reads)
 
 same-length-2 : tie.Need-same-length-2
 same-length-2 c = search needs
 
 returns-2 : tie.Need-returns-2
 unfolding textOf
-returns-2 c = rw (c .before .before .before .before .if1 .left) (c .before .before .digits2 .ensures ∙ rw (c .before .before .before .before .before .width .ensures .0))
+returns-2 c =
+    let e = c .before .before .before .before in
+    (rw (e .if1 .left) (c .before .before .digits2 .ensures .0 ∙ rw (e .before .width .ensures .0)), written-reads)
 
 pub fill-spec : {M : Type 1} → statement M
 fill-spec =
