@@ -5,7 +5,6 @@ ghost use lib.ListN.{length};
 ghost use Rattle.frames.specs.Stream.{textLimit};
 ghost use Rattle.frames.specs.Carry.{heldOf, reportedAt, carryOf};
 use crate::Framing;
-use crate::TEXT_LIMIT;
 use crate::size::least;
 use crate::size::less;
 use crate::step::Event;
@@ -50,7 +49,7 @@ fn reported_at(used: usize, n: usize) -> Held
     }
 }
 
-// Copies what the carry lacks of the first 8,192 bytes of the text of n bytes that ends at `end`.
+// Copies what the carry lacks of the text of n bytes that ends at `end`, up to the limit of a text.
 pub(crate) fn keep(piece: &[u8], carry: &mut [u8], end: usize, n: usize)
     requires { ⌜ end ≤ length (now piece) ⌝ }
     requires { ⌜ textLimit ≤ length (now carry) ⌝ }
@@ -58,12 +57,12 @@ pub(crate) fn keep(piece: &[u8], carry: &mut [u8], end: usize, n: usize)
 {
     if n <= end {
         let start = end - n;
-        let m = least(n, TEXT_LIMIT);
+        let m = least(n, Framing::TEXT_LIMIT);
         bytes::copy(&piece[start..start + m], carry);
     } else {
         let before = n - end;
-        if before < TEXT_LIMIT {
-            let m = least(end, TEXT_LIMIT - before);
+        if before < Framing::TEXT_LIMIT {
+            let m = least(end, Framing::TEXT_LIMIT - before);
             bytes::copy(&piece[..m], &mut carry[before..]);
         }
     }

@@ -21,9 +21,6 @@ use step::capped;
 use step::framing_after;
 use walk::walk_piece;
 
-// "A command text may have 8,192 bytes, the `5113;` included."
-pub const TEXT_LIMIT: usize = 8192;
-
 // What is known of the bytes before a piece: whether they end in a text that may be a command, with
 // the count of its bytes, and whether they end in a 1B. A text known not to be a command behaves as
 // plain bytes do.
@@ -33,6 +30,14 @@ pub enum Framing {
     Text(usize),
     TextEscape(usize),
 }
+
+impl Framing {
+    // "A command text may have 8,192 bytes, the `5113;` included." A carry has room for as many.
+    pub const TEXT_LIMIT: usize = 8192;
+}
+
+// The same, for crates that know of no framing.
+pub const TEXT_LIMIT: usize = Framing::TEXT_LIMIT;
 
 // What a call reports.
 pub enum Report {
@@ -59,7 +64,7 @@ pub struct Scanned {
 pub fn scan(framing: Framing, piece: &[u8], carry: &mut [u8]) -> Scanned
     ensures { λ r. ⌜ outcome r (now (carry .exit)) ≡ scanOf framing (now (piece .entry)) (now (carry .entry)) ⌝ }
 {
-    if carry.len() < TEXT_LIMIT {
+    if carry.len() < Framing::TEXT_LIMIT {
         return Scanned {
             consumed: 0,
             framing: framing,
@@ -111,7 +116,7 @@ fn report_of(event: Event, used: usize) -> Report
 {
     match event {
         Event::On(_) => Report::Nothing,
-        Event::Closed(n) => if n <= TEXT_LIMIT {
+        Event::Closed(n) => if n <= Framing::TEXT_LIMIT {
             place(used, n)
         } else {
             Report::TooLong

@@ -5,7 +5,6 @@ ghost use Rattle.frames.specs.Stream.{afterEscape};
 ghost use Rattle.frames.specs.Framings.{count, framingOf, cappedOf};
 ghost use Rattle.frames.specs.Steps.{inText, stepOf, framingAfter};
 use crate::Framing;
-use crate::TEXT_LIMIT;
 use crate::size::least;
 
 // The bytes go on, or a command text of so many bytes ends.
@@ -74,8 +73,8 @@ pub(crate) fn capped(f: Framing) -> Framing
     match f {
         Framing::Plain => Framing::Plain,
         Framing::Escape => Framing::Escape,
-        Framing::Text(n) => Framing::Text(least(n, TEXT_LIMIT + 1)),
-        Framing::TextEscape(n) => Framing::TextEscape(least(n, TEXT_LIMIT + 1)),
+        Framing::Text(n) => Framing::Text(least(n, Framing::TEXT_LIMIT + 1)),
+        Framing::TextEscape(n) => Framing::TextEscape(least(n, Framing::TEXT_LIMIT + 1)),
     }
 }
 
