@@ -1,17 +1,18 @@
 -- One call: what is refused, and how much is consumed.
-use Prim.Native.Nat.{ℕ, suc, _+_, _-_, _<_, _≤_, min}
-use mathlib.Core.Path.{_≡_, ap, sym, _∙_}
+use Prim.Native.Nat.{ℕ, zero, suc, _+_, _-_, _<_, _≤_, min}
+use mathlib.Core.Path.{_≡_, refl, ap, sym, _∙_}
 use mathlib.Core.List.{List, [], _∷_}
-use native.Mathlib.Nat.{add-zero, zero-add, le-trans}
+use native.Mathlib.Nat.{add-zero, zero-add}
 use native.Mathlib.Omega.{arith}
-use lib.ListN.{length}
+use lib.ListN.{length, take}
 use lib.Dec.{ltb, leb}
 use borrow.Author.Tests.{lt-ltb, le-ltb, ltb-false}
 use Rattle.octets.specs.Outcome.{Outcome, outcome}
 use Rattle.frames.specs.Stream.{textLimit}
 use Rattle.frames.specs.Framings.{cappedOf}
 use Rattle.frames.specs.Steps.{stepOf, after, walkFrom}
-use Rattle.frames.specs.Calls.{refusalNumber, reportOf, walkedCall, scanOf}
+use Rattle.frames.specs.Calls.{refusalNumber, reportOf, takenOf, scanOf}
+use Rattle.frames.specs.Claims.{Consumes, RefusesShort}
 use Rattle.frames.specs.declared.Framing.{Framing}
 use Rattle.frames.specs.declared.step.Event.{Event}
 use Rattle.frames.specs.declared.step.Event.the-variants.{On, Closed, Abandoned}
@@ -21,14 +22,8 @@ use Rattle.frames.specs.declared.Scanned.{Scanned}
 use Rattle.frames.proofs.Choices.{by-pick}
 use Rattle.frames.proofs.WalkLaws.{used-le}
 
--- ---- which calls are refused with 9, and what they change
-pub call-refused : (f : Framing) (xs c : List ℕ) → length c < textLimit
-    → (refusalNumber (scanOf f xs c .answer .report) ≡ 9)
-    × (scanOf f xs c ≡ outcome (record { consumed = 0; framing = f; report = Report.ShortCarry }) c)
-unfolding scanOf
-call-refused f xs c h = (rw (lt-ltb (length c) textLimit h), rw (lt-ltb (length c) textLimit h))
-
-pub call-taken : (f : Framing) (xs c : List ℕ) → textLimit ≤ length c → scanOf f xs c ≡ walkedCall (walkFrom (cappedOf f) 0 xs) xs c
+-- ---- which calls are refused with 9: none with room in the carry
+pub call-taken : (f : Framing) (xs c : List ℕ) → textLimit ≤ length c → scanOf f xs c ≡ takenOf f xs c
 unfolding scanOf
 call-taken f xs c h = rw (le-ltb (length c) textLimit h)
 
@@ -46,17 +41,33 @@ report-taken (Abandoned n g) u q = let z : _≡_ {A = ℕ} 0 1 = cc in omega ari
 pub call-report : (f : Framing) (xs c : List ℕ) → textLimit ≤ length c → scanOf f xs c .answer .report ≡ Report.ShortCarry → ⊥
 call-report f xs c h e = report-taken _ _ (rw (call-taken f xs c h) at e)
 
+-- the number 9 is that report's alone
+nine : (r : Report) → refusalNumber r ≡ 9 → r ≡ Report.ShortCarry
+nine Report.Nothing e = absurd (omega arith)
+nine (Report.InPiece start n) e = absurd (omega arith)
+nine (Report.InCarry n) e = absurd (omega arith)
+nine Report.TooLong e = absurd (omega arith)
+nine Report.Abandoned e = absurd (omega arith)
+nine Report.ShortCarry e = refl
+
+pub refuses-short : RefusesShort
+unfolding scanOf
+refuses-short f xs c = (
+  (λ h. rw (lt-ltb (length c) textLimit h) (refl, refl, refl, refl)),
+  (λ h e. call-report f xs c h (nine (scanOf f xs c .answer .report) e)),
+)
+
 -- a property of an outcome that both kinds of calls have
 pub by-call : (P : Outcome Scanned → Type 0) (f : Framing) (xs c : List ℕ)
     → P (outcome (record { consumed = 0; framing = f; report = Report.ShortCarry }) c)
-    → (textLimit ≤ length c → P (walkedCall (walkFrom (cappedOf f) 0 xs) xs c))
+    → (textLimit ≤ length c → P (takenOf f xs c))
     → P (scanOf f xs c)
 unfolding scanOf
 by-call P f xs c p q = by-pick P (ltb (length c) textLimit) (λ _. p) (λ e. q (ltb-false (length c) textLimit e))
 
 -- ---- how much is consumed
 pub consumed-le : (f : Framing) (xs c : List ℕ) → scanOf f xs c .answer .consumed ≤ length xs
-consumed-le f xs c = by-call (λ o. o .answer .consumed ≤ length xs) f xs c (omega arith) (λ _. le-trans (used-le (cappedOf f) 0 xs) (omega arith))
+consumed-le f xs c = by-call (λ o. o .answer .consumed ≤ length xs) f xs c (omega arith) (λ _. omega (arith, used-le (cappedOf f) 0 xs))
 
 -- as a caller of `scan` meets it
 pub consumed-within : {s : Scanned} {l : List ℕ} (f : Framing) (xs c : List ℕ) → outcome s l ≡ scanOf f xs c → s .consumed ≤ length xs
@@ -73,9 +84,6 @@ used-some f i (b ∷ xs) = by (stepOf f b) (λ g. used-some g (i + 1) xs)
     by (On g) h = omega (arith, h g)
     by (Closed n) h = omega arith
     by (Abandoned n g) h = omega arith
-
-pub consumed-some : (f : Framing) (xs c : List ℕ) → textLimit ≤ length c → 0 < length xs → 0 < scanOf f xs c .answer .consumed
-consumed-some f xs c h l = rw (call-taken f xs c h) (omega (arith, used-some (cappedOf f) 0 xs))
 
 -- with nothing to report, all of the piece
 report-some : (n u : ℕ) → reportOf (Closed n) u ≡ Report.Nothing → ⊥
@@ -101,8 +109,26 @@ used-all f i (b ∷ xs) e = by (stepOf f b) (λ g. used-all g (i + 1) xs) e
     by (Closed n) h q = absurd (report-some n (i + 1) q)
     by (Abandoned n g) h q = let z : _≡_ {A = ℕ} 0 1 = cc in absurd (omega arith)
 
-pub consumed-all : (f : Framing) (xs c : List ℕ) → scanOf f xs c .answer .report ≡ Report.Nothing → scanOf f xs c .answer .consumed ≡ length xs
-consumed-all f xs c =
-    by-call (λ o. o .answer .report ≡ Report.Nothing → o .answer .consumed ≡ length xs) f xs c
-    (λ e. let z : _≡_ {A = ℕ} 0 1 = cc in absurd (omega arith))
-    (λ _ e. used-all (cappedOf f) 0 xs e ∙ zero-add (length xs))
+-- fewer bytes report nothing
+used-first : (f : Framing) (i k u : ℕ) (xs : List ℕ) → i + k < walkFrom f i xs .used
+    → reportOf (walkFrom f i (take k xs) .event) u ≡ Report.Nothing
+unfolding walkFrom reportOf
+used-first f i zero u xs h = refl
+used-first f i (suc k) u [] h = refl
+used-first f i (suc k) u (b ∷ xs) h = by (stepOf f b) (λ g. used-first g (i + 1) k u xs) h
+  where
+    by : (r : Event)
+        → ((g : Framing) → (i + 1) + k < walkFrom g (i + 1) xs .used → reportOf (walkFrom g (i + 1) (take k xs) .event) u ≡ Report.Nothing)
+        → i + suc k < after r (i + 1) (λ (g : Framing). walkFrom g (i + 1) xs) .used
+        → reportOf (after r (i + 1) (λ (g : Framing). walkFrom g (i + 1) (take k xs)) .event) u ≡ Report.Nothing
+    by (On g) q l = q g (omega (arith, l))
+    by (Closed n) q l = absurd (omega arith)
+    by (Abandoned n g) q l = absurd (omega arith)
+
+pub consumes : Consumes
+consumes f xs c h =
+    rw (call-taken f xs c h) (
+      (λ k l. rw (call-taken f (take k xs) c h) (used-first (cappedOf f) 0 k _ xs (omega (arith, l)))),
+      (λ e. used-all (cappedOf f) 0 xs e ∙ zero-add (length xs)),
+      (λ l. omega (arith, used-some (cappedOf f) 0 xs)),
+    )

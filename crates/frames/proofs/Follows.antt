@@ -10,6 +10,7 @@ use Rattle.frames.specs.Framings.{mayBeCommand, cappedOf, framingOf}
 use Rattle.frames.specs.Steps.{framingAfter, walkFrom}
 use Rattle.frames.specs.Calls.{scanOf}
 use Rattle.frames.specs.Follows.{Follows, consumedBy, toldBy, Calls}
+use Rattle.frames.specs.Claims.{TellsTheStream}
 use Rattle.frames.specs.declared.Framing.{Framing}
 use Rattle.frames.specs.declared.Framing.the-variants.{Plain, Text, TextEscape}
 use Rattle.frames.proofs.Choices.{by-pick}
@@ -38,7 +39,8 @@ mode-capped (Mode.insideEscape t) = by-pick (λ (f : Framing). cappedOf f ≡ f)
 call-capped : (f : Framing) (xs c : List ℕ) → cappedOf f ≡ f → cappedOf (scanOf f xs c .answer .framing) ≡ scanOf f xs c .answer .framing
 call-capped f xs c e = by-call (λ o. cappedOf (o .answer .framing) ≡ o .answer .framing) f xs c e (λ _. cap-cap (framingAfter (walkFrom (cappedOf f) 0 xs .event)))
 
-pub calls-capped : {f : Framing} {c bs : List ℕ} {ts : List Told} {f′ : Framing} {c′ : List ℕ} → Calls f c bs ts f′ c′ → cappedOf f ≡ f → cappedOf f′ ≡ f′
+calls-capped : {f : Framing} {c bs : List ℕ} {ts : List Told} {f′ : Framing} {c′ : List ℕ}
+    → Calls f c bs ts f′ c′ → cappedOf f ≡ f → cappedOf f′ ≡ f′
 calls-capped Calls.none e = e
 calls-capped (Calls.call f c xs rest) e = calls-capped rest (call-capped f xs c e)
 
@@ -63,6 +65,9 @@ pub call-follows : {f : Framing} {c : List ℕ} {m : Mode} (xs : List ℕ) → F
     × Follows (scanOf f xs c .answer .framing) (scanOf f xs c .buffer) (stream m (consumedBy (scanOf f xs c) xs) .1)
 call-follows {f} {c} xs w = runs-follow (consumedBy (scanOf f xs c) xs) w (call-capped f xs c (follows-capped w)) (call-runs f c xs)
 
-pub calls-follow : {f : Framing} {c bs : List ℕ} {m : Mode} {ts : List Told} {f′ : Framing} {c′ : List ℕ}
-    → Calls f c bs ts f′ c′ → Follows f c m → (stream m bs .0 ≡ ts) × Follows f′ c′ (stream m bs .1)
-calls-follow {f} {c} {bs} cs w = runs-follow bs w (calls-capped cs (follows-capped w)) (calls-run cs)
+-- so from a plain framing they tell the stream
+pub tells-the-stream : TellsTheStream
+tells-the-stream c bs ts f′ c′ cs =
+    let w = fresh-follows c in
+    let r = runs-follow bs w (calls-capped cs (follows-capped w)) (calls-run cs) in
+    (sym (r .0), r .1)

@@ -46,12 +46,15 @@ walkedCall w xs c =
     let h = heldOf (w .event) (w .used) in
     outcome (scannedOf w) (carryOf c xs (h .end) (h .count))
 
+abbrev pub takenOf : Framing → List ℕ → List ℕ → Outcome Scanned
+takenOf f xs c = walkedCall (walkFrom (cappedOf f) 0 xs) xs c
+
 -- one call on the piece xs with the carry c. Refusal 9: "nothing consumed, all memory as before".
 unfoldable pub scanOf : Framing → List ℕ → List ℕ → Outcome Scanned
 scanOf f xs c =
     pick (ltb (length c) textLimit)
     (outcome (record { consumed = 0; framing = f; report = Report.ShortCarry }) c)
-    (walkedCall (walkFrom (cappedOf f) 0 xs) xs c)
+    (takenOf f xs c)
 
 -- the n bytes from place `start` on; "where the report's place passes the end of that buffer, it is empty"
 abbrev pub partOf : List ℕ → ℕ → ℕ → List ℕ

@@ -5,3 +5,4 @@ pub mod Carry
 pub mod Calls
 pub mod Glides
 pub mod Follows
+pub mod Claims

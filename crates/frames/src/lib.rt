@@ -11,8 +11,12 @@ mod step;
 mod walk;
 
 ghost use mathlib.Core.Path.{_≡_};
+ghost use Prim.Native.Nat.{_≤_};
+ghost use lib.ListN.{length};
 ghost use Rattle.octets.specs.Outcome.{outcome};
-ghost use Rattle.frames.specs.Calls.{placeOf, reportOf, scanOf, partOf, textOf};
+ghost use Rattle.frames.specs.Stream.{textLimit};
+ghost use Rattle.frames.specs.Calls.{placeOf, reportOf, takenOf, scanOf, partOf, textOf};
+ghost use Rattle.frames.specs.Claims.{TellsTheStream, SameHoweverCut, Consumes, RefusesShort};
 use carry::held_of;
 use carry::keep;
 use size::less;
@@ -71,6 +75,16 @@ pub fn scan(framing: Framing, piece: &[u8], carry: &mut [u8]) -> Scanned
             report: Report::ShortCarry,
         };
     }
+    taken(framing, piece, carry)
+}
+
+// A scan that is not refused. What holds of every list of scans stands here: that they tell what the
+// stream of their bytes tells, however it is cut, that they come to an end, and which are refused.
+fn taken(framing: Framing, piece: &[u8], carry: &mut [u8]) -> Scanned
+    requires { ⌜ textLimit ≤ length (now carry) ⌝ }
+    ensures { λ r. ⌜ outcome r (now (carry .exit)) ≡ takenOf framing (now (piece .entry)) (now (carry .entry)) ⌝ }
+    ensures { λ _. ⌜ TellsTheStream × SameHoweverCut × Consumes × RefusesShort ⌝ }
+{
     let w = walk_piece(framing, piece);
     let used = w.used;
     let event = w.event;
