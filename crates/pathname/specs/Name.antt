@@ -11,13 +11,21 @@ use Rattle.octets.specs.Slices.{equals, startsWith, lacks}
 use Rattle.octets.specs.Split.{split}
 use Rattle.pathname.specs.Utf8.{utf8}
 
+-- "1 to 4,096 bytes"
+abbrev pub nameLimit : ℕ
+nameLimit = 4096
+
+-- "each component .. at most 255 bytes"
+abbrev pub componentLimit : ℕ
+componentLimit = 255
+
 -- "begins with `/` or `~/`"
 unfoldable pub rooted : List ℕ → Bool
 rooted n = either (startsWith n (ascii "/")) (startsWith n (ascii "~/"))
 
 -- "at most 255 bytes and not `..`"
 unfoldable pub validComponent : List ℕ → Bool
-validComponent c = both (leb (length c) 255) (not (equals c (ascii "..")))
+validComponent c = both (leb (length c) componentLimit) (not (equals c (ascii "..")))
 
 -- "each component (between slashes, may be empty)"
 unfoldable pub validComponents : List ℕ → Bool
@@ -26,7 +34,7 @@ validComponents n = every validComponent (split 47 n)
 unfoldable pub validName : List ℕ → Bool
 validName n =
     both (leb 1 (length n))
-    (both (leb (length n) 4096)
+    (both (leb (length n) nameLimit)
     (both (utf8 n)
     (both (lacks 0 n)
     (both (rooted n)

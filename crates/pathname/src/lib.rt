@@ -7,6 +7,12 @@ ghost use mathlib.Core.Path.{_≡_};
 ghost use Prim.Native.Nat.{_+_, _-_};
 ghost use Rattle.pathname.specs.Name.{validName, validComponents, validComponent, rooted};
 
+// "1 to 4,096 bytes"
+pub const NAME_LIMIT: usize = 4096;
+
+// "each component .. at most 255 bytes"
+pub const COMPONENT_LIMIT: usize = 255;
+
 // Whether the bytes are a good name.
 pub fn is_valid(name: &[u8]) -> bool
     ensures { λ r. ⌜ r ≡ validName (now (name .entry)) ⌝ }
@@ -14,7 +20,7 @@ pub fn is_valid(name: &[u8]) -> bool
     if name.len() == 0 {
         return false;
     }
-    if name.len() > 4096 {
+    if name.len() > NAME_LIMIT {
         return false;
     }
     if !utf8::is_valid(name) {
@@ -57,7 +63,7 @@ fn has_valid_components(name: &[u8]) -> bool
 fn is_valid_component(component: &[u8]) -> bool
     ensures { λ r. ⌜ r ≡ validComponent (now (component .entry)) ⌝ }
 {
-    if component.len() > 255 {
+    if component.len() > COMPONENT_LIMIT {
         return false;
     }
     !octets::equal(component, b"..")

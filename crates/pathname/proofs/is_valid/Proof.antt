@@ -7,14 +7,16 @@ use Rattle.bytes.specs.Bytes.{indexOf}
 use Rattle.octets.specs.Choice.{both}
 use Rattle.octets.specs.Slices.{lacks}
 use Rattle.pathname.specs.Utf8.{utf8}
-use Rattle.pathname.specs.Name.{rooted, validComponents, validName}
+use Rattle.pathname.specs.Name.{nameLimit, rooted, validComponents, validName}
 use Rattle.pathname.proofs.is_valid.Statement.{statement}
 use Rattle.pathname.proofs.is_valid.Tie as tie
 
 -- what each test leaves of the rule: the length
 sized : (c : tie.Else2) → let n = c .before .before .before .args .name .now in validName n ≡ both (utf8 n) (both (lacks 0 n) (both (rooted n) (validComponents n)))
 unfolding validName
-sized c = let n = c .before .before .before .args .name .now in rw (le-leb 1 (length n) (omega arith), le-leb (length n) 4096 (omega arith))
+sized c =
+    let n = c .before .before .before .args .name .now in
+    rw (le-leb 1 (length n) (omega arith), le-leb (length n) nameLimit (omega arith))
 
 -- UTF-8
 encoded : (c : tie.Else3) → let n = c .before .before .before .before .before .args .name .now in validName n ≡ both (lacks 0 n) (both (rooted n) (validComponents n))
@@ -32,7 +34,9 @@ returns c = rw (lt-leb 1 (length (c .before .before .args .name .now)) (omega ar
 
 returns-2 : tie.Need-returns-2
 unfolding validName
-returns-2 c = let n = c .before .before .before .args .name .now in rw (le-leb 1 (length n) (omega arith), lt-leb (length n) 4096 (omega arith))
+returns-2 c =
+    let n = c .before .before .before .args .name .now in
+    rw (le-leb 1 (length n) (omega arith), lt-leb (length n) nameLimit (omega arith))
 
 is-valid-requires : tie.Need-is-valid-requires
 is-valid-requires c κs = search needs
