@@ -14,7 +14,7 @@ use Rattle.octets.specs.Choice.{pick}
 use Rattle.octets.specs.Slices.{lacks}
 use Rattle.octets.proofs.Lists.{drop-at, drop-end}
 
-lacks-cons : (b x : ℕ) (ys : List ℕ) → lacks b (x ∷ ys) ≡ pick (eqb x b) false (lacks b ys)
+pub lacks-cons : (b x : ℕ) (ys : List ℕ) → lacks b (x ∷ ys) ≡ pick (eqb x b) false (lacks b ys)
 unfolding indexOf indexAfter
 lacks-cons b x ys = by (eqb x b)
   where

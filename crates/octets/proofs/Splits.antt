@@ -7,10 +7,14 @@ use native.Mathlib.Omega.{arith}
 use native.Mathlib.Numerals.{add-one}
 use lib.ListN.{length, take, drop}
 use lib.Dec.{eqb}
-use borrow.Author.Tests.{eq-eqb, ne-eqb, eqb-true}
+use borrow.Author.Tests.{eq-eqb, ne-eqb, eqb-true, eqb-false}
 use Rattle.bytes.specs.Bytes.{indexOf, indexAfter}
-use Rattle.octets.specs.Choice.{pick}
+use Rattle.octets.specs.Choice.{pick, every}
+use Rattle.octets.specs.Slices.{lacks}
 use Rattle.octets.specs.Split.{onto, split, join}
+use Rattle.octets.specs.Claims.{Divides}
+use Rattle.octets.proofs.Below.{both-test}
+use Rattle.octets.proofs.Passes.{lacks-cons}
 
 -- ---- as a reader meets them
 -- up to the first place of b stands the first part, after it the others
@@ -88,3 +92,22 @@ pub split-join : (b : ℕ) (p : List ℕ) (ps : List (List ℕ)) → AllFree b (
 unfolding join
 split-join b p [] h = split-last b p (h .0)
 split-join b p (q ∷ ps) h = split-cut b p (join b (q ∷ ps)) (h .0) ∙ rw (split-join b q ps (h .1))
+
+-- ---- the claim
+lacks-free : (b : ℕ) (t : List ℕ) → lacks b t ≡ true → Free b t
+lacks-free b [] h = tt
+lacks-free b (c ∷ r) h = go (eqb c b) refl (sym (lacks-cons b c r) ∙ h) (lacks-free b r)
+  where
+    go : (u : Bool) → eqb c b ≡ u → pick u false (lacks b r) ≡ true → (lacks b r ≡ true → Free b r) → Free b (c ∷ r)
+    go true e q ih = let z : _≡_ {A = ℕ} 0 1 = cc in absurd (omega arith)
+    go false e q ih = (eqb-false c b e, ih q)
+
+all-free : (b : ℕ) (ps : List (List ℕ)) → every (lacks b) ps ≡ true → AllFree b ps
+unfolding every
+all-free b [] h = tt
+all-free b (p ∷ ps) h =
+    let e = both-test (lacks b p) (every (lacks b) ps) h in
+    (lacks-free b p (e .0), all-free b ps (e .1))
+
+pub divides : Divides
+divides b = (join-split b, λ p ps h. split-join b p ps (all-free b (p ∷ ps) h))

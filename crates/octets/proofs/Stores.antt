@@ -1,27 +1,14 @@
--- Stores: one at a place, and several one after the other, as loops make them.
+-- Stores, one after the other from a place on, as loops make them.
 use Prim.Native.Nat.{ℕ, suc, _+_, _-_, _≤_, _<_}
 use mathlib.Core.Path.{_≡_, refl, sym, _∙_, ap}
-use mathlib.Core.Bool.{Bool, true, false}
 use mathlib.Core.List.{List, [], _∷_, _++_, append-assoc, append-nil}
 use native.Mathlib.Omega.{arith}
 use native.Mathlib.Numerals.{add-one, towards-suc}
 use native.Mathlib.Nat.{add-zero}
-use lib.ListN.{length, getD, take, drop, set, length-drop}
-use lib.Seq.{sets, sets-eq, drop-drop, getD-set-same, getD-set-other, set-comm, take-length, length-take-le, take-append-seam, drop-set-add, take-set-le}
+use lib.ListN.{length, take, drop, set, length-drop}
+use lib.Seq.{sets, sets-eq, drop-drop, set-comm, take-length, length-take-le, take-append-seam, drop-set-add, take-set-le}
 use lib.Seq.{drop-at as drop-seam}
-use lib.Dec.{eqb}
-use borrow.Author.Tests.{eqb-true, eqb-false}
-use Rattle.octets.specs.Choice.{pick}
 use Rattle.octets.proofs.Lists.{drop-end, part-rest}
-
--- ---- one store
--- what stands at a place after a store at another or the same
-pub getD-set : (l : List ℕ) (i j a d : ℕ) → i < length l → getD (set l i a) j d ≡ pick (eqb j i) a (getD l j d)
-getD-set l i j a d h = go (eqb j i) refl
-  where
-    go : (t : Bool) → eqb j i ≡ t → getD (set l i a) j d ≡ pick t a (getD l j d)
-    go true e = rw (eqb-true j i e) (getD-set-same l i a d h)
-    go false e = getD-set-other l i j a d (eqb-false j i e)
 
 -- ---- stores from a place on: the stored bytes are had from the equation e
 module _ (l : List ℕ) (o : ℕ) {bs x : List ℕ} where

@@ -4,3 +4,4 @@ pub mod Bytes
 pub mod Outcome
 pub mod Slices
 pub mod Split
+pub mod Claims

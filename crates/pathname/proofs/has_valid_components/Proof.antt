@@ -3,6 +3,7 @@ use mathlib.Core.Path.{_≡_, sym, _∙_}
 use native.Mathlib.Omega.{arith}
 use lib.ListN.{length, drop, length-drop}
 use Rattle.octets.proofs.Finds.{index-le}
+use Rattle.octets.proofs.Splits.{divides}
 use Rattle.octets.specs.Choice.{both}
 use borrow.Author.Needs.{needs}
 use borrow.Author.Tests.{le-leb, lt-leb, not-true, not-false}
@@ -52,7 +53,7 @@ is-valid-component-requires : tie.Need-is-valid-component-requires Inv-loop μ-l
 is-valid-component-requires c κs = search needs
 
 returns : tie.Need-returns Inv-loop μ-loop
-returns c = sym (turn (c .before) ∙ rw (not-true (c .before .is-valid-component .result) (c .if1 .taken)))
+returns c = (sym (turn (c .before) ∙ rw (not-true (c .before .is-valid-component .result) (c .if1 .taken))), divides)
 
 add-at : tie.Need-add-at Inv-loop μ-loop
 add-at c = omega (arith, within (c .before .before .before))
@@ -64,7 +65,9 @@ loop-again : tie.Need-loop-again Inv-loop μ-loop
 loop-again c = (omega (arith, within (c .before .before .before)), sym (turn (c .before) ∙ rw (not-false (c .before .is-valid-component .result) (c .if1 .left))))
 
 returns-2 : tie.Need-returns-2 Inv-loop μ-loop
-returns-2 c = let l = c .before .loop in rw (lt-leb (l .at) (length (c .before .before .before .args .name .now)) (omega arith)) at (l .inv .1)
+returns-2 c =
+    let l = c .before .loop in
+    (rw (lt-leb (l .at) (length (c .before .before .before .args .name .now)) (omega arith)) at (l .inv .1), divides)
 
 pub has-valid-components-spec : {M : Type 1} → statement M
 has-valid-components-spec =

@@ -64,7 +64,8 @@ has-valid-components-requires c κs = search needs
 returns-6 : tie.Need-returns-6
 returns-6 c =
     let e = c .before in
-    c .has-valid-components .ensures ∙ sym (whole (e .before .before) ∙ rw (← e .before .is-rooted .ensures, not-false (e .before .is-rooted .result) (e .if5 .left)))
+    let r = e .before .is-rooted in
+    c .has-valid-components .ensures .0 ∙ sym (whole (e .before .before) ∙ rw (← r .ensures, not-false (r .result) (e .if5 .left)))
 
 pub is-valid-spec : {M : Type 1} → statement M
 is-valid-spec =
