@@ -11,7 +11,7 @@ use borrow.Author.Tests.{ne-eqb, le-ltb, le-leb, eqb-true, ltb-false}
 use Rattle.octets.specs.Choice.{pick, both}
 use Rattle.octets.specs.Slices.{startsWith}
 use Rattle.octets.specs.Ascii.{ascii}
-use Rattle.decimal.specs.Limits.{limit}
+use Rattle.decimal.specs.Limits.{mostDigits, limit}
 use Rattle.decimal.specs.Read.{digitsOf, signed, rangedOf, digitsRanged, magnitudeOf, parseOf}
 use Rattle.decimal.specs.Write.{fixed, widthFrom, widthOf, signedText, textOf, writable}
 use Rattle.decimal.specs.Canonical.{Canonical}
@@ -35,9 +35,10 @@ read-magnitude s m h =
     let w = width-least m in
     let b = limit-lt s in
     let l = length-fixed (widthOf m) m in
-    let u = w .least 19 (omega arith) (omega arith) in
-    let v : digitsOf 0 (fixed (widthOf m) m) ≡ Value m = read-fixed (widthOf m) 0 m ∙ ap Value (rw (mod-eq-of-lt (w .holds (omega arith))) (omega arith)) in
-    rw (ne-eqb (length (fixed (widthOf m) m)) 0 (λ e. omega arith), le-ltb 19 (length (fixed (widthOf m) m)) (omega arith), v, le-ltb (limit s) m h)
+    let u = w .least mostDigits (omega arith) (omega arith) in
+    let ds = fixed (widthOf m) m in
+    let v : digitsOf 0 ds ≡ Value m = read-fixed (widthOf m) 0 m ∙ ap Value (rw (mod-eq-of-lt (w .holds (omega arith))) (omega arith)) in
+    rw (ne-eqb (length ds) 0 (λ e. omega arith), le-ltb mostDigits (length ds) (omega arith), v, le-ltb (limit s) m h)
 
 -- digits begin with no `-`
 no-minus : (w n : ℕ) → parseOf (fixed w n) ≡ magnitudeOf false (fixed w n)
@@ -56,24 +57,24 @@ unfolding textOf
 read-written n e = let h = writable-is n e in read-signed (n .negative) (n .magnitude) (h .0) (h .1)
 
 -- ---- read, then written
--- what a text of this sign that reads is: at most 19 digits, of a value within the limit
+-- what a text of this sign that reads is: not too many digits, of a value within the limit
 record Magnitude (s : Bool) (t : List ℕ) (n : Number) : Type 0 where
   value : ℕ
-  short : length t ≤ 19
+  short : length t ≤ mostDigits
   digits : digitsOf 0 t ≡ Value value
   within : value ≤ limit s
   same : n ≡ signed s value
 
 magnitude-is : (s : Bool) (t : List ℕ) (n : Number) → magnitudeOf s t ≡ Integer n → Magnitude s t n
 unfolding magnitudeOf rangedOf
-magnitude-is s t n e = go (eqb (length t) 0) (ltb 19 (length t)) refl (digitsOf 0 t) refl e
+magnitude-is s t n e = go (eqb (length t) 0) (ltb mostDigits (length t)) refl (digitsOf 0 t) refl e
   where
-    ranged : (m : ℕ) → ltb 19 (length t) ≡ false → digitsOf 0 t ≡ Value m → (b : Bool) → ltb (limit s) m ≡ b
+    ranged : (m : ℕ) → ltb mostDigits (length t) ≡ false → digitsOf 0 t ≡ Value m → (b : Bool) → ltb (limit s) m ≡ b
         → pick b OutOfRange (Integer (signed s m)) ≡ Integer n → Magnitude s t n
     ranged m el ed true eb q = let z : _≡_ {A = ℕ} 0 1 = cc in absurd (omega arith)
     ranged m el ed false eb q = record { value = m; short = ltb-false _ _ el; digits = ed; within = ltb-false _ _ eb; same = cc }
 
-    go : (x y : Bool) → ltb 19 (length t) ≡ y → (d : Run) → digitsOf 0 t ≡ d
+    go : (x y : Bool) → ltb mostDigits (length t) ≡ y → (d : Run) → digitsOf 0 t ≡ d
         → pick x Malformed (pick y Malformed (digitsRanged s d)) ≡ Integer n → Magnitude s t n
     go true y ey d ed q = let z : _≡_ {A = ℕ} 0 1 = cc in absurd (omega arith)
     go false true ey d ed q = let z : _≡_ {A = ℕ} 0 1 = cc in absurd (omega arith)

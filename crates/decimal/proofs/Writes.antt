@@ -8,13 +8,13 @@ use lib.ListN.{length}
 use borrow.Author.Tests.{le-ltb, ltb-false}
 use Rattle.octets.specs.Choice.{both}
 use Rattle.octets.specs.Outcome.{storedAt}
-use Rattle.decimal.specs.Limits.{limit}
+use Rattle.decimal.specs.Limits.{mostDigits, limit}
 use Rattle.decimal.specs.Write.{textOf, negativeZero, outOfRange, writable, writeOf}
 use Rattle.decimal.specs.declared.Number.{Number}
 use Rattle.decimal.specs.declared.Written.the-variants.{End, NoRoom}
 
--- a magnitude within the limit has at most 19 digits
-pub limit-lt : (s : Bool) → limit s < 10 ^ 19
+-- a magnitude within the limit has no more digits than are read
+pub limit-lt : (s : Bool) → limit s < 10 ^ mostDigits
 limit-lt true = omega arith
 limit-lt false = omega arith
 

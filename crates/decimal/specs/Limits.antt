@@ -1,6 +1,10 @@
--- "within signed 64 bits".
+-- "then 1 to 19 digits, within signed 64 bits".
 use Prim.Native.Nat.{ℕ}
 use mathlib.Core.Bool.{Bool, true, false}
+
+-- the most digits of a text
+abbrev pub mostDigits : ℕ
+mostDigits = 19
 
 -- the greatest magnitude of a sign: 2^63 below zero, 2^63 - 1 else
 abbrev pub limit : Bool → ℕ

@@ -7,7 +7,7 @@ use lib.Dec.{ltb, eqb}
 use Rattle.octets.specs.Choice.{pick}
 use Rattle.octets.specs.Ascii.{ascii}
 use Rattle.octets.specs.Slices.{startsWith}
-use Rattle.decimal.specs.Limits.{limit, digit0}
+use Rattle.decimal.specs.Limits.{mostDigits, limit, digit0}
 use Rattle.decimal.specs.declared.Number.{Number}
 use Rattle.decimal.specs.declared.reader.Run.{Run}
 use Rattle.decimal.specs.declared.reader.Run.the-variants.{Value, NotDigits}
@@ -36,7 +36,7 @@ digitsRanged negative NotDigits = Malformed
 unfoldable pub magnitudeOf : Bool → List ℕ → Parsed
 magnitudeOf negative t =
     pick (eqb (length t) 0) Malformed
-    (pick (ltb 19 (length t)) Malformed
+    (pick (ltb mostDigits (length t)) Malformed
     (digitsRanged negative (digitsOf 0 t)))
 
 -- "optional `-`"

@@ -15,6 +15,17 @@ pub struct Number {
     pub magnitude: u64,
 }
 
+impl Number {
+    // "then 1 to 19 digits"
+    pub const DIGITS: usize = 19;
+
+    // "within signed 64 bits": the greatest magnitude
+    pub const LIMIT: u64 = 9223372036854775807;
+
+    // and the greatest below zero
+    pub const LIMIT_BELOW: u64 = 9223372036854775808;
+}
+
 // What reading answers. Malformed is told before out of range.
 pub enum Parsed {
     Integer(Number),
@@ -60,10 +71,10 @@ pub fn write(n: Number, out: &mut [u8], at: usize) -> Written
         if n.magnitude == 0 {
             return Written::NegativeZero;
         }
-        if n.magnitude > 9223372036854775808 {
+        if n.magnitude > Number::LIMIT_BELOW {
             return Written::OutOfRange;
         }
-    } else if n.magnitude > 9223372036854775807 {
+    } else if n.magnitude > Number::LIMIT {
         return Written::OutOfRange;
     }
     let len = text_length(n);

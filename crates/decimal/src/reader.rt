@@ -2,6 +2,7 @@
 ghost use mathlib.Core.Path.{_≡_};
 ghost use Prim.Native.Nat.{_≤_};
 ghost use lib.ListN.{length};
+ghost use Rattle.decimal.specs.Limits.{mostDigits};
 ghost use Rattle.decimal.specs.Read.{digitsOf, magnitudeOf, rangedOf};
 ghost use Rattle.decimal.specs.Claims.{ReadsFixed, ReadWrites};
 use crate::Number;
@@ -22,7 +23,7 @@ pub(crate) fn magnitude(negative: bool, text: &[u8]) -> Parsed
     if text.len() == 0 {
         return Parsed::Malformed;
     }
-    if text.len() > 19 {
+    if text.len() > Number::DIGITS {
         return Parsed::Malformed;
     }
     match digits(text) {
@@ -36,7 +37,7 @@ fn ranged(negative: bool, m: u64) -> Parsed
     ensures { λ r. ⌜ r ≡ rangedOf negative m ⌝ }
 {
     if negative {
-        if m > 9223372036854775808 {
+        if m > Number::LIMIT_BELOW {
             return Parsed::OutOfRange;
         }
         if m == 0 {
@@ -50,7 +51,7 @@ fn ranged(negative: bool, m: u64) -> Parsed
             magnitude: m,
         });
     }
-    if m > 9223372036854775807 {
+    if m > Number::LIMIT {
         return Parsed::OutOfRange;
     }
     Parsed::Integer(Number {
@@ -59,9 +60,9 @@ fn ranged(negative: bool, m: u64) -> Parsed
     })
 }
 
-// The value of at most 19 digits, which any u64 can hold.
+// The value of so few digits that any u64 can hold it.
 fn digits(text: &[u8]) -> Run
-    requires { ⌜ length (now text) ≤ 19 ⌝ }
+    requires { ⌜ length (now text) ≤ mostDigits ⌝ }
     ensures { λ r. ⌜ r ≡ digitsOf 0 (now (text .entry)) ⌝ }
     ensures { λ _. ⌜ ReadsFixed ⌝ }
 {
