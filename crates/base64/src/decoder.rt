@@ -4,7 +4,6 @@ ghost use Prim.Native.Nat.{_+_, _≤_};
 ghost use lib.ListN.{length, drop};
 ghost use lib.Seq.{sets};
 ghost use Rattle.octets.specs.Choice.{every};
-ghost use Rattle.base64.specs.Claims.{DecodedEncodes};
 ghost use Rattle.base64.specs.Decode.{scan, verdictOf, bytesOf};
 ghost use Rattle.base64.specs.Decode as Decode;
 ghost use Rattle.base64.specs.declared.Verdict.the-variants as Verdict;
@@ -109,12 +108,10 @@ fn unused(bits: u8, padding: usize) -> Verdict
     Verdict::Invalid(Fault::UnusedBits)
 }
 
-// Stores the bytes of a valid text in `out` from place `at` on. Only the last group has padding. That
-// they are encoded to the text again stands here.
+// Stores the bytes of a valid text in `out` from place `at` on. Only the last group has padding.
 pub(crate) fn fill(text: &[u8], padding: usize, out: &mut [u8], at: usize)
     requires { ⌜ (verdictOf (now text) ≡ Verdict.Valid padding) × (at + length (bytesOf (now text)) ≤ length (now out)) ⌝ }
     ensures { λ _. ⌜ now (out .exit) ≡ sets (now (out .entry)) at (bytesOf (now (text .entry))) ⌝ }
-    ensures { λ _. ⌜ DecodedEncodes ⌝ }
 {
     let mut i = 0;
     let mut o = at;

@@ -4,18 +4,16 @@ ghost use Prim.Native.Nat.{_+_, _≤_, _<_};
 ghost use mathlib.Core.List.{[], _∷_};
 ghost use lib.ListN.{length, drop};
 ghost use lib.Seq.{sets};
-ghost use Rattle.base64.specs.Claims.{EncodedDecodes};
 ghost use Rattle.base64.specs.Encode.{textOf};
 ghost use Rattle.base64.specs.Encode as Encode;
 use crate::alphabet::letter;
 
 const PAD: u8 = 61;
 
-// Stores the text of `data` in `out` from place `at` on. That it decodes to `data` again stands here.
+// Stores the text of `data` in `out` from place `at` on.
 pub(crate) fn fill(data: &[u8], out: &mut [u8], at: usize)
     requires { ⌜ at + length (textOf (now «data»)) ≤ length (now out) ⌝ }
     ensures { λ _. ⌜ now (out .exit) ≡ sets (now (out .entry)) at (textOf (now («data» .entry))) ⌝ }
-    ensures { λ _. ⌜ EncodedDecodes ⌝ }
 {
     let mut i = 0;
     let mut o = at;

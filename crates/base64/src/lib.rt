@@ -8,6 +8,7 @@ mod encoder;
 
 ghost use mathlib.Core.Path.{_≡_};
 ghost use Rattle.octets.specs.Outcome.{outcome};
+ghost use Rattle.base64.specs.Claims.{EncodedDecodes, DecodedEncodes};
 ghost use Rattle.base64.specs.Decode.{decodeOf};
 ghost use Rattle.base64.specs.Encode.{encodeOf};
 use octets::Stored;
@@ -33,9 +34,10 @@ pub enum Decoded {
 }
 
 // Stores the bytes of `text` in `out` from place `at` on. A fault is told before a lack of room, and
-// after either `out` is as before.
+// after either `out` is as before. A text that decodes is the only one of its bytes.
 pub fn decode(text: &[u8], out: &mut [u8], at: usize) -> Decoded
     ensures { λ r. ⌜ outcome r (now (out .exit)) ≡ decodeOf (now (text .entry)) (now (out .entry)) at ⌝ }
+    ensures { λ _. ⌜ DecodedEncodes ⌝ }
 {
     match decoder::check(text) {
         Verdict::Valid(padding) => {
@@ -50,9 +52,11 @@ pub fn decode(text: &[u8], out: &mut [u8], at: usize) -> Decoded
     }
 }
 
-// Stores the text of `data` in `out` from place `at` on. Where it does not fit, `out` is as before.
+// Stores the text of `data` in `out` from place `at` on. Where it does not fit, `out` is as before. It
+// decodes to `data` again.
 pub fn encode(data: &[u8], out: &mut [u8], at: usize) -> Stored
     ensures { λ r. ⌜ outcome r (now (out .exit)) ≡ encodeOf (now («data» .entry)) (now (out .entry)) at ⌝ }
+    ensures { λ _. ⌜ EncodedDecodes ⌝ }
 {
     let n = (data.len() + 2) / 3 * 4;
     if !octets::fits(at, n, out.len()) {

@@ -16,7 +16,7 @@ use command::Reading;
 use command::Refusal;
 use command::letters;
 use command::letters::Class;
-use frames::TEXT_LIMIT;
+use frames::Framing;
 
 // The command of a text, or why it has none. 9 comes first, and leaves the scratch as before; after
 // another refusal the scratch holds the values accepted before the refused field. What is read is what
@@ -28,7 +28,7 @@ pub fn read(text: &[u8], scratch: &mut [u8]) -> Reading
     if scratch.len() < Command::SCRATCH_ROOM {
         return Reading::Refused(Refusal::ShortBuffer);
     }
-    if text.len() > TEXT_LIMIT {
+    if text.len() > Framing::TEXT_LIMIT {
         return Reading::Refused(Refusal::TextTooLong);
     }
     if !letters::all(Class::Text, text) {

@@ -23,7 +23,7 @@ ghost use Rattle.command_writer.specs.Stores.{spare};
 use command::Command;
 use command::Refusal;
 use command::Written;
-use frames::TEXT_LIMIT;
+use frames::Framing;
 
 // Stores the canonical text of a command, whose places lie in text and scratch, at the start of out.
 // A refusal leaves out as before. What is written is exactly the canonical texts, and a command that is
@@ -76,7 +76,7 @@ fn lacks(command: Command) -> bool
 fn no_room(n: usize, len: usize) -> bool
     ensures { λ r. ⌜ r ≡ either (ltb textLimit n) (ltb len n) ⌝ }
 {
-    if n > TEXT_LIMIT {
+    if n > Framing::TEXT_LIMIT {
         return true;
     }
     n > len

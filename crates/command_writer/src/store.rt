@@ -13,16 +13,16 @@ use crate::table::part;
 use command::Refusal;
 use command::Written;
 use decimal::Number;
-use frames::TEXT_LIMIT;
+use frames::Framing;
 
 // Where n bytes from place `at` on end, or any place over the limit.
 fn end_of(at: usize, n: usize) -> usize
     ensures { λ r. ⌜ spare r ≡ spare (at + n) ⌝ }
 {
-    if at > TEXT_LIMIT {
+    if at > Framing::TEXT_LIMIT {
         return at;
     }
-    if n > TEXT_LIMIT {
+    if n > Framing::TEXT_LIMIT {
         return n;
     }
     at + n

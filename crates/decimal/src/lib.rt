@@ -7,6 +7,7 @@ mod writer;
 ghost use mathlib.Core.Path.{_≡_};
 ghost use lib.ListN.{length};
 ghost use Rattle.octets.specs.Outcome.{outcome};
+ghost use Rattle.decimal.specs.Claims.{FixedReads, ReadsFixed, WrittenReads, ReadWrites};
 ghost use Rattle.decimal.specs.Read.{parseOf};
 ghost use Rattle.decimal.specs.Write.{textOf, writeOf};
 
@@ -44,6 +45,7 @@ pub enum Written {
 // The integer that a whole text is. `-0` is zero, which has no sign.
 pub fn parse(text: &[u8]) -> Parsed
     ensures { λ r. ⌜ r ≡ parseOf (now (text .entry)) ⌝ }
+    ensures { λ _. ⌜ ReadWrites × ReadsFixed ⌝ }
 {
     if octets::starts_with(text, b"-") {
         return reader::magnitude(true, &text[1..]);
@@ -66,6 +68,7 @@ pub fn text_length(n: Number) -> usize
 // before; a number that is no integer of ours is told before a lack of room.
 pub fn write(n: Number, out: &mut [u8], at: usize) -> Written
     ensures { λ r. ⌜ outcome r (now (out .exit)) ≡ writeOf n (now (out .entry)) at ⌝ }
+    ensures { λ _. ⌜ WrittenReads × FixedReads ⌝ }
 {
     if n.negative {
         if n.magnitude == 0 {

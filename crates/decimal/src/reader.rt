@@ -4,7 +4,6 @@ ghost use Prim.Native.Nat.{_≤_};
 ghost use lib.ListN.{length};
 ghost use Rattle.decimal.specs.Limits.{mostDigits};
 ghost use Rattle.decimal.specs.Read.{digitsOf, magnitudeOf, rangedOf};
-ghost use Rattle.decimal.specs.Claims.{ReadsFixed, ReadWrites};
 use crate::Number;
 use crate::Parsed;
 
@@ -14,11 +13,9 @@ pub enum Run {
     NotDigits,
 }
 
-// The integer of this sign whose digits are the whole text. That what is read can be written again
-// stands here.
+// The integer of this sign whose digits are the whole text.
 pub(crate) fn magnitude(negative: bool, text: &[u8]) -> Parsed
     ensures { λ r. ⌜ r ≡ magnitudeOf negative (now (text .entry)) ⌝ }
-    ensures { λ _. ⌜ ReadWrites ⌝ }
 {
     if text.len() == 0 {
         return Parsed::Malformed;
@@ -64,7 +61,6 @@ fn ranged(negative: bool, m: u64) -> Parsed
 fn digits(text: &[u8]) -> Run
     requires { ⌜ length (now text) ≤ mostDigits ⌝ }
     ensures { λ r. ⌜ r ≡ digitsOf 0 (now (text .entry)) ⌝ }
-    ensures { λ _. ⌜ ReadsFixed ⌝ }
 {
     let mut value: u64 = 0;
     let mut i = 0;

@@ -4,7 +4,6 @@ ghost use Prim.Native.Nat.{_+_, _≤_, _<_};
 ghost use lib.ListN.{length};
 ghost use lib.Seq.{sets};
 ghost use Rattle.decimal.specs.Write.{widthOf, fixed, textOf};
-ghost use Rattle.decimal.specs.Claims.{FixedReads, WrittenReads};
 use crate::Number;
 
 // How many digits a number takes without leading zeros.
@@ -20,11 +19,10 @@ pub(crate) fn width(n: u64) -> usize
     w
 }
 
-// Stores the text of n from place `at` on. That it reads as n again stands here.
+// Stores the text of n from place `at` on.
 pub(crate) fn fill(n: Number, out: &mut [u8], at: usize)
     requires { ⌜ at + length (textOf n) ≤ length (now out) ⌝ }
     ensures { λ _. ⌜ now (out .exit) ≡ sets (now (out .entry)) at (textOf n) ⌝ }
-    ensures { λ _. ⌜ WrittenReads ⌝ }
 {
     let w = width(n.magnitude);
     if n.negative {
@@ -35,11 +33,10 @@ pub(crate) fn fill(n: Number, out: &mut [u8], at: usize)
     }
 }
 
-// Stores the last w digits of n from place `at` on. "Integer writing is proved once over the width."
+// Stores the last w digits of n from place `at` on.
 fn digits(n: u64, w: usize, out: &mut [u8], at: usize)
     requires { ⌜ at + w ≤ length (now out) ⌝ }
     ensures { λ _. ⌜ now (out .exit) ≡ sets (now (out .entry)) at (fixed w n) ⌝ }
-    ensures { λ _. ⌜ FixedReads ⌝ }
 {
     let mut rest = n;
     let mut k = w;

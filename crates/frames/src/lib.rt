@@ -40,9 +40,6 @@ impl Framing {
     pub const TEXT_LIMIT: usize = 8192;
 }
 
-// The same, for crates that know of no framing.
-pub const TEXT_LIMIT: usize = Framing::TEXT_LIMIT;
-
 // What a call reports.
 pub enum Report {
     Nothing,
@@ -64,9 +61,11 @@ pub struct Scanned {
     pub report: Report,
 }
 
-// Reads a piece through the first thing to report.
+// Reads a piece through the first thing to report. What holds of every list of scans stands here too:
+// they tell what the stream of their bytes tells, however it is cut, and come to an end.
 pub fn scan(framing: Framing, piece: &[u8], carry: &mut [u8]) -> Scanned
     ensures { λ r. ⌜ outcome r (now (carry .exit)) ≡ scanOf framing (now (piece .entry)) (now (carry .entry)) ⌝ }
+    ensures { λ _. ⌜ TellsTheStream × SameHoweverCut × Consumes × RefusesShort ⌝ }
 {
     if carry.len() < Framing::TEXT_LIMIT {
         return Scanned {
@@ -78,12 +77,10 @@ pub fn scan(framing: Framing, piece: &[u8], carry: &mut [u8]) -> Scanned
     taken(framing, piece, carry)
 }
 
-// A scan that is not refused. What holds of every list of scans stands here: that they tell what the
-// stream of their bytes tells, however it is cut, that they come to an end, and which are refused.
+// A scan that is not refused.
 fn taken(framing: Framing, piece: &[u8], carry: &mut [u8]) -> Scanned
     requires { ⌜ textLimit ≤ length (now carry) ⌝ }
     ensures { λ r. ⌜ outcome r (now (carry .exit)) ≡ takenOf framing (now (piece .entry)) (now (carry .entry)) ⌝ }
-    ensures { λ _. ⌜ TellsTheStream × SameHoweverCut × Consumes × RefusesShort ⌝ }
 {
     let w = walk_piece(framing, piece);
     let used = w.used;

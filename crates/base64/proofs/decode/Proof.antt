@@ -7,6 +7,7 @@ use Rattle.base64.specs.Decode.{verdictOf, bytesOf, decodeOf}
 use Rattle.base64.specs.declared.Verdict.the-variants.{Valid}
 use Rattle.base64.proofs.Lengths.{length-valid}
 use borrow.Author.Needs.{needs}
+use Rattle.base64.proofs.Calls.{decode-encode}
 use Rattle.base64.proofs.decode.Statement.{statement}
 use Rattle.base64.proofs.decode.Tie as tie
 
@@ -42,7 +43,7 @@ unfolding decodeOf
 returns c =
     let k = c .before .before in
     let f = c .before .fits2 in
-    rw (valid k, size k, ← f .ensures, not-true (f .result) (c .if1 .taken))
+    (rw (valid k, size k, ← f .ensures, not-true (f .result) (c .if1 .taken)), decode-encode)
 
 fill-requires : tie.Need-fill-requires
 fill-requires c κs =
@@ -61,11 +62,11 @@ returns-2 c =
     let e = c .before .before .before .before in
     let k = e .before .before in
     let f = e .before .fits2 in
-    rw (valid k, size k, ← f .ensures, not-false (f .result) (e .if1 .left), c .before .before .fill .ensures .0)
+    (rw (valid k, size k, ← f .ensures, not-false (f .result) (e .if1 .left), c .before .before .fill .ensures), decode-encode)
 
 returns-3 : tie.Need-returns-3
 unfolding decodeOf
-returns-3 c = rw (← c .before .before .before .check .ensures, c .before .fault .given .1)
+returns-3 c = (rw (← c .before .before .before .check .ensures, c .before .fault .given .1), decode-encode)
 
 pub decode-spec : {M : Type 1} → statement M
 decode-spec =

@@ -6,6 +6,7 @@ use borrow.Author.Tests.{leb-true, not-true, not-false}
 use Rattle.base64.specs.Encode.{textOf, encodeOf}
 use Rattle.base64.proofs.Lengths.{length-text}
 use borrow.Author.Needs.{needs}
+use Rattle.base64.proofs.Calls.{encode-decode}
 use Rattle.base64.proofs.encode.Statement.{statement}
 use Rattle.base64.proofs.encode.Tie as tie
 
@@ -25,7 +26,8 @@ fits-requires c κs = search needs
 returns : tie.Need-returns
 unfolding encodeOf
 returns c =
-    rw (length-text (c .before .before .before .before .args .«data» .now), ← c .before .fits2 .ensures, not-true (c .before .fits2 .result) (c .if1 .taken))
+    let f = c .before .fits2 in
+    (rw (length-text (c .before .before .before .before .args .«data» .now), ← f .ensures, not-true (f .result) (c .if1 .taken)), encode-decode)
 
 fill-requires : tie.Need-fill-requires
 fill-requires c κs = room (c .before)
@@ -42,7 +44,7 @@ returns-2 c =
     let e = c .before .before .before .before in
     let f = e .before .fits2 in
     let d = e .before .before .before .before .args .«data» .now in
-    rw (length-text d, ← f .ensures, not-false (f .result) (e .if1 .left), c .before .before .fill .ensures .0)
+    (rw (length-text d, ← f .ensures, not-false (f .result) (e .if1 .left), c .before .before .fill .ensures), encode-decode)
 
 pub encode-spec : {M : Type 1} → statement M
 encode-spec =

@@ -7,6 +7,8 @@ use Rattle.octets.specs.Ascii.{ascii}
 use Rattle.octets.proofs.Lists.{part-rest}
 use Rattle.octets.proofs.Compare.{starts-sound}
 use Rattle.decimal.specs.Read.{parseOf}
+use Rattle.decimal.proofs.Digits.{fixed-read}
+use Rattle.decimal.proofs.RoundTrip.{read-writes}
 use Rattle.decimal.proofs.parse.Statement.{statement}
 use Rattle.decimal.proofs.parse.Tie as tie
 
@@ -37,16 +39,19 @@ magnitude-requires c κs = search needs
 returns : tie.Need-returns
 unfolding parseOf
 returns c =
-    let e = c .before .before in
-    c .magnitude .ensures .0
-    ∙ rw (part-rest (e .before .before .before .before .args .text .now) 1, ← e .before .starts-with .ensures, e .if1 .taken)
+    let e = c .before .before in (
+      c .magnitude .ensures
+          ∙ rw (part-rest (e .before .before .before .before .args .text .now) 1, ← e .before .starts-with .ensures, e .if1 .taken),
+      (read-writes, fixed-read),
+    )
 
 magnitude-requires-2 : tie.Need-magnitude-requires-2
 magnitude-requires-2 c κs = search needs
 
 returns-2 : tie.Need-returns-2
 unfolding parseOf
-returns-2 c = c .magnitude2 .ensures .0 ∙ rw (← c .before .before .starts-with .ensures, c .before .if1 .left)
+returns-2 c =
+    (c .magnitude2 .ensures ∙ rw (← c .before .before .starts-with .ensures, c .before .if1 .left), (read-writes, fixed-read))
 
 pub parse-spec : {M : Type 1} → statement M
 parse-spec =

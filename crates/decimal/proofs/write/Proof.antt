@@ -12,6 +12,9 @@ use Rattle.octets.specs.Outcome.{outcome}
 use Rattle.decimal.specs.Write.{textOf, writable, writeOf}
 use Rattle.decimal.specs.declared.Written.the-variants.{End, NoRoom}
 use Rattle.decimal.proofs.Writes.{write-stores}
+use Rattle.decimal.specs.Claims.{FixedReads, WrittenReads}
+use Rattle.decimal.proofs.Digits.{read-fixed}
+use Rattle.decimal.proofs.RoundTrip.{written-reads}
 use Rattle.decimal.proofs.write.Statement.{statement}
 use Rattle.decimal.proofs.write.Tie as tie
 
@@ -36,17 +39,20 @@ room : (c : tie.Else5) → let a = c .before .before .before .before .before .ar
     a .at + c .before .before .text-length .result ≤ length (a .out .now)
 room c = leb-true _ _ (sym (c .before .fits2 .ensures) ∙ not-false _ (c .if5 .left))
 
+claims : WrittenReads × FixedReads
+claims = (written-reads, read-fixed)
+
 returns : tie.Need-returns
 unfolding writeOf
-returns c = rw (c .before .before .if1 .taken, eq-eqb _ _ (c .if2 .taken))
+returns c = (rw (c .before .before .if1 .taken, eq-eqb _ _ (c .if2 .taken)), claims)
 
 returns-2 : tie.Need-returns-2
 unfolding writeOf
-returns-2 c = rw (c .before .before .before .before .if1 .taken, ne-eqb _ _ (c .before .before .if2 .left), lt-ltb _ _ (c .if3 .taken))
+returns-2 c = (rw (c .before .before .before .before .if1 .taken, ne-eqb _ _ (c .before .before .if2 .left), lt-ltb _ _ (c .if3 .taken)), claims)
 
 returns-3 : tie.Need-returns-3
 unfolding writeOf
-returns-3 c = rw (c .before .before .if1 .left, lt-ltb _ _ (c .if4 .taken))
+returns-3 c = (rw (c .before .before .if1 .left, lt-ltb _ _ (c .if4 .taken)), claims)
 
 text-length-requires : tie.Need-text-length-requires
 text-length-requires c κs = search needs
@@ -55,7 +61,7 @@ fits-requires : tie.Need-fits-requires
 fits-requires c κs = search needs
 
 returns-4 : tie.Need-returns-4
-returns-4 c = sym (stored (c .before) ∙ rw (not-true (c .before .fits2 .result) (c .if5 .taken)))
+returns-4 c = (sym (stored (c .before) ∙ rw (not-true (c .before .fits2 .result) (c .if5 .taken))), claims)
 
 fill-requires : tie.Need-fill-requires
 fill-requires c κs = omega (arith, room (c .before), c .before .before .before .text-length .ensures)
@@ -69,7 +75,7 @@ same-length c = search needs
 returns-5 : tie.Need-returns-5
 returns-5 c =
     let e = c .before .before .before .before in
-    rw (c .before .before .fill .ensures .0) (sym (stored (e .before) ∙ rw (not-false (e .before .fits2 .result) (e .if5 .left))))
+    (rw (c .before .before .fill .ensures) (sym (stored (e .before) ∙ rw (not-false (e .before .fits2 .result) (e .if5 .left)))), claims)
 
 pub write-spec : {M : Type 1} → statement M
 write-spec =

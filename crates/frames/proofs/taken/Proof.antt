@@ -1,9 +1,6 @@
 use borrow.Author.Needs.{needs}
 use Rattle.frames.specs.Framings.{cappedOf}
 use Rattle.frames.proofs.WalkLaws.{held-within}
-use Rattle.frames.proofs.CallLaws.{consumes, refuses-short}
-use Rattle.frames.proofs.Follows.{tells-the-stream}
-use Rattle.frames.proofs.Cuts.{cuts}
 use Rattle.frames.proofs.taken.Statement.{statement}
 use Rattle.frames.proofs.taken.Tie as tie
 
@@ -34,11 +31,9 @@ same-length c = search needs
 returns : tie.Need-returns
 returns c =
     let k = c .before .before .before .before .before in
-    let h = k .before .before in (
-      rw (← h .before .walk-piece .ensures, c .before .capped .ensures, c .before .before .framing-after .ensures)
-          (rw (c .report-of .ensures, k .keep .ensures, h .held-of .ensures)),
-      (tells-the-stream, cuts, consumes, refuses-short),
-    )
+    let h = k .before .before in
+    rw (← h .before .walk-piece .ensures, c .before .capped .ensures, c .before .before .framing-after .ensures)
+    (rw (c .report-of .ensures, k .keep .ensures, h .held-of .ensures))
 
 pub taken-spec : {M : Type 1} → statement M
 taken-spec =

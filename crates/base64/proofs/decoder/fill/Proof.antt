@@ -10,7 +10,6 @@ use Rattle.base64.specs.Alphabet.{valueOf}
 use Rattle.base64.specs.Decode.{byte1, byte2, byte3, bytesOf}
 use Rattle.base64.proofs.Groups.{Groups, valid-groups, groups-length, full-group}
 use Rattle.base64.proofs.Turns.{drop-at-4, three-bytes, no-bytes}
-use Rattle.base64.proofs.Calls.{decode-encode}
 use Rattle.base64.proofs.decoder.fill.Statement.{statement}
 use Rattle.base64.proofs.decoder.fill.Tie as tie
 
@@ -129,7 +128,7 @@ same-length : tie.Need-same-length Inv-loop μ-loop
 same-length c = ap length (c .before .before .last .ensures) ∙ simp length-sets (kept (c .before .before .before .before .before .before))
 
 returns : tie.Need-returns Inv-loop μ-loop
-returns c = (rw (c .before .before .last .ensures) (c .before .before .before .before .before .before .loop .inv .3), decode-encode)
+returns c = rw (c .before .before .last .ensures) (c .before .before .before .before .before .before .loop .inv .3)
 
 same-length-2 : tie.Need-same-length-2 Inv-loop μ-loop
 same-length-2 c = kept (c .before .before)
@@ -137,7 +136,7 @@ same-length-2 c = kept (c .before .before)
 returns-2 : tie.Need-returns-2 Inv-loop μ-loop
 returns-2 c =
     let l = c .before .before in
-    (rw (no-bytes (l .before .before .before .args .text .now) (l .loop .i) (omega arith)) at (l .loop .inv .3), decode-encode)
+    rw (no-bytes (l .before .before .before .args .text .now) (l .loop .i) (omega arith)) at (l .loop .inv .3)
 
 pub fill-spec : {M : Type 1} → statement M
 fill-spec =

@@ -8,7 +8,6 @@ use lib.Seq.{sets}
 use borrow.Author.Needs.{needs}
 use Rattle.base64.specs.Encode.{textOf}
 use Rattle.base64.proofs.Turns.{text-group}
-use Rattle.base64.proofs.Calls.{encode-decode}
 use Rattle.base64.proofs.encoder.fill.Statement.{statement}
 use Rattle.base64.proofs.encoder.fill.Tie as tie
 
@@ -93,7 +92,7 @@ same-length : tie.Need-same-length Inv-loop μ-loop
 same-length c = omega arith
 
 returns : tie.Need-returns Inv-loop μ-loop
-returns c = (c .before .before .tail .ensures ∙ c .before .before .before .before .before .loop .inv .3, encode-decode)
+returns c = c .before .before .tail .ensures ∙ c .before .before .before .before .before .loop .inv .3
 
 pub fill-spec : {M : Type 1} → statement M
 fill-spec =

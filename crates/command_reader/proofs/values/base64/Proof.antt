@@ -13,7 +13,7 @@ told : (c : tie.After-decode) (d : Decoded) → c .decode .result ≡ d → let 
     (at : ℕ) → Keeps Kind.base64 at (a .v .now) (a .scratch .now) (a .used) (decodedAs (a .used) d) (c .decode .last .1 .0)
 told c d e =
     let s = c .before .before .before .before in
-    decoded-kept (s .args .v .now) (s .args .scratch .now) (s .args .used) _ (s .pre) (rw e at (c .decode .ensures))
+    decoded-kept (s .args .v .now) (s .args .scratch .now) (s .args .used) _ (s .pre) (rw e at (c .decode .ensures .0))
 
 decode-requires : tie.Need-decode-requires
 decode-requires c κs = search needs

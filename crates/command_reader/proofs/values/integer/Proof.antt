@@ -20,15 +20,15 @@ enum-told-2 c = search needs
 
 returns : tie.Need-returns
 unfolding valueRead
-returns c = λ at scratch used n slots. rw (c .numbered .ensures, ← c .before .before .before .before .parse .ensures, c .before .before .n .given .1)
+returns c = λ at scratch used n slots. rw (c .numbered .ensures, ← c .before .before .before .before .parse .ensures .0, c .before .before .n .given .1)
 
 returns-2 : tie.Need-returns-2
 unfolding valueRead
-returns-2 c = λ at scratch used n slots. rw (← c .before .before .parse .ensures, c .enum-told .given .1)
+returns-2 c = λ at scratch used n slots. rw (← c .before .before .parse .ensures .0, c .enum-told .given .1)
 
 returns-3 : tie.Need-returns-3
 unfolding valueRead
-returns-3 c = λ at scratch used n slots. rw (← c .before .before .parse .ensures, c .enum-told2 .given .1)
+returns-3 c = λ at scratch used n slots. rw (← c .before .before .parse .ensures .0, c .enum-told2 .given .1)
 
 pub integer-spec : {M : Type 1} → statement M
 integer-spec =

@@ -24,7 +24,7 @@ returns : tie.Need-returns
 unfolding encodeOf
 returns c =
     let a = c .before .before .before .before .before .before .before .args in
-    put-stored _ _ (textOf (a .bytes .now)) (a .out .now) (a .at) (c .end-of .result) (c .before .before .before .encode .ensures) (rw (length-text (a .bytes .now)) (c .end-of .ensures))
+    put-stored _ _ (textOf (a .bytes .now)) (a .out .now) (a .at) (c .end-of .result) (c .before .before .before .encode .ensures .0) (rw (length-text (a .bytes .now)) (c .end-of .ensures))
 
 pub put-base64-spec : {M : Type 1} → statement M
 put-base64-spec =

@@ -12,7 +12,6 @@ use Rattle.octets.proofs.Lists.{drop-at, drop-end}
 use Rattle.decimal.specs.Read.{digitsOf}
 use Rattle.decimal.specs.declared.reader.Run.the-variants.{NotDigits}
 use Rattle.decimal.proofs.Powers.{ten-le}
-use Rattle.decimal.proofs.Digits.{fixed-read}
 use Rattle.decimal.proofs.reader.digits.Statement.{statement}
 use Rattle.decimal.proofs.reader.digits.Tie as tie
 
@@ -48,10 +47,10 @@ wide-requires : tie.Need-wide-requires Inv-loop μ-loop
 wide-requires c κs = search needs
 
 returns : tie.Need-returns Inv-loop μ-loop
-returns c = (sym (turn (c .before) ∙ rw (lt-ltb _ _ (c .if1 .taken))), fixed-read)
+returns c = sym (turn (c .before) ∙ rw (lt-ltb _ _ (c .if1 .taken)))
 
 returns-2 : tie.Need-returns-2 Inv-loop μ-loop
-returns-2 c = (sym (turn (c .before .before) ∙ rw (le-ltb _ _ (c .before .if1 .left), lt-ltb _ _ (c .if2 .taken))), fixed-read)
+returns-2 c = sym (turn (c .before .before) ∙ rw (le-ltb _ _ (c .before .if1 .left), lt-ltb _ _ (c .if2 .taken)))
 
 mul-value : tie.Need-mul-value Inv-loop μ-loop
 mul-value c = omega (arith, fits c)
@@ -76,7 +75,7 @@ returns-3 : tie.Need-returns-3 Inv-loop μ-loop
 unfolding digitsOf
 returns-3 c =
     let l = c .before .loop in
-    (sym (ap (digitsOf (l .value)) (drop-end (c .before .before .before .args .text .now) (l .i) (omega arith))) ∙ l .inv .2, fixed-read)
+    sym (ap (digitsOf (l .value)) (drop-end (c .before .before .before .args .text .now) (l .i) (omega arith))) ∙ l .inv .2
 
 pub digits-spec : {M : Type 1} → statement M
 digits-spec =

@@ -1,17 +1,16 @@
 use borrow.Author.Needs.{needs}
 use borrow.Author.Tests.{lt-ltb, le-ltb, eq-eqb, ne-eqb}
 use Rattle.decimal.specs.Read.{magnitudeOf}
-use Rattle.decimal.proofs.RoundTrip.{read-writes}
 use Rattle.decimal.proofs.reader.magnitude.Statement.{statement}
 use Rattle.decimal.proofs.reader.magnitude.Tie as tie
 
 returns : tie.Need-returns
 unfolding magnitudeOf
-returns c = (rw (eq-eqb _ _ (c .if1 .taken)), read-writes)
+returns c = rw (eq-eqb _ _ (c .if1 .taken))
 
 returns-2 : tie.Need-returns-2
 unfolding magnitudeOf
-returns-2 c = (rw (ne-eqb _ _ (c .before .if1 .left), lt-ltb _ _ (c .if2 .taken)), read-writes)
+returns-2 c = rw (ne-eqb _ _ (c .before .if1 .left), lt-ltb _ _ (c .if2 .taken))
 
 digits-requires : tie.Need-digits-requires
 digits-requires c κs = search needs
@@ -31,7 +30,7 @@ returns-3 c =
     let d = c .before .before .before .before in
     let some = ne-eqb _ _ (d .before .before .if1 .left) in
     let short = le-ltb _ _ (d .before .if2 .left) in
-    (rw (c .ranged .ensures, some, short, ← d .digits .ensures .0, c .before .before .m .given .1), read-writes)
+    rw (c .ranged .ensures, some, short, ← d .digits .ensures, c .before .before .m .given .1)
 
 returns-4 : tie.Need-returns-4
 unfolding magnitudeOf
@@ -39,7 +38,7 @@ returns-4 c =
     let d = c .before .before in
     let some = ne-eqb _ _ (d .before .before .if1 .left) in
     let short = le-ltb _ _ (d .before .if2 .left) in
-    (rw (some, short, ← d .digits .ensures .0, c .enum-told .given .1), read-writes)
+    rw (some, short, ← d .digits .ensures, c .enum-told .given .1)
 
 pub magnitude-spec : {M : Type 1} → statement M
 magnitude-spec =

@@ -5,7 +5,7 @@ use lib.ListN.{length, length-set}
 use lib.Seq.{sets}
 use borrow.Author.Needs.{needs}
 use Rattle.decimal.specs.Write.{fixed}
-use Rattle.decimal.proofs.Digits.{store-last, read-fixed}
+use Rattle.decimal.proofs.Digits.{store-last}
 use Rattle.decimal.proofs.writer.digits.Statement.{statement}
 use Rattle.decimal.proofs.writer.digits.Tie as tie
 
@@ -49,7 +49,7 @@ unfolding fixed
 returns c =
     let l = c .before .loop in
     let z : l .k ≡ 0 = omega arith in
-    (rw z at (l .inv .2), read-fixed)
+    rw z at (l .inv .2)
 
 pub digits-spec : {M : Type 1} → statement M
 digits-spec =

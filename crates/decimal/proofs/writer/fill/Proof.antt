@@ -5,7 +5,6 @@ use lib.ListN.{length-set}
 use borrow.Author.Needs.{needs}
 use Rattle.decimal.specs.Write.{textOf}
 use Rattle.decimal.proofs.Digits.{length-fixed}
-use Rattle.decimal.proofs.RoundTrip.{written-reads}
 use Rattle.decimal.proofs.writer.fill.Statement.{statement}
 use Rattle.decimal.proofs.writer.fill.Tie as tie
 
@@ -36,7 +35,7 @@ returns : tie.Need-returns
 unfolding textOf
 returns c =
     let e = c .before .before .before .before in
-    (rw (e .if1 .taken) (c .before .before .digits .ensures .0 ∙ rw (e .before .width .ensures .0, add-one)), written-reads)
+    rw (e .if1 .taken) (c .before .before .digits .ensures ∙ rw (e .before .width .ensures .0, add-one))
 
 same-length-2 : tie.Need-same-length-2
 same-length-2 c = search needs
@@ -45,7 +44,7 @@ returns-2 : tie.Need-returns-2
 unfolding textOf
 returns-2 c =
     let e = c .before .before .before .before in
-    (rw (e .if1 .left) (c .before .before .digits2 .ensures .0 ∙ rw (e .before .width .ensures .0)), written-reads)
+    rw (e .if1 .left) (c .before .before .digits2 .ensures ∙ rw (e .before .width .ensures .0))
 
 pub fill-spec : {M : Type 1} → statement M
 fill-spec =
