@@ -21,12 +21,12 @@ use Rattle.protocol.specs.Files.{countLimit}
 use Rattle.protocol.specs.Calls.{replied}
 use Rattle.protocol.specs.Claim.{ClosingReply}
 use Rattle.frames.specs.declared.Framing.{Framing}
+use Rattle.protocol.specs.Promises.{IsId}
 use Rattle.protocol.specs.declared.FileRecord.{FileRecord}
 use Rattle.protocol.specs.declared.Session.{Session}
 use Rattle.protocol.specs.declared.Status.the-variants as Status
 use Rattle.protocol.specs.declared.Reply.{Reply}
 use Rattle.protocol.specs.declared.Stepped.{Stepped}
-use Rattle.protocol.proofs.Refusals.{IsId}
 use Rattle.protocol.proofs.Invariant.{keyOf}
 
 -- the law of the status text, for the word OK

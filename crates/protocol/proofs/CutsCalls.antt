@@ -17,6 +17,7 @@ use Rattle.frames.specs.declared.Report.{Report}
 use Rattle.frames.specs.declared.Report.the-variants as Report
 use Rattle.frames.proofs.CallLaws.{call-report}
 use Rattle.frames.proofs.Follows.{stream-append, fresh-follows, call-follows}
+use Rattle.command.specs.Slots.{valuesOf}
 use Rattle.command.specs.Read.{readOf}
 use Rattle.protocol.specs.Table.{findSession}
 use Rattle.protocol.specs.Replies.{replyBytes, repliedOf}
@@ -24,7 +25,8 @@ use Rattle.protocol.specs.Answers.{refused, settleDone, settleFailed, dr
 use Rattle.protocol.specs.Calls.{isOwed, Feeding, feeding, Acted, readAct, reportAct, feedRefused, scannedFeed, isShort, feedOf, answeredBy, replied, guarded, allowOf, denyOf, dropOf, doneOf, failedOf}
 use Rattle.protocol.specs.History.{Event, bytesOf, modeAfter}
 use Rattle.protocol.specs.Machine.{Call, World, isUnfed, isRefused, afterFeed, afterCall, start}
-use Rattle.protocol.specs.Cuts.{saying, Move, Output, output, isReport, isReportMove, reportOf, answerOf}
+use Rattle.protocol.specs.Cuts.{saying, Move, Output, reporting, answering, isReport, isReportMove, reportOf, answerOf}
+use Rattle.protocol.specs.Promises.{Sized}
 use Rattle.protocol.specs.declared.Table.{Table}
 use Rattle.protocol.specs.declared.Receiver.{Receiver}
 use Rattle.protocol.specs.declared.Told.{Told}
@@ -35,10 +37,10 @@ use Rattle.protocol.specs.declared.Found.{Found}
 use Rattle.protocol.specs.declared.Found.the-variants as Found
 use Rattle.protocol.proofs.Ours.{Lent, step, given}
 use Rattle.protocol.proofs.ReplyBytes.{SizedReply, reply-sent}
-use Rattle.protocol.proofs.Sizes.{Sized, SizedStep, none-sized, empty-sized, done-sized, failed-sized, allow-sized, deny-sized, dropped-sized}
+use Rattle.protocol.proofs.Sizes.{SizedStep, none-sized, empty-sized, done-sized, failed-sized, allow-sized, deny-sized, dropped-sized}
 use Rattle.protocol.proofs.ReplyLengths.{report-sized, Roomy, roomy}
 use Rattle.protocol.proofs.CutsReading.{same-reading}
-use Rattle.protocol.proofs.CutsSteps.{SameAct, act-same}
+use Rattle.protocol.proofs.CutsSteps.{SameAct, unread-same, act-same}
 use Rattle.protocol.proofs.CutsRun.{zeros, textIn, actOn, reported, moveBy, move, Moves, none, one}
 
 -- ---- what every call keeps
@@ -51,9 +53,10 @@ unfolding stream
 start-kept carry = record { follows = fresh-follows carry; sized = empty-sized }
 
 -- ---- a report
-abbrev reporting : List ℕ → Acted → List ℕ → Output
-reporting text a reply =
-    output Move.report text (saying (a .step .told) text (a .scratch)) (take (repliedOf (a .step .reply) reply .answer) (repliedOf (a .step .reply) reply .buffer))
+abbrev reportedBy : List ℕ → Acted → List ℕ → Output
+reportedBy text a reply =
+    let b = repliedOf (a .step .reply) reply in
+    reporting text (valuesOf (a .command) text (a .scratch)) (saying (a .step .told) (a .scratch)) (take (b .answer) (b .buffer))
 
 -- an act on the table that is no refusal with 9 or 10, what it gives, and what was told for it
 record Acts (t : Table) (a : Acted) (os : List Output) (ds : List Stream.Told) : Type 0 where
@@ -62,27 +65,33 @@ record Acts (t : Table) (a : Acted) (os : List Output) (ds : List Stream.Told) :
 
 module _ (t : Table) (h : Sized t) (scratch reply : List ℕ) (enough : 6144 ≤ length scratch) (long : 124 ≤ length reply) where
   -- the act for a thing told, with any scratch
-  act-moves : (d : Stream.Told) (a : Acted) → SizedReply (a .step .reply) → SameAct (textIn d) a (actOn t d) → Acts t a (reporting (textIn d) a reply ∷ []) (d ∷ [])
+  act-moves : (d : Stream.Told) (a : Acted) → SizedReply (a .step .reply) → SameAct (textIn d) a (actOn t d)
+      → Acts t a (reportedBy (textIn d) a reply ∷ []) (d ∷ [])
   act-moves d a z s =
-      let e : reporting (textIn d) a reply ≡ reported t d = rw (reply-sent (a .step .reply) reply z long .bytes, s .said, s .step) in
+      let e : reportedBy (textIn d) a reply ≡ reported t d = rw (reply-sent (a .step .reply) reply z long .bytes, s .values, s .said, s .step) in
       let q : a .step .table ≡ actOn t d .step .table = rw (s .step) in
       record { taken = s .taken; moves = rw (e, q) (one (reported t d) (d ∷ []) refl (λ rest. refl)) }
 
   text-moves : (text : List ℕ)
-      → Acts t (readAct t text (readOf text scratch)) (reporting text (readAct t text (readOf text scratch)) reply ∷ []) (Stream.Told.command text ∷ [])
+      → Acts t (readAct t text (readOf text scratch)) (reportedBy text (readAct t text (readOf text scratch)) reply ∷ []) (Stream.Told.command text ∷ [])
   text-moves text =
       act-moves (Stream.Told.command text) _ (report-sized t h (Report.InCarry 0) text scratch .reply) (act-same t h text (same-reading text scratch zeros enough (lit≤ tt)))
 
   report-moves : (k : Report) (piece carry : List ℕ) → (k ≡ Report.ShortCarry → ⊥)
       → let text = textOf piece carry k in
-      Acts t (reportAct t k text scratch) (pick (isReport k) (reporting text (reportAct t k text scratch) reply ∷ []) []) (toldOf k text)
+      Acts t (reportAct t k text scratch) (pick (isReport k) (reportedBy text (reportAct t k text scratch) reply ∷ []) []) (toldOf k text)
   unfolding textOf
   report-moves Report.Nothing piece carry n = record { taken = refl; moves = none refl }
   report-moves (Report.InPiece start len) piece carry n = text-moves _
   report-moves (Report.InCarry len) piece carry n = text-moves _
-  report-moves Report.TooLong piece carry n = act-moves Stream.Told.tooLong _ none-sized (record { step = refl; said = refl; taken = refl })
-  report-moves Report.Abandoned piece carry n = act-moves Stream.Told.abandoned _ none-sized (record { step = refl; said = refl; taken = refl })
+  report-moves Report.TooLong piece carry n = act-moves Stream.Told.tooLong _ none-sized (unread-same t _ _ scratch zeros refl refl)
+  report-moves Report.Abandoned piece carry n = act-moves Stream.Told.abandoned _ none-sized (unread-same t _ _ scratch zeros refl refl)
   report-moves Report.ShortCarry piece carry n = absurd (n refl)
+
+-- a feed that is not refused with 9 or 10 tells neither
+pub report-taken : (t : Table) → Sized t → (scratch reply : List ℕ) → 6144 ≤ length scratch → 124 ≤ length reply → (k : Report) (piece carry : List ℕ)
+    → (k ≡ Report.ShortCarry → ⊥) → isUnfed (reportAct t k (textOf piece carry k) scratch .step .told) ≡ false
+report-taken t h scratch reply enough long k piece carry n = report-moves t h scratch reply enough long k piece carry n .taken
 
 -- ---- a feed
 -- what a feed of a piece does to the world
@@ -146,7 +155,7 @@ unfolding guarded
 answers r h m c s reply z e = go (ltb (length reply) 124) refl
   where
     out : Outcome Answered → Output
-    out a = output m [] (saying (a .answer .told) [] []) (take (a .answer .«reply_len») (a .buffer))
+    out a = answering m (a .answer .told) (take (a .answer .«reply_len») (a .buffer))
 
     go : (b : Bool) → ltb (length reply) 124 ≡ b
         → let a = pick b (outcome (answeredBy (r .framing) (refused (r .table) 9) 0) reply) (replied (r .framing) s reply) in Answers r a (pick b [] (out a ∷ []))
@@ -214,7 +223,7 @@ module _ (w : World) (ok : Kept w) where
       let q = noted-bytes (isRefused (dropOf r id .told)) (Event.dropped id) h refl in
       record {
         bytes = q;
-        moves = one (output (Move.drop id) [] (saying (droppedOf (r .table) id .told) [] []) []) [] refl (λ ds. rw (drop-silent (r .table) id));
+        moves = one (answering (Move.drop id) (droppedOf (r .table) id .told) []) [] refl (λ ds. rw (drop-silent (r .table) id));
         kept = console-kept (dropOf r id) _ q refl (dropped-sized (r .table) (ok .sized) id .table);
       }
   steps (Call.done reply) lent =

@@ -5,11 +5,12 @@ use mathlib.Core.List.{List, [], _∷_, _++_}
 use lib.ListN.{length, replicate}
 use Rattle.octets.specs.Choice.{pick}
 use Rattle.frames.specs.Stream as Stream
+use Rattle.command.specs.Slots.{valuesOf}
 use Rattle.command.specs.Read.{readOf}
 use Rattle.protocol.specs.Replies.{replyBytes}
 use Rattle.protocol.specs.Answers.{settleDone, settleFailed, allowedOf, deniedOf, droppedOf}
-use Rattle.protocol.specs.Calls.{Acted, acted, telling, readAct}
-use Rattle.protocol.specs.Cuts.{Saying, saying, Move, isReportMove, Output, output}
+use Rattle.protocol.specs.Calls.{Acted, unread, readAct}
+use Rattle.protocol.specs.Cuts.{Saying, saying, Move, isReportMove, Output, reporting, answering}
 use Rattle.protocol.specs.declared.Table.{Table}
 use Rattle.protocol.specs.declared.Told.the-variants as Told
 use Rattle.protocol.specs.declared.Stepped.{Stepped}
@@ -35,23 +36,22 @@ textIn Stream.Told.abandoned = []
 
 abbrev pub actOn : Table → Stream.Told → Acted
 actOn t (Stream.Told.command text) = readAct t text (readOf text zeros)
-actOn t Stream.Told.tooLong = acted (telling t (Told.Refused 1)) zeros
-actOn t Stream.Told.abandoned = acted (telling t (Told.Refused 2)) zeros
+actOn t Stream.Told.tooLong = unread t (Told.Refused 1) zeros
+actOn t Stream.Told.abandoned = unread t (Told.Refused 2) zeros
 
 abbrev pub reported : Table → Stream.Told → Output
-reported t d = output Move.report (textIn d) (saying (actOn t d .step .told) (textIn d) (actOn t d .scratch)) (replyBytes (actOn t d .step .reply))
+reported t d =
+    let a = actOn t d in
+    reporting (textIn d) (valuesOf (a .command) (textIn d) (a .scratch)) (saying (a .step .told) (a .scratch)) (replyBytes (a .step .reply))
 
 -- a report is the next thing told; where nothing is, which no call meets, it gives nothing
 abbrev pub moveReport : Table → List Stream.Told → Moved
-moveReport t [] = moved (output Move.report [] Saying.nothing []) t []
+moveReport t [] = moved (reporting [] [] Saying.nothing []) t []
 moveReport t (d ∷ ds) = moved (reported t d) (actOn t d .step .table) ds
 
 -- a console call
-abbrev pub answeredBy : Move → Stepped → Output
-answeredBy m s = output m [] (saying (s .told) [] []) (replyBytes (s .reply))
-
 abbrev pub moveBy : Move → Stepped → List Stream.Told → Moved
-moveBy m s ds = moved (answeredBy m s) (s .table) ds
+moveBy m s ds = moved (answering m (s .told) (replyBytes (s .reply))) (s .table) ds
 
 abbrev pub move : Table → Move → List Stream.Told → Moved
 move t Move.report ds = moveReport t ds

@@ -2,32 +2,36 @@
 use Prim.Native.Nat.{ℕ}
 use mathlib.Core.Path.{_≡_, refl, ap, _∙_}
 use mathlib.Core.Bool.{false}
-use mathlib.Core.List.{List}
+use mathlib.Core.List.{List, []}
 use native.Mathlib.Omega.{arith}
 use lib.ListN.{length}
 use lib.Dec.{eqb}
-use borrow.Author.Tests.{lt-leb}
+use borrow.Author.Tests.{le-leb}
 use Rattle.octets.specs.Choice.{pick}
 use Rattle.octets.specs.Outcome.{Outcome}
+use Rattle.command.specs.Values.{Value}
+use Rattle.command.specs.Slots.{nowhere, slotsOf, bytesAt, valuesOf}
 use Rattle.command.specs.Read.{Answer}
 use Rattle.command.specs.declared.Command.{Command}
 use Rattle.protocol.specs.Table.{sessionAt, findSession, findFile}
 use Rattle.protocol.specs.Actions.{kindOf}
 use Rattle.protocol.specs.Files.{stringIn, idIn, fileIdIn, fileStatus, fileChecked, fileKnown, fileOf}
 use Rattle.protocol.specs.Sessions.{presentResult, foundResult, obeyOf}
-use Rattle.protocol.specs.Calls.{Acted, readAct}
+use Rattle.protocol.specs.Calls.{Acted, unread, readAct}
 use Rattle.protocol.specs.Machine.{isUnfed}
 use Rattle.protocol.specs.Cuts.{saying}
+use Rattle.protocol.specs.Promises.{Sized}
 use Rattle.protocol.specs.declared.Kind.{Kind}
 use Rattle.protocol.specs.declared.Kind.the-variants as Kind
 use Rattle.protocol.specs.declared.Table.{Table}
 use Rattle.protocol.specs.declared.Status.the-variants as Status
 use Rattle.protocol.specs.declared.Told.{Told}
+use Rattle.protocol.specs.declared.Told.the-variants as Told
 use Rattle.protocol.specs.declared.Stepped.{Stepped}
 use Rattle.protocol.specs.declared.Found.{Found}
 use Rattle.protocol.specs.declared.Found.the-variants as Found
 use Rattle.protocol.proofs.Laws.{low-taken}
-use Rattle.protocol.proofs.Sizes.{Sized, Tells, obey-sized}
+use Rattle.protocol.proofs.Sizes.{Tells, obey-sized}
 use Rattle.protocol.proofs.CutsReading.{SameCommand, SameReading, refused, read}
 
 -- ---- the session rule looks at the scratch for the name only
@@ -66,13 +70,14 @@ module _ (t : Table) (c : Command) (text scratch scratch′ : List ℕ) (e : str
   obey-same = found-same (findSession t (idIn c text))
 
 -- ---- what is told
-tells-same : {t : List ℕ} {c : Command} {w : Told} {scratch scratch′ : List ℕ} → Tells c w → SameCommand t c scratch scratch′ → saying w t scratch ≡ saying w t scratch′
+tells-same : {t : List ℕ} {c : Command} {w : Told} {scratch scratch′ : List ℕ} → Tells c w → SameCommand t c scratch scratch′
+    → saying w scratch ≡ saying w scratch′
 tells-same Tells.nothing s = refl
-tells-same Tells.asked s = rw (s .values)
-tells-same Tells.opens s = rw (s .values)
-tells-same Tells.writes s = rw (s .payload, s .values)
-tells-same Tells.writesLast s = rw (s .payload, s .values)
-tells-same Tells.commits s = rw (s .values)
+tells-same Tells.asked s = refl
+tells-same Tells.opens s = refl
+tells-same Tells.writes s = rw (s .payload)
+tells-same Tells.writesLast s = rw (s .payload)
+tells-same Tells.commits s = refl
 tells-same (Tells.status w) s = refl
 tells-same Tells.withdrawn s = refl
 tells-same Tells.discarded s = refl
@@ -89,15 +94,28 @@ tells-taken Tells.withdrawn = refl
 tells-taken Tells.discarded = refl
 
 -- ---- a text acted on
--- with two scratches: the same step, and the same told; no refusal with 9 or 10
+-- with two scratches: the same step, the same command, and the same told; no refusal with 9 or 10
 pub record SameAct (text : List ℕ) (a a′ : Acted) : Type 0 where
   pub step : a .step ≡ a′ .step
-  pub said : saying (a .step .told) text (a .scratch) ≡ saying (a′ .step .told) text (a′ .scratch)
+  pub values : valuesOf (a .command) text (a .scratch) ≡ valuesOf (a′ .command) text (a′ .scratch)
+  pub said : saying (a .step .told) (a .scratch) ≡ saying (a′ .step .told) (a′ .scratch)
   pub taken : isUnfed (a .step .told) ≡ false
 
-pub act-same : (t : Table) → Sized t → (text : List ℕ) {o o′ : Outcome Answer} → SameReading text o o′ → SameAct text (readAct t text o) (readAct t text o′)
-act-same t h text (refused n after after′ l) = record { step = refl; said = refl; taken = low-taken n l }
+-- where no command was read, the values are those of a text without one
+nowhere-bytes : (l : List ℕ) → bytesAt l nowhere ≡ Value.bytes []
+unfolding bytesAt
+nowhere-bytes l = rw (le-leb 0 (length l) (omega arith))
+
+pub unread-same : (t : Table) (w : Told) (text scratch scratch′ : List ℕ) → saying w scratch ≡ saying w scratch′ → isUnfed w ≡ false
+    → SameAct text (unread t w scratch) (unread t w scratch′)
+unfolding valuesOf slotsOf
+unread-same t w text scratch scratch′ e u =
+    record { step = refl; values = rw (nowhere-bytes text, nowhere-bytes scratch, nowhere-bytes scratch′); said = e; taken = u }
+
+pub act-same : (t : Table) → Sized t → (text : List ℕ) {o o′ : Outcome Answer} → SameReading text o o′
+    → SameAct text (readAct t text o) (readAct t text o′)
+act-same t h text (refused n after after′ l) = unread-same t (Told.Refused n) text after after′ refl (low-taken n l)
 act-same t h text (read c after after′ s) =
     let e : obeyOf t c text after ≡ obeyOf t c text after′ = obey-same t c text after after′ (s .name) in
     let w : Tells c (obeyOf t c text after .told) = obey-sized t h c text after .told in
-    record { step = e; said = tells-same w s ∙ ap (λ (x : Stepped). saying (x .told) text after′) e; taken = tells-taken w }
+    record { step = e; values = s .values; said = tells-same w s ∙ ap (λ (x : Stepped). saying (x .told) after′) e; taken = tells-taken w }

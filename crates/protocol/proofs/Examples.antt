@@ -1,6 +1,6 @@
 -- Lists of calls computed whole: the definitions and the claim are not about nothing.
 use Prim.Native.Nat.{ℕ, zero, suc}
-use mathlib.Core.Path.{_≡_, refl}
+use mathlib.Core.Path.{_≡_, refl, sym, _∙_}
 use mathlib.Core.Option.{Option}
 use mathlib.Core.List.{List, [], _∷_, _++_}
 use lib.ListN.{length, take, drop, replicate}
@@ -39,7 +39,7 @@ use Rattle.protocol.specs.History.{bytesOf, Mark, marksOf}
 use Rattle.protocol.specs.Stretches.{Key, Stretch, since, parts, contents}
 use Rattle.protocol.specs.Machine.{Call, World, start}
 use Rattle.protocol.specs.Claim.{stateAt, countAt}
-use Rattle.protocol.specs.Cuts.{consoleCalls}
+use Rattle.protocol.specs.Cuts.{Move, consoleCalls}
 use Rattle.protocol.specs.declared.FileState.the-variants as FileState
 use Rattle.protocol.specs.declared.Status.the-variants as Status
 use Rattle.protocol.specs.declared.Told.{Told}
@@ -68,16 +68,17 @@ replay w bs p = record { world = w; written = bs; rest = p }
 abbrev called : Replay → Call → Outcome Answered → Replay
 called r c a = replay (step (r .world) c) (r .written ++ take (a .answer .«reply_len») (a .buffer)) (r .rest)
 
+-- what is told is answered, given the id of the command
 abbrev answer : Replay → Told → List ℕ → Replay
-answer r Told.Nothing text = r
-answer r (Told.Refused n) text = r
-answer r Told.Ignored text = r
-answer r (Told.Asked c) text = called r (Call.allow (idIn c text) reply₀) (allowOf (r .world .receiver) (idIn c text) reply₀)
-answer r (Told.Ask a c) text = called r (Call.done reply₀) (doneOf (r .world .receiver) reply₀)
-answer r (Told.Status w) text = r
-answer r Told.Withdrawn text = r
-answer r Told.Discarded text = r
-answer r Told.Committed text = r
+answer r Told.Nothing id = r
+answer r (Told.Refused n) id = r
+answer r Told.Ignored id = r
+answer r Told.Asked id = called r (Call.allow id reply₀) (allowOf (r .world .receiver) id reply₀)
+answer r (Told.Ask a) id = called r (Call.done reply₀) (doneOf (r .world .receiver) reply₀)
+answer r (Told.Status w) id = r
+answer r Told.Withdrawn id = r
+answer r Told.Discarded id = r
+answer r Told.Committed id = r
 
 -- a feed of what is left
 abbrev feed : Replay → Feeding
@@ -90,7 +91,9 @@ fed r =
 
 -- and the answer to what it tells
 abbrev next : Replay → Replay
-next r = answer (fed r) (feed r .fed .told) (textOf (r .rest) (feed r .carry) (feed r .fed .report))
+next r =
+    let f = feed r in
+    answer (fed r) (f .fed .told) (idIn (f .fed .command) (textOf (r .rest) (f .carry) (f .fed .report)))
 
 abbrev times : ℕ → Replay → Replay
 times zero r = r
@@ -170,11 +173,13 @@ record Computed : Type 0 where
   -- the ids used again: the second file starts from zero, and closes with its own contents
   again-starts : countAt (play 2 again (play 5 input begin) .world .receiver .table) 0 0 ≡ 0
   again-closes : Closing (fed (play 2 again (play 5 input begin)) .world) (play 3 again (play 5 input begin) .world) (ascii "A")
-  -- the premises of the cut theorem hold of the two ways
+  -- the premises of the cut theorem hold of the two ways: both consume the first command, and allow the session after one report
   one-lent : AllLent (start (replicate 8192 0)) one-piece
   two-lent : AllLent (start ones) two-pieces
-  same-bytes : bytesOf (after (start (replicate 8192 0)) one-piece .history) ≡ bytesOf (after (start ones) two-pieces .history)
-  same-calls : consoleCalls 0 (allGiven (start (replicate 8192 0)) one-piece) ≡ consoleCalls 0 (allGiven (start ones) two-pieces)
+  one-bytes : bytesOf (after (start (replicate 8192 0)) one-piece .history) ≡ framed (ascii "5113;ac=send;id=m")
+  two-bytes : bytesOf (after (start ones) two-pieces .history) ≡ framed (ascii "5113;ac=send;id=m")
+  one-calls : consoleCalls 0 (allGiven (start (replicate 8192 0)) one-piece) ≡ (1, Move.allow (ascii "m")) ∷ []
+  two-calls : consoleCalls 0 (allGiven (start ones) two-pieces) ≡ (1, Move.allow (ascii "m")) ∷ []
   -- "No reply is longer than 124 bytes": one has as many
   longest : length (replyBytes (fileReply Status.Progress 0 (replicate 32 105) 32 (replicate 32 102) 32 countLimit)) ≡ 124
 
@@ -190,10 +195,14 @@ computed = record {
   again-closes = record { before = refl; after = refl; counted = refl; handed = refl; contained = refl };
   one-lent = ((λ _. refl), (tt, tt));
   two-lent = ((λ _. refl), ((λ _. refl), (tt, tt)));
-  same-bytes = refl;
-  same-calls = refl;
+  one-bytes = refl;
+  two-bytes = refl;
+  one-calls = refl;
+  two-calls = refl;
   longest = refl;
 }
 
 alike : allGiven (start (replicate 8192 0)) one-piece ≡ allGiven (start ones) two-pieces
-alike = cuts-alike (replicate 8192 0) ones one-piece two-pieces (computed .one-lent) (computed .two-lent) (computed .same-bytes) (computed .same-calls) .0
+alike =
+    cuts-alike (replicate 8192 0) ones one-piece two-pieces (computed .one-lent) (computed .two-lent) (computed .one-bytes ∙ sym (computed .two-bytes))
+    (computed .one-calls ∙ sym (computed .two-calls)) .0

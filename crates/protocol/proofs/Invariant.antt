@@ -13,6 +13,7 @@ use Rattle.protocol.specs.Files.{countLimit}
 use Rattle.protocol.specs.Calls.{isOwed}
 use Rattle.protocol.specs.History.{Command, Heard, Mark, Question, lastAsk}
 use Rattle.protocol.specs.Stretches.{Key, partFor, Stretch, since, parts, contents, startStands, stands, AllStand}
+use Rattle.protocol.specs.Promises.{IsId}
 use Rattle.protocol.specs.declared.FileState.{FileState}
 use Rattle.protocol.specs.declared.FileState.the-variants as FileState
 use Rattle.protocol.specs.declared.FileRecord.{FileRecord}
@@ -22,7 +23,6 @@ use Rattle.protocol.specs.declared.Owed.{Owed}
 use Rattle.protocol.specs.declared.Owed.the-variants as Owed
 use Rattle.protocol.specs.declared.Table.{Table}
 use Rattle.protocol.proofs.Laws.{Unique}
-use Rattle.protocol.proofs.Refusals.{IsId}
 
 -- ---- a started file
 abbrev pub keyOf : Session → FileRecord → Key

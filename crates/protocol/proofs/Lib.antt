@@ -26,6 +26,7 @@ pub mod CutsOrder
 pub mod CutsRun
 pub mod CutsCalls
 pub mod Cuts
+pub mod Promises
 pub mod Refuting
 pub mod Teeth
 pub mod Starred

@@ -23,6 +23,7 @@ use Rattle.protocol.specs.Files.{stringIn, fileIdIn, stepped, fileStatus
 use Rattle.protocol.specs.Calls.{isOwed}
 use Rattle.protocol.specs.History.{Command, Heard, Mark}
 use Rattle.protocol.specs.Stretches.{isData, isEnd}
+use Rattle.protocol.specs.Promises.{IsId}
 use Rattle.protocol.specs.declared.FileState.{FileState}
 use Rattle.protocol.specs.declared.FileState.the-variants as FileState
 use Rattle.protocol.specs.declared.SessionState.the-variants as SessionState
@@ -36,7 +37,6 @@ use Rattle.protocol.specs.declared.Told.the-variants as Told
 use Rattle.protocol.specs.declared.Found.{Found}
 use Rattle.protocol.specs.declared.Found.the-variants as Found
 use Rattle.protocol.proofs.Laws.{no-way, equals-same, first-at, found-nowhere, padded-id}
-use Rattle.protocol.proofs.Refusals.{IsId}
 use Rattle.protocol.proofs.Means.{Means, acts-as}
 use Rattle.protocol.proofs.Invariant.{keyOf, isPast, fileKey, fileUsed, OpenOK, owing, AtFile, About, TableOK}
 use Rattle.protocol.proofs.Marks.{content-none, holds-read, file-read, none-read, session-read}
@@ -94,7 +94,7 @@ module _ {ss : List Session} {c : PlacedCommand} {text scratch : List ℕ} {d : 
 
     open-kept : (w : Owed) → isOwed w ≡ true → owing w ≡ i
         → About (putFile (sessionIn ss i) j (opening (fileIdIn c text))) d Heard.opens w
-        → Kept ss m d scratch (stepped (table (set ss i (putFile (sessionIn ss i) j (opening (fileIdIn c text)))) w) (Told.Ask Ask.Open c) noReply)
+        → Kept ss m d scratch (stepped (table (set ss i (putFile (sessionIn ss i) j (opening (fileIdIn c text)))) w) (Told.Ask Ask.Open) noReply)
     open-kept w b e about =
         let s : Session = putFile (sessionIn ss i) j (opening (fileIdIn c text)) in
         record {
@@ -115,7 +115,7 @@ module _ {ss : List Session} {c : PlacedCommand} {text scratch : List ℕ} {d : 
 
     type-kept : (t : FileType) → c .«file_type» ≡ t → linkLike t ≡ false
         → Kept ss m d scratch
-        (stepped (withOwed (putFileAt (idle ss) i j (opening (fileIdIn c text))) (openOwed t i j)) (Told.Ask Ask.Open c) noReply)
+        (stepped (withOwed (putFileAt (idle ss) i j (opening (fileIdIn c text))) (openOwed t i j)) (Told.Ask Ask.Open) noReply)
     type-kept FileType.Regular e _ =
         open-kept (Owed.OpenFile i j) refl refl (record { heard = refl; action = acts-as means Action.File a; kind = means .file-type ∙ ap Slots.fileTypeCode e; at = at-file })
     type-kept FileType.Directory e _ =

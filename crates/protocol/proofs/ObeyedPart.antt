@@ -106,7 +106,7 @@ module _ {ss : List Session} {c : PlacedCommand} {text scratch : List ℕ} {d : 
       part-stands true = rw (ends, ← (h .id)) (stands-still (s-ok .stand))
       part-stands false = rw (ends, ← (h .id)) (stands-still (s-ok .stand))
 
-      part-heard : (v : Bool) → hearing (Told.Ask (writeAsk v (c .payload)) c) scratch ≡ Option.some (writeHeard v (Meaning.dataOf d))
+      part-heard : (v : Bool) → hearing (Told.Ask (writeAsk v (c .payload))) scratch ≡ Option.some (writeHeard v (Meaning.dataOf d))
       part-heard true = rw (means .part)
       part-heard false = rw (means .part)
 
@@ -116,7 +116,7 @@ module _ {ss : List Session} {c : PlacedCommand} {text scratch : List ℕ} {d : 
           record { part = Meaning.dataOf d; heard = refl; long = means .long; fits = fits; at = record { within = file .0; state = g; file = the-id } }
 
       asked-kept : (v : Bool) → fileAt (sessionIn ss i) j .count + c .payload .len ≤ countLimit
-          → Kept ss m d scratch (stepped (withOwed (idle ss) (writeOwed v i j (c .payload .len))) (Told.Ask (writeAsk v (c .payload)) c) noReply)
+          → Kept ss m d scratch (stepped (withOwed (idle ss) (writeOwed v i j (c .payload .len))) (Told.Ask (writeAsk v (c .payload))) noReply)
       asked-kept true fits =
           kept-asked ok h _ noReply (writeHeard true (Meaning.dataOf d)) (Owed.WriteLast i j (c .payload .len)) (part-heard true) refl refl refl o (part-about true fits)
           (λ n q. holds-read d (Option.some (writeHeard true (Meaning.dataOf d))) (rw ends) (ok .each n .opened q .stand)) (part-content true) (part-stands true)
@@ -132,7 +132,7 @@ module _ {ss : List Session} {c : PlacedCommand} {text scratch : List ℕ} {d : 
               → Kept ss m d scratch
               (pick x (failedFile (idle ss) i j c text Status.Einval)
               (pick y (failedFile (idle ss) i j c text Status.Efbig)
-              (stepped (withOwed (idle ss) (writeOwed last i j (c .payload .len))) (Told.Ask (writeAsk last (c .payload)) c) noReply)))
+              (stepped (withOwed (idle ss) (writeOwed last i j (c .payload .len))) (Told.Ask (writeAsk last (c .payload))) noReply)))
           go true y e = failed-kept Status.Einval
           go false true e = failed-kept Status.Efbig
           go false false e = asked-kept last (ltb-false _ _ e)

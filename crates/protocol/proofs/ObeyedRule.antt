@@ -56,7 +56,7 @@ module _ {ss : List Session} {c : PlacedCommand} {text scratch : List ℕ} {d : 
     room-kept : (f : Found) → first isAbsent ss ≡ f → Kept ss m d scratch (sendRoom (idle ss) c text f)
     room-kept Found.Nowhere q = unknown-kept (Told.Status Status.Ebusy) _ (status-silent Status.Ebusy)
     room-kept (Found.At i) q =
-        kept-silent _ (Told.Asked c) noReply (record { silent = refl; taken = refl })
+        kept-silent _ Told.Asked noReply (record { silent = refl; taken = refl })
         (put-session (idle ss) i (askedSession c text) Owed.Nothing ok (first-at isAbsent noSession ss i q .0) differs
         (λ j n. session-read d m Option.none (sessionIn ss j) (nobody j) (ok .each j))
         (shut-session (askedSession c text) (λ (z : SessionState.Asked ≡ SessionState.Open). let w : _≡_ {A = ℕ} 0 1 = cc in omega arith)
@@ -91,7 +91,7 @@ module _ {ss : List Session} {c : PlacedCommand} {text scratch : List ℕ} {d : 
     other-kept e f w r q = kept-same w r q (still-other ok e f)
 
     module _ (o : sessionIn ss i .state ≡ SessionState.Open) where
-      finish-kept : isData d ≡ false → (f : Found) → Kept ss m d scratch (finishFound (idle ss) i c f)
+      finish-kept : isData d ≡ false → (f : Found) → Kept ss m d scratch (finishFound (idle ss) i f)
       finish-kept b (Found.At j) = kept-drop ok h Told.Discarded _ (drop-silent SessionState.Open)
       finish-kept b Found.Nowhere =
           kept-asked ok h _ noReply Heard.commits (Owed.Commit i) refl refl refl refl o refl holds (λ k. content-none k d b) tt

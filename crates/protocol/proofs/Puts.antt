@@ -17,6 +17,7 @@ use Rattle.protocol.specs.History.{Command, Heard, Mark, Question, lastA
 use Rattle.protocol.specs.Stretches.{Key, since, startStands, AllStand}
 use Rattle.protocol.specs.Machine.{isRefused}
 use Rattle.protocol.specs.Claim.{stateAt, IsDone, Closes}
+use Rattle.protocol.specs.Promises.{IsId}
 use Rattle.protocol.specs.declared.FileState.{FileState}
 use Rattle.protocol.specs.declared.FileState.the-variants as FileState
 use Rattle.protocol.specs.declared.FileRecord.{FileRecord}
@@ -27,7 +28,6 @@ use Rattle.protocol.specs.declared.Owed.the-variants as Owed
 use Rattle.protocol.specs.declared.Table.{Table}
 use Rattle.protocol.specs.declared.Stepped.{Stepped}
 use Rattle.protocol.proofs.Laws.{no-way, set-each, set-any, set-unique, replicate-each}
-use Rattle.protocol.proofs.Refusals.{IsId}
 use Rattle.protocol.proofs.Invariant.{keyOf, isPast, fileKey, FileOK, Holds, fileUsed, OpenOK, sessionUsed, SessionOK, owing, About, Asking, TableOK}
 
 -- the table with other sessions, and with something owed

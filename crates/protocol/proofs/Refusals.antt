@@ -23,6 +23,7 @@ use Rattle.command.specs.Letters.{safeByte, textByte}
 use Rattle.command.specs.Values.{Value, count, Got, aliasRead, wordRead, over, safeRead, integerRead, base64Read, valueRead}
 use Rattle.command.specs.Fields.{Turn, andThen, Step, isKey, equalsSign, keyOf, valueOf, fieldRead, fieldsRead, textRead}
 use Rattle.command.specs.Meaning.{Field, stored, once, meant, blank, valuesIn, bytesIn, actionCode, idOf, fileIdOf, missing, Meaning, complete, finished, meaningOf}
+use Rattle.protocol.specs.Promises.{IsId}
 use Rattle.protocol.proofs.Laws.{set-any}
 
 -- ---- a reading of which P holds step by step
@@ -146,12 +147,6 @@ value-safe (k ∷ ks) [] n h e = (refl, omega arith)
 value-safe (k ∷ ks) (Field.unseen ∷ s) zero h e = rw e (refl, omega arith)
 value-safe (k ∷ ks) (Field.seen v ∷ s) zero h e = let f = rw e at (h 0) in (f .0, f .1 refl)
 value-safe (k ∷ ks) (f ∷ s) (suc n) h e = value-safe ks s n (λ i. h (suc i)) e
-
--- a safe string of 1 to 32 bytes
-pub record IsId (k : List ℕ) : Type 0 where
-  pub safe : every safeByte k ≡ true
-  pub some : 1 ≤ length k
-  pub short : length k ≤ 32
 
 -- of a command that a text means
 pub record Named (d : List Value) : Type 0 where

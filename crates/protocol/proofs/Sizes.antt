@@ -15,6 +15,7 @@ use Rattle.protocol.specs.Replies.{noReply, sessionReply, failureStatus}
 use Rattle.protocol.specs.Files.{stringIn, idIn, fileIdIn, stepped, ignored, fileStatus, unsupported, badPermissions, opening, fileRoom, fileChecked, fileKnown, fileOf, failedFile, writeOwed, writeAsk, countLimit, partAsked, partState, partFound, dataOf, finishFound, finishOf}
 use Rattle.protocol.specs.Sessions.{askedSession, dropTold, sendRoom, absentResult, presentResult, foundResult, obeyOf}
 use Rattle.protocol.specs.Answers.{settled, grown, settleDone, failedRecord, settleFailed, allowState, allowFound, denyState, denyFound, dropFound, allowedOf, deniedOf, droppedOf}
+use Rattle.protocol.specs.Promises.{SizedSession, Sized}
 use Rattle.protocol.specs.declared.FileState.{FileState}
 use Rattle.protocol.specs.declared.FileState.the-variants as FileState
 use Rattle.protocol.specs.declared.FileRecord.{FileRecord}
@@ -37,14 +38,6 @@ use Rattle.protocol.specs.declared.Found.{Found}
 use Rattle.protocol.specs.declared.Found.the-variants as Found
 use Rattle.protocol.proofs.Laws.{set-any, replicate-each}
 use Rattle.protocol.proofs.ReplyBytes.{SizedReply}
-
-pub record SizedSession (s : Session) : Type 0 where
-  pub id : length (s .id) ≤ 32
-  pub files : (j : ℕ) → length (fileAt s j .id) ≤ 32
-
--- at each place, those past the table's end too
-abbrev pub Sized : Table → Type 0
-Sized t = (i : ℕ) → SizedSession (sessionAt t i)
 
 -- what a step gives
 pub record SizedStep (s : Stepped) : Type 0 where
@@ -83,19 +76,19 @@ session-sized : (w : Status) (quiet : ℕ) (id : List ℕ) (len : ℕ) → lengt
 session-sized w quiet id len l = record { id = l; file = omega arith; size = omega arith }
 
 -- ---- the rule for a command
--- what a command can tell: nothing but itself, and of its own payload the place
+-- what a command can tell: of places only that of its own payload
 pub data Tells (c : Command) : Told → Type 0 where
   nothing : Tells c Told.Ignored
-  asked : Tells c (Told.Asked c)
-  opens : Tells c (Told.Ask Ask.Open c)
-  writes : Tells c (Told.Ask (Ask.Write (c .payload)) c)
-  writesLast : Tells c (Told.Ask (Ask.WriteLast (c .payload)) c)
-  commits : Tells c (Told.Ask Ask.Commit c)
+  asked : Tells c Told.Asked
+  opens : Tells c (Told.Ask Ask.Open)
+  writes : Tells c (Told.Ask (Ask.Write (c .payload)))
+  writesLast : Tells c (Told.Ask (Ask.WriteLast (c .payload)))
+  commits : Tells c (Told.Ask Ask.Commit)
   status : (w : Status) → Tells c (Told.Status w)
   withdrawn : Tells c Told.Withdrawn
   discarded : Tells c Told.Discarded
 
-tells-write : {c : Command} (last : Bool) → Tells c (Told.Ask (writeAsk last (c .payload)) c)
+tells-write : {c : Command} (last : Bool) → Tells c (Told.Ask (writeAsk last (c .payload)))
 tells-write true = Tells.writesLast
 tells-write false = Tells.writes
 
@@ -153,7 +146,7 @@ module _ (t : Table) (h : Sized t) (c : Command) (text scratch : List ℕ) where
     asked-sized j last = go (ltb 4096 (c .payload .len)) (ltb countLimit (fileAt (sessionAt t i) j .count + c .payload .len))
       where
         go : (x y : Bool) → Obeyed c (pick x (failedFile t i j c text Status.Einval) (pick y (failedFile t i j c text Status.Efbig)
-            (stepped (withOwed t (writeOwed last i j (c .payload .len))) (Told.Ask (writeAsk last (c .payload)) c) noReply)))
+            (stepped (withOwed t (writeOwed last i j (c .payload .len))) (Told.Ask (writeAsk last (c .payload))) noReply)))
         go true y = record-failed j Status.Einval
         go false true = record-failed j Status.Efbig
         go false false = record { table = h; reply = none-sized; told = tells-write last }
@@ -173,11 +166,11 @@ module _ (t : Table) (h : Sized t) (c : Command) (text scratch : List ℕ) where
     unfolding dataOf
     data-command last = part-sized last (findFile (sessionAt t i) (fileIdIn c text))
 
-    finish-sized : (f : Found) → Obeyed c (finishFound t i c f)
+    finish-sized : (f : Found) → Obeyed c (finishFound t i f)
     finish-sized Found.Nowhere = record { table = h; reply = none-sized; told = Tells.commits }
     finish-sized (Found.At j) = record { table = drop-sized t i h; reply = session-sized _ _ _ _ (h i .id); told = Tells.discarded }
 
-    finish-command : Obeyed c (finishOf t i c)
+    finish-command : Obeyed c (finishOf t i)
     unfolding finishOf
     finish-command = finish-sized (first isStarted (sessionAt t i .files))
 

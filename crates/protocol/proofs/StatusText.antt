@@ -27,6 +27,7 @@ use Rattle.command.proofs.Accepted.{Accepted, accepted-writes}
 use Rattle.command.proofs.RoundTrip.{read-written}
 use Rattle.protocol.specs.Files.{countLimit}
 use Rattle.protocol.specs.Replies.{statusWord, unlessEmpty, sizeText, statusFields, statusText, statusValues, framed}
+use Rattle.protocol.specs.Promises.{EveryStatus}
 use Rattle.protocol.specs.declared.Status.{Status}
 use Rattle.protocol.specs.declared.Status.the-variants as Status
 
@@ -166,7 +167,7 @@ module _ (id file : List ℕ) (size : ℕ) (w : Status) (safe : every safeByte i
       (shows-absent _ _ _ _ (shows-absent _ _ _ _ shows-none)))))))))))))))
 
   -- "canonical text with `ac=status` .."
-  pub status-canonical : statusText id file size (statusWord w) ≡ canonical (statusValues id file size (statusWord w))
+  status-canonical : statusText id file size (statusWord w) ≡ canonical (statusValues id file size (statusWord w))
   unfolding statusText canonical
   status-canonical = rw (shows-status .fields)
 
@@ -181,3 +182,10 @@ module _ (id file : List ℕ) (size : ℕ) (w : Status) (safe : every safeByte i
         room = omega arith;
       } in
       rw status-canonical (read-written c (canonical c) (length (canonical c)) (rw (accepted-writes c (canonical c) a)))
+
+pub every-status : EveryStatus
+every-status id file size w k fileSafe fileShort small =
+    record {
+      written = status-canonical id file size w (k .safe) (k .some) (k .short) fileSafe fileShort small;
+      means = status-means id file size w (k .safe) (k .some) (k .short) fileSafe fileShort small;
+    }

@@ -1,7 +1,7 @@
 -- The claims are false of each wrong machine: what each does is computed.
-use Prim.Native.Nat.{ℕ}
+use Prim.Native.Nat.{ℕ, _≤_}
 use mathlib.Core.Path.{_≡_, refl, sym, ap, _∙_}
-use mathlib.Core.Bool.{true}
+use mathlib.Core.Bool.{true, false}
 use mathlib.Core.List.{List, [], _∷_, _++_}
 use native.Mathlib.Omega.{arith}
 use lib.ListN.{length, take}
@@ -29,7 +29,7 @@ use Rattle.command.specs.Fields.{isKey, fieldRead, fieldsRead, textRead}
 use Rattle.command.specs.Meaning.{meaningOf}
 use Rattle.command.specs.Slots.{actionOf, fileTypeOf, transmissionOf, commandOf}
 use Rattle.command.specs.Read.{kept, readOf}
-use Rattle.protocol.specs.Table.{first}
+use Rattle.protocol.specs.Table.{freshReceiver, emptyTable, withOwed, first}
 use Rattle.protocol.specs.Actions.{resultIn, kindOf}
 use Rattle.protocol.specs.Replies.{statusText, replyBytes, repliedOf}
 use Rattle.protocol.specs.Files.{fileChecked, fileOf, partAsked, dataOf, finishOf}
@@ -37,10 +37,16 @@ use Rattle.protocol.specs.Sessions.{obeyOf}
 use Rattle.protocol.specs.Answers.{settleDone, allowedOf}
 use Rattle.protocol.specs.Calls.{scannedFeed, feedOf, guarded, allowOf, doneOf}
 use Rattle.protocol.specs.History.{Command, Question, bytesOf, marksOf, lastAsk}
-use Rattle.protocol.specs.Machine.{Machine, ours, start}
+use Rattle.protocol.specs.Machine.{Machine, ours, isUnfed, start}
+use Rattle.protocol.specs.Promises.{EveryCall}
 use Rattle.protocol.specs.Cuts.{allGiven, after, consoleCalls, CutsAlike}
-use Rattle.protocol.specs.WrongMachines.{sendPiece, filePiece, directoryPiece, dataPiece, longerIdPiece, endPiece, cancelPiece, oneTooSmall, lastOnly, otherSize, skipping, twice, shorterIds, dataOpens, reopening, neverClosing, unasked, deaf, closerLost, Teeth}
+use Rattle.protocol.specs.WrongMachines.{sendPiece, filePiece, directoryPiece, dataPiece, longerIdPiece, endPiece, cancelPiece, oneTooSmall, lastOnly, otherSize, skipping, twice, shorterIds, dataOpens, reopening, neverClosing, unasked, deaf, closerLost, hungry, stalling, Teeth}
+use Rattle.protocol.specs.declared.Owed.the-variants as Owed
+use Rattle.protocol.specs.declared.Receiver.{Receiver}
+use Rattle.protocol.specs.declared.Failure.the-variants as Failure
+use Rattle.protocol.specs.declared.Fed.{Fed}
 use Rattle.protocol.proofs.Laws.{no-way}
+use Rattle.protocol.proofs.Sizes.{empty-sized}
 use Rattle.protocol.proofs.Refuting.{carry₀, scratch₀, reply₀, Deed, feed, allow, done, calls, all-lent, afterAll, HandsBadly, hands-badly, turnsRight, ClosesBadly, closes-badly, StaysOpen, stays-open}
 
 -- a session allowed, a file started in it, and abc written
@@ -78,6 +84,13 @@ unallowed = feed sendPiece ∷ feed filePiece ∷ done ∷ []
 abbrev canceled : List Deed
 canceled = started ++ (feed cancelPiece ∷ [])
 
+-- a feed of one byte to a receiver, and a receiver that owes a commit
+abbrev fedWith : Machine → Receiver → Fed
+fedWith m r = m .feeds r (65 ∷ []) carry₀ scratch₀ reply₀ .fed
+
+abbrev owing : Receiver
+owing = record { framing = freshReceiver .framing; table = withOwed emptyTable (Owed.Commit 0) }
+
 -- ---- what each does
 record Computed : Type 0 where
   oneTooSmall-closes : ClosesBadly oneTooSmall ended
@@ -98,6 +111,10 @@ record Computed : Type 0 where
       ≡ consoleCalls 0 (allGiven closerLost (start carry₀) (calls closerLost (start carry₀) parted))
   one-report : length (allGiven closerLost (start carry₀) (calls closerLost (start carry₀) whole)) ≡ 1
   no-report : length (allGiven closerLost (start carry₀) (calls closerLost (start carry₀) parted)) ≡ 0
+  -- a feed of one byte: refused while a commit is owed, and not
+  hungry-told : isUnfed (fedWith hungry owing .told) ≡ true
+  hungry-consumes : fedWith hungry owing .consumed ≡ 1
+  stalling-told : isUnfed (fedWith stalling freshReceiver .told) ≡ false
   -- and ours at the same places: the tests hold
   ours-closes : turnsRight ours ended 4 ≡ true
   ours-directory : turnsRight ours (allowed ++ (feed directoryPiece ∷ [])) 0 ≡ true
@@ -121,6 +138,9 @@ computed = record {
   same-calls = refl;
   one-report = refl;
   no-report = refl;
+  hungry-told = refl;
+  hungry-consumes = refl;
+  stalling-told = refl;
   ours-closes = refl;
   ours-directory = refl;
   ours-parted = refl;
@@ -133,6 +153,17 @@ cut-closer-lost alike =
     let same = alike carry₀ carry₀ (calls closerLost w whole) (calls closerLost w parted) (all-lent closerLost w whole) (all-lent closerLost w parted)
     (computed .same-bytes) (computed .same-calls) in
     let z : _≡_ {A = ℕ} 1 0 = sym (computed .one-report) ∙ ap length (same .0) ∙ computed .no-report in
+    omega arith
+
+refused-consumes : EveryCall hungry → ⊥
+refused-consumes every =
+    let kept = every owing empty-sized (65 ∷ []) carry₀ scratch₀ reply₀ [] Failure.Eio .feeds .unfed (computed .hungry-told) in
+    let z : _≡_ {A = ℕ} 1 0 = sym (computed .hungry-consumes) ∙ kept .1 in
+    omega arith
+
+feed-stalls : EveryCall stalling → ⊥
+feed-stalls every =
+    let z : 1 ≤ 0 = every freshReceiver empty-sized (65 ∷ []) carry₀ scratch₀ reply₀ [] Failure.Eio .feeds .progress (computed .stalling-told) (omega arith) in
     omega arith
 
 pub teeth : Teeth
@@ -150,4 +181,6 @@ teeth =
       neverAllowed = hands-badly unasked unallowed dataPiece (computed .unasked-hands);
       afterACancel = hands-badly deaf canceled dataPiece (computed .deaf-hands);
       cutCloserLost = cut-closer-lost;
+      refusedFeedConsumes = refused-consumes;
+      feedStalls = feed-stalls;
     }

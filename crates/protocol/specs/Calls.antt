@@ -6,14 +6,16 @@ use lib.ListN.{length}
 use lib.Dec.{ltb}
 use Rattle.octets.specs.Choice.{pick, either}
 use Rattle.octets.specs.Outcome.{Outcome, outcome}
-use Rattle.frames.specs.Calls.{scanOf, textOf}
+use Rattle.frames.specs.Stream.{textLimit}
+use Rattle.frames.specs.Calls.{refusalNumber, scanOf, textOf}
 use Rattle.frames.specs.declared.Framing.{Framing}
 use Rattle.frames.specs.declared.Report.{Report}
 use Rattle.frames.specs.declared.Report.the-variants as Report
 use Rattle.frames.specs.declared.Scanned.{Scanned}
-use Rattle.command.specs.Read.{Answer, readOf}
+use Rattle.command.specs.Slots.{noCommand}
+use Rattle.command.specs.Read.{Answer, scratchRoom, readOf}
 use Rattle.command.specs.declared.Command.{Command}
-use Rattle.protocol.specs.Replies.{noReply, repliedOf}
+use Rattle.protocol.specs.Replies.{replyRoom, noReply, repliedOf}
 use Rattle.protocol.specs.Files.{stepped}
 use Rattle.protocol.specs.Sessions.{obeyOf}
 use Rattle.protocol.specs.Answers.{refused, settleDone, settleFailed, allowedOf, deniedOf, droppedOf}
@@ -48,53 +50,65 @@ pub record Feeding : Type 0 where
 abbrev pub feeding : Fed → List ℕ → List ℕ → List ℕ → Feeding
 feeding f c s b = record { fed = f; carry = c; scratch = s; reply = b }
 
--- a step, and the scratch that reading left
+-- a step, the command that was read for it, if one was, and the scratch that reading left
 pub record Acted : Type 0 where
   pub step : Stepped
+  pub command : Command
   pub scratch : List ℕ
 
-abbrev pub acted : Stepped → List ℕ → Acted
-acted s scratch = record { step = s; scratch = scratch }
+abbrev pub acted : Stepped → Command → List ℕ → Acted
+acted s c scratch = record { step = s; command = c; scratch = scratch }
 
 -- nothing but something told: the table as before, no reply
 abbrev pub telling : Table → Told → Stepped
 telling t w = stepped t w noReply
+
+-- the same, where no command was read
+abbrev pub unread : Table → Told → List ℕ → Acted
+unread t w scratch = acted (telling t w) noCommand scratch
 
 -- a text that was read is obeyed. "Refusals 1 to 8 send no reply" and leave "no session changed".
 abbrev pub readAct : Table → List ℕ → Outcome Answer → Acted
 readAct t text o = go (o .answer)
   where
     go : Answer → Acted
-    go (Answer.read c) = acted (obeyOf t c text (o .buffer)) (o .buffer)
-    go (Answer.refused n) = acted (telling t (Told.Refused n)) (o .buffer)
+    go (Answer.read c) = acted (obeyOf t c text (o .buffer)) c (o .buffer)
+    go (Answer.refused n) = unread t (Told.Refused n) (o .buffer)
 
 -- what a report does, given its text: a command text is read, a refusal of the frame is told
 abbrev pub reportAct : Table → Report → List ℕ → List ℕ → Acted
-reportAct t Report.Nothing text scratch = acted (telling t Told.Nothing) scratch
+reportAct t Report.Nothing text scratch = unread t Told.Nothing scratch
 reportAct t (Report.InPiece start n) text scratch = readAct t text (readOf text scratch)
 reportAct t (Report.InCarry n) text scratch = readAct t text (readOf text scratch)
-reportAct t Report.TooLong text scratch = acted (telling t (Told.Refused 1)) scratch
-reportAct t Report.Abandoned text scratch = acted (telling t (Told.Refused 2)) scratch
-reportAct t Report.ShortCarry text scratch = acted (telling t (Told.Refused 9)) scratch
+reportAct t Report.TooLong text scratch = unread t (Told.Refused (refusalNumber Report.TooLong)) scratch
+reportAct t Report.Abandoned text scratch = unread t (Told.Refused (refusalNumber Report.Abandoned)) scratch
+reportAct t Report.ShortCarry text scratch = unread t (Told.Refused (refusalNumber Report.ShortCarry)) scratch
 
-abbrev pub fedBy : Scanned → Stepped → ℕ → Fed
-fedBy k s n =
-    record { receiver = record { framing = k .framing; table = s .table }; consumed = k .consumed; report = k .report; told = s .told; «reply_len» = n }
+abbrev pub fedBy : Scanned → Stepped → Command → ℕ → Fed
+fedBy k s c n =
+    record {
+      receiver = record { framing = k .framing; table = s .table };
+      consumed = k .consumed;
+      report = k .report;
+      told = s .told;
+      command = c;
+      «reply_len» = n;
+    }
 
 -- "nothing consumed, all memory as before"
 abbrev pub feedRefused : Receiver → ℕ → Fed
-feedRefused r n = record { receiver = r; consumed = 0; report = Report.Nothing; told = Told.Refused n; «reply_len» = 0 }
+feedRefused r n = record { receiver = r; consumed = 0; report = Report.Nothing; told = Told.Refused n; command = noCommand; «reply_len» = 0 }
 
 -- after the scan k, which left the carry
 unfoldable pub scannedFeed : Table → List ℕ → Outcome Scanned → List ℕ → List ℕ → Feeding
 scannedFeed t piece k scratch reply =
     let a = reportAct t (k .answer .report) (textOf piece (k .buffer) (k .answer .report)) scratch in
     let b = repliedOf (a .step .reply) reply in
-    feeding (fedBy (k .answer) (a .step) (b .answer)) (k .buffer) (a .scratch) (b .buffer)
+    feeding (fedBy (k .answer) (a .step) (a .command) (b .answer)) (k .buffer) (a .scratch) (b .buffer)
 
 -- "carry under 8,192, scratch under 6,144 or reply buffer under 124 bytes"
 abbrev pub isShort : List ℕ → List ℕ → List ℕ → Bool
-isShort carry scratch reply = either (ltb (length carry) 8192) (either (ltb (length scratch) 6144) (ltb (length reply) 124))
+isShort carry scratch reply = either (ltb (length carry) textLimit) (either (ltb (length scratch) scratchRoom) (ltb (length reply) replyRoom))
 
 -- 9 first, then 10: "feed while an answer is owed"
 unfoldable pub feedOf : Receiver → List ℕ → List ℕ → List ℕ → List ℕ → Feeding
@@ -114,7 +128,7 @@ replied f s reply = let b = repliedOf (s .reply) reply in outcome (answeredBy f 
 -- 9 first: "reply buffer under 124 bytes"
 unfoldable pub guarded : Receiver → Stepped → List ℕ → Outcome Answered
 guarded r s reply =
-    pick (ltb (length reply) 124)
+    pick (ltb (length reply) replyRoom)
     (outcome (answeredBy (r .framing) (refused (r .table) 9) 0) reply)
     (replied (r .framing) s reply)
 

@@ -78,8 +78,8 @@ pub record ClosingReply (k : Key) (s quiet : ℕ) (a : Outcome Answered) : Type 
   pub forIt : isFor k command ≡ true
   pub size : sizeOf command ≡ count s
 
--- a regular file that closes as done with count s: "since its latest start the parts handed over for it and answered done, joined, equal the
--- contents of the data and end_data commands read for it, joined, and s is that length"
+-- a regular file that closes as done with count s: "since its latest start the parts handed over for it and answered done, joined, equal
+-- the contents of the data and end_data commands read for it, joined, and s is that length"
 pub record ClosedWhole (m : Machine) (w : World) (reply : List ℕ) (k : Key) (s quiet : ℕ) : Type 0 where
   pub lastPart : LastPartAsked k (lastAsk (marksOf (w .history)))
   pub stretch : Stretch
@@ -109,8 +109,8 @@ pub record Right (m : Machine) (w : World) (c : Call) : Type 0 where
   pub closes : (k : Key) (s quiet : ℕ) → Closes (w .receiver .table) (step m w c .receiver .table) k s quiet
       → TurnedDone m w c k s quiet
   -- "exactly when its last part is answered done"
-  pub closed : (d : Command) (p reply : List ℕ) → lastAsk (marksOf (w .history)) ≡ Question.asks d (Heard.writesLast p) → c ≡ Call.done reply
-      → isRefused (m .dones (w .receiver) reply .answer .told) ≡ false → Closed (w .receiver .table) (step m w c .receiver .table) d
+  pub closed : (d : Command) (p reply : List ℕ) → lastAsk (marksOf (w .history)) ≡ Question.asks d (Heard.writesLast p)
+      → c ≡ Call.done reply → isRefused (m .dones (w .receiver) reply .answer .told) ≡ false → Closed (w .receiver .table) (step m w c .receiver .table) d
   -- "No part is handed over outside a session that the user allowed and that still stands"
   pub partsStand : AllStand (marksOf (step m w c .history))
 

@@ -11,6 +11,7 @@ use Rattle.frames.specs.Calls.{textOf}
 use Rattle.frames.specs.declared.Report.{Report}
 use Rattle.frames.specs.declared.Report.the-variants as Report
 use Rattle.command.specs.Slots.{valuesOf}
+use Rattle.protocol.specs.Replies.{replyRoom}
 use Rattle.protocol.specs.Calls.{Feeding}
 use Rattle.protocol.specs.History.{Command, Heard, heardAsk, bytesOf}
 use Rattle.protocol.specs.Machine.{Machine, Call, World, Lent, step, start}
@@ -21,29 +22,29 @@ use Rattle.protocol.specs.declared.Told.the-variants as Told
 use Rattle.protocol.specs.declared.Answered.{Answered}
 
 -- ---- what a call gives, places apart
--- what is told: a command by its values, and a write by its part
+-- what is told: a write by its part
 pub data Saying : Type 0 where
   nothing : Saying
   refused : ℕ → Saying
   ignored : Saying
-  asked : Command → Saying
-  asks : Heard → Command → Saying
+  asked : Saying
+  asks : Heard → Saying
   status : Status → Saying
   withdrawn : Saying
   discarded : Saying
   committed : Saying
 
--- given the text and the scratch that the places are in
-abbrev pub saying : Told → List ℕ → List ℕ → Saying
-saying Told.Nothing text scratch = Saying.nothing
-saying (Told.Refused n) text scratch = Saying.refused n
-saying Told.Ignored text scratch = Saying.ignored
-saying (Told.Asked c) text scratch = Saying.asked (valuesOf c text scratch)
-saying (Told.Ask a c) text scratch = Saying.asks (heardAsk a scratch) (valuesOf c text scratch)
-saying (Told.Status w) text scratch = Saying.status w
-saying Told.Withdrawn text scratch = Saying.withdrawn
-saying Told.Discarded text scratch = Saying.discarded
-saying Told.Committed text scratch = Saying.committed
+-- given the scratch that the places are in
+abbrev pub saying : Told → List ℕ → Saying
+saying Told.Nothing scratch = Saying.nothing
+saying (Told.Refused n) scratch = Saying.refused n
+saying Told.Ignored scratch = Saying.ignored
+saying Told.Asked scratch = Saying.asked
+saying (Told.Ask a) scratch = Saying.asks (heardAsk a scratch)
+saying (Told.Status w) scratch = Saying.status w
+saying Told.Withdrawn scratch = Saying.withdrawn
+saying Told.Discarded scratch = Saying.discarded
+saying Told.Committed scratch = Saying.committed
 
 -- a report of a feed, or a console call
 pub data Move : Type 0 where
@@ -62,15 +63,19 @@ isReportMove (Move.drop id) = false
 isReportMove Move.done = false
 isReportMove (Move.failed code) = false
 
--- what it gives: the reported text, what is told, and the reply
+-- what it gives: the reported text and the values of the command read, what is told, and the reply
 pub record Output : Type 0 where
   pub move : Move
   pub text : List ℕ
+  pub command : Command
   pub said : Saying
   pub reply : List ℕ
 
-abbrev pub output : Move → List ℕ → Saying → List ℕ → Output
-output m text said reply = record { move = m; text = text; said = said; reply = reply }
+abbrev pub reporting : List ℕ → Command → Saying → List ℕ → Output
+reporting text c said reply = record { move = Move.report; text = text; command = c; said = said; reply = reply }
+
+abbrev pub answering : Move → Told → List ℕ → Output
+answering m told reply = record { move = m; text = []; command = []; said = saying told []; reply = reply }
 
 -- ---- call by call
 abbrev pub isReport : Report → Bool
@@ -85,17 +90,20 @@ isReport Report.ShortCarry = false
 abbrev pub reportOf : List ℕ → Feeding → List Output
 reportOf piece f =
     let text = textOf piece (f .carry) (f .fed .report) in
-    pick (isReport (f .fed .report)) (output Move.report text (saying (f .fed .told) text (f .scratch)) (take (f .fed .«reply_len») (f .reply)) ∷ []) []
+    pick (isReport (f .fed .report))
+    (reporting text (valuesOf (f .fed .command) text (f .scratch)) (saying (f .fed .told) (f .scratch)) (take (f .fed .«reply_len») (f .reply)) ∷ [])
+    []
 
 -- of a console call that was lent that buffer: its answer; none of one refused with 9
 abbrev pub answerOf : Move → List ℕ → Outcome Answered → List Output
-answerOf m lent a = pick (ltb (length lent) 124) [] (output m [] (saying (a .answer .told) [] []) (take (a .answer .«reply_len») (a .buffer)) ∷ [])
+answerOf m lent a =
+    pick (ltb (length lent) replyRoom) [] (answering m (a .answer .told) (take (a .answer .«reply_len») (a .buffer)) ∷ [])
 
 abbrev pub given : Machine → World → Call → List Output
 given m w (Call.feed piece carry scratch reply) = reportOf piece (m .feeds (w .receiver) piece carry scratch reply)
 given m w (Call.allow id reply) = answerOf (Move.allow id) reply (m .allows (w .receiver) id reply)
 given m w (Call.deny id reply) = answerOf (Move.deny id) reply (m .denies (w .receiver) id reply)
-given m w (Call.drop id) = output (Move.drop id) [] (saying (m .drops (w .receiver) id .told) [] []) [] ∷ []
+given m w (Call.drop id) = answering (Move.drop id) (m .drops (w .receiver) id .told) [] ∷ []
 given m w (Call.done reply) = answerOf Move.done reply (m .dones (w .receiver) reply)
 given m w (Call.failed code reply) = answerOf (Move.failed code) reply (m .fails (w .receiver) code reply)
 
@@ -124,4 +132,5 @@ abbrev pub CutsAlike : Machine → Type 0
 CutsAlike m = (carry₁ carry₂ : List ℕ) (cs₁ cs₂ : List Call) → AllLent m (start carry₁) cs₁ → AllLent m (start carry₂) cs₂
     → bytesOf (after m (start carry₁) cs₁ .history) ≡ bytesOf (after m (start carry₂) cs₂ .history)
     → consoleCalls 0 (allGiven m (start carry₁) cs₁) ≡ consoleCalls 0 (allGiven m (start carry₂) cs₂)
-    → (allGiven m (start carry₁) cs₁ ≡ allGiven m (start carry₂) cs₂) × (after m (start carry₁) cs₁ .receiver ≡ after m (start carry₂) cs₂ .receiver)
+    → (allGiven m (start carry₁) cs₁ ≡ allGiven m (start carry₂) cs₂)
+    × (after m (start carry₁) cs₁ .receiver ≡ after m (start carry₂) cs₂ .receiver)

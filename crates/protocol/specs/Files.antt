@@ -91,7 +91,7 @@ opening k = record { state = FileState.Opening; id = padded k; «id_len» = leng
 abbrev pub fileRoom : Table → ℕ → Command → List ℕ → Found → Stepped
 fileRoom t i c text Found.Nowhere = fileStatus t (sessionAt t i) c text Status.Emfile
 fileRoom t i c text (Found.At j) =
-    stepped (withOwed (putFileAt t i j (opening (fileIdIn c text))) (openOwed (c .«file_type») i j)) (Told.Ask Ask.Open c) noReply
+    stepped (withOwed (putFileAt t i j (opening (fileIdIn c text))) (openOwed (c .«file_type») i j)) (Told.Ask Ask.Open) noReply
 
 -- "symlink, link or rsync ENOTSUP; prm outside 0 to 4095 EINVAL; bad name EINVAL"
 unfoldable pub fileChecked : Table → ℕ → Command → List ℕ → List ℕ → Stepped
@@ -128,6 +128,10 @@ abbrev pub writeAsk : Bool → Place → Ask
 writeAsk true p = Ask.WriteLast p
 writeAsk false p = Ask.Write p
 
+-- "4,096 decoded bytes"
+abbrev pub partLimit : ℕ
+partLimit = 4096
+
 -- 2^40
 abbrev pub countLimit : ℕ
 countLimit = 1099511627776
@@ -135,9 +139,9 @@ countLimit = 1099511627776
 -- "Over 4,096 decoded bytes: record failed, EINVAL. Count would pass 2^40: record failed, EFBIG. Else a write is asked."
 unfoldable pub partAsked : Table → ℕ → ℕ → Bool → Command → List ℕ → Stepped
 partAsked t i j last c text =
-    pick (ltb 4096 (c .payload .len)) (failedFile t i j c text Status.Einval)
+    pick (ltb partLimit (c .payload .len)) (failedFile t i j c text Status.Einval)
     (pick (ltb countLimit (fileAt (sessionAt t i) j .count + c .payload .len)) (failedFile t i j c text Status.Efbig)
-    (stepped (withOwed t (writeOwed last i j (c .payload .len))) (Told.Ask (writeAsk last (c .payload)) c) noReply))
+    (stepped (withOwed t (writeOwed last i j (c .payload .len))) (Told.Ask (writeAsk last (c .payload))) noReply))
 
 -- "no such record, or not started: ignored, no reply"
 abbrev pub partState : Table → ℕ → ℕ → Bool → Command → List ℕ → FileState → Stepped
@@ -155,11 +159,11 @@ unfoldable pub dataOf : Table → ℕ → Bool → Command → List ℕ → Step
 dataOf t i last c text = partFound t i last c text (findFile (sessionAt t i) (fileIdIn c text))
 
 -- ---- finish: "a record still started: dropped, EINVAL (house rule). Else commit is asked."
-abbrev pub finishFound : Table → ℕ → Command → Found → Stepped
-finishFound t i c Found.Nowhere = stepped (withOwed t (Owed.Commit i)) (Told.Ask Ask.Commit c) noReply
-finishFound t i c (Found.At j) =
+abbrev pub finishFound : Table → ℕ → Found → Stepped
+finishFound t i Found.Nowhere = stepped (withOwed t (Owed.Commit i)) (Told.Ask Ask.Commit) noReply
+finishFound t i (Found.At j) =
     stepped (dropAt t i) Told.Discarded
     (sessionReply Status.Einval (sessionAt t i .quiet) (sessionAt t i .id) (sessionAt t i .«id_len»))
 
-unfoldable pub finishOf : Table → ℕ → Command → Stepped
-finishOf t i c = finishFound t i c (first isStarted (sessionAt t i .files))
+unfoldable pub finishOf : Table → ℕ → Stepped
+finishOf t i = finishFound t i (first isStarted (sessionAt t i .files))

@@ -36,8 +36,8 @@ abbrev pub hearing : Told → List ℕ → Option Heard
 hearing Told.Nothing scratch = Option.none
 hearing (Told.Refused n) scratch = Option.none
 hearing Told.Ignored scratch = Option.none
-hearing (Told.Asked c) scratch = Option.none
-hearing (Told.Ask a c) scratch = Option.some (heardAsk a scratch)
+hearing Told.Asked scratch = Option.none
+hearing (Told.Ask a) scratch = Option.some (heardAsk a scratch)
 hearing (Told.Status w) scratch = Option.none
 hearing Told.Withdrawn scratch = Option.none
 hearing Told.Discarded scratch = Option.none

@@ -8,6 +8,7 @@ pub mod Calls
 pub mod History
 pub mod Stretches
 pub mod Machine
+pub mod Promises
 pub mod Claim
 pub mod Cuts
 pub mod WrongMachines

@@ -50,8 +50,8 @@ abbrev pub refusalTold : Told → Option ℕ
 refusalTold Told.Nothing = Option.none
 refusalTold (Told.Refused n) = Option.some n
 refusalTold Told.Ignored = Option.none
-refusalTold (Told.Asked c) = Option.none
-refusalTold (Told.Ask a c) = Option.none
+refusalTold Told.Asked = Option.none
+refusalTold (Told.Ask a) = Option.none
 refusalTold (Told.Status w) = Option.none
 refusalTold Told.Withdrawn = Option.none
 refusalTold Told.Discarded = Option.none
@@ -102,7 +102,8 @@ step m w (Call.failed code reply) =
 
 -- "Each feed not refused with 9 or 10 gets the carry as the last such feed left it"; refused calls may be lent anything
 abbrev pub Lent : Machine → World → Call → Type 0
-Lent m w (Call.feed piece carry scratch reply) = isUnfed (m .feeds (w .receiver) piece carry scratch reply .fed .told) ≡ false → carry ≡ w .carry
+Lent m w (Call.feed piece carry scratch reply) =
+    isUnfed (m .feeds (w .receiver) piece carry scratch reply .fed .told) ≡ false → carry ≡ w .carry
 Lent m w (Call.allow id reply) = Unit {0}
 Lent m w (Call.deny id reply) = Unit {0}
 Lent m w (Call.drop id) = Unit {0}

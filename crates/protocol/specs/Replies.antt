@@ -63,6 +63,10 @@ isProgress Status.Efbig = false
 abbrev pub isHeld : Status → ℕ → Bool
 isHeld s quiet = either (leb 2 quiet) (both (leb 1 quiet) (isProgress s))
 
+-- "No reply is longer than 124 bytes": what a reply buffer has at least
+abbrev pub replyRoom : ℕ
+replyRoom = 124
+
 -- ---- which reply
 -- none is due
 abbrev pub noReply : Reply

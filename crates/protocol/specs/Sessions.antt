@@ -35,7 +35,7 @@ askedSession c text =
 -- "four present: EBUSY; else asked, console told"
 abbrev pub sendRoom : Table → Command → List ℕ → Found → Stepped
 sendRoom t c text Found.Nowhere = absentStatus t c text Status.Ebusy
-sendRoom t c text (Found.At i) = stepped (putSession t i (askedSession c text)) (Told.Asked c) noReply
+sendRoom t c text (Found.At i) = stepped (putSession t i (askedSession c text)) Told.Asked noReply
 
 abbrev pub absentResult : Table → Command → List ℕ → Kind → Stepped
 absentResult t c text Kind.Ignore = ignored t
@@ -74,7 +74,7 @@ presentResult t i c text scratch Kind.Withdraw = stepped (dropAt t i) (dropTold 
 presentResult t i c text scratch Kind.File = fileOf t i c text scratch
 presentResult t i c text scratch Kind.Data = dataOf t i false c text
 presentResult t i c text scratch Kind.EndData = dataOf t i true c text
-presentResult t i c text scratch Kind.Finish = finishOf t i c
+presentResult t i c text scratch Kind.Finish = finishOf t i
 
 -- ---- the session by its id, and then the action table
 abbrev pub foundResult : Table → Command → List ℕ → List ℕ → Found → Stepped

@@ -19,19 +19,28 @@ use Rattle.protocol.specs.declared.Receiver.{Receiver}
 use Rattle.protocol.specs.declared.Found.{Found}
 use Rattle.protocol.specs.declared.Found.the-variants as Found
 
--- ---- room: "four sessions, each with thirty-two file records"
+-- ---- room: "four sessions, each with thirty-two file records"; "at most 32 bytes" of an id
+abbrev pub sessionRoom : ℕ
+sessionRoom = 4
+
+abbrev pub fileRoom : ℕ
+fileRoom = 32
+
+abbrev pub idRoom : ℕ
+idRoom = 32
+
 abbrev pub zeros : List ℕ
-zeros = replicate 32 0
+zeros = replicate idRoom 0
 
 abbrev pub freeFile : FileRecord
 freeFile = record { state = FileState.Free; id = zeros; «id_len» = 0; count = 0 }
 
 abbrev pub absentSession : Session
-absentSession = record { state = SessionState.Absent; quiet = 0; id = zeros; «id_len» = 0; files = replicate 32 freeFile }
+absentSession = record { state = SessionState.Absent; quiet = 0; id = zeros; «id_len» = 0; files = replicate fileRoom freeFile }
 
 -- "A fresh receiver has no session, no file and nothing owed"
 abbrev pub emptyTable : Table
-emptyTable = record { sessions = replicate 4 absentSession; owed = Owed.Nothing }
+emptyTable = record { sessions = replicate sessionRoom absentSession; owed = Owed.Nothing }
 
 abbrev pub freshReceiver : Receiver
 freshReceiver = record { framing = Framing.Plain; table = emptyTable }
@@ -58,7 +67,7 @@ fileIdOf f = take (f .«id_len») (f .id)
 
 -- an id in an array of 32 bytes
 abbrev pub padded : List ℕ → List ℕ
-padded k = take 32 (k ++ zeros)
+padded k = take idRoom (k ++ zeros)
 
 -- ---- finding
 abbrev pub later : Found → Found

@@ -11,7 +11,8 @@ use Rattle.frames.specs.declared.Framing.the-variants as Framing
 use Rattle.protocol.specs.Table.{freeFile, sessionAt, fileAt, putSession, putFileAt, moved, withOwed, withState}
 use Rattle.protocol.specs.Replies.{framed}
 use Rattle.protocol.specs.Calls.{Feeding, feedOf, allowOf, denyOf, dropOf, doneOf, failedOf}
-use Rattle.protocol.specs.Machine.{Machine}
+use Rattle.protocol.specs.Machine.{Machine, isUnfed}
+use Rattle.protocol.specs.Promises.{EveryCall}
 use Rattle.protocol.specs.Claim.{EveryHistory}
 use Rattle.protocol.specs.Cuts.{CutsAlike}
 use Rattle.protocol.specs.declared.SessionState.{SessionState}
@@ -63,7 +64,14 @@ withTable r t = record { framing = r .framing; table = t }
 abbrev pub consuming : ℕ → Feeding → Feeding
 consuming n f =
     record {
-      fed = record { receiver = f .fed .receiver; consumed = n; report = f .fed .report; told = f .fed .told; «reply_len» = f .fed .«reply_len» };
+      fed = record {
+        receiver = f .fed .receiver;
+        consumed = n;
+        report = f .fed .report;
+        told = f .fed .told;
+        command = f .fed .command;
+        «reply_len» = f .fed .«reply_len»;
+      };
       carry = f .carry;
       scratch = f .scratch;
       reply = f .reply;
@@ -114,7 +122,8 @@ abbrev pub otherSize : Machine
 otherSize =
     answeringBy (λ r reply.
     let b = doneOf (withTable r (withOwed (r .table) (withLast (λ i j n. Owed.WriteLast i j (suc n)) (r .table .owed)))) reply in
-    outcome (record { receiver = doneOf r reply .answer .receiver; told = b .answer .told; «reply_len» = b .answer .«reply_len» }) (b .buffer))
+    let a = b .answer in
+    outcome (record { receiver = doneOf r reply .answer .receiver; told = a .told; «reply_len» = a .«reply_len» }) (b .buffer))
 
 -- ---- wrong parts
 -- data that is read and never handed over
@@ -167,6 +176,18 @@ closerLost =
     pick (equals piece (0x5C ∷ [])) (feedOf (record { framing = Framing.Plain; table = r .table }) piece carry scratch reply)
     (feedOf r piece carry scratch reply))
 
+-- ---- single calls
+-- a feed that is refused takes a byte
+abbrev pub hungry : Machine
+hungry =
+    feedingBy (λ r piece carry scratch reply.
+    let f = feedOf r piece carry scratch reply in
+    pick (isUnfed (f .fed .told)) (consuming 1 f) f)
+
+-- a feed that is not refused takes none
+abbrev pub stalling : Machine
+stalling = feedingBy (λ r piece carry scratch reply. consuming 0 (feedOf r piece carry scratch reply))
+
 -- ---- the claims are false of each
 pub record Teeth : Type 0 where
   pub countOneTooSmall : EveryHistory oneTooSmall → ⊥
@@ -181,3 +202,5 @@ pub record Teeth : Type 0 where
   pub neverAllowed : EveryHistory unasked → ⊥
   pub afterACancel : EveryHistory deaf → ⊥
   pub cutCloserLost : CutsAlike closerLost → ⊥
+  pub refusedFeedConsumes : EveryCall hungry → ⊥
+  pub feedStalls : EveryCall stalling → ⊥

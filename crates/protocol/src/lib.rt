@@ -16,11 +16,6 @@ use frames::Framing;
 use frames::Report;
 
 // ---- The receiver: nested arrays by value.
-// "four sessions, each with thirty-two file records"
-pub const SESSIONS: usize = 4;
-
-pub const FILES: usize = 32;
-
 pub enum FileState {
     Free,
     Opening,
@@ -49,7 +44,7 @@ pub struct Session {
     pub quiet: u64,
     pub id: [u8; 32],
     pub id_len: usize,
-    pub files: [FileRecord; 32],
+    pub files: [FileRecord; Session::FILES],
 }
 
 // What the console owes an answer to, with the places of the session and its file in the table, and
@@ -64,7 +59,7 @@ pub enum Owed {
 }
 
 pub struct Table {
-    pub sessions: [Session; 4],
+    pub sessions: [Session; Table::SESSIONS],
     pub owed: Owed,
 }
 
@@ -131,10 +126,10 @@ pub enum Told {
     Refused(u8),
     // A command was read, and the rule ignores it.
     Ignored,
-    // A new session waits for the user; its command, with places in the text and in the scratch.
-    Asked(Command),
-    // An answer is owed; the ask, and the command that it is for.
-    Ask(Ask, Command),
+    // A new session waits for the user.
+    Asked,
+    // An answer is owed to this ask.
+    Ask(Ask),
     // The call's only outcome is this status, also where quiet holds the reply back.
     Status(Status),
     // A session was dropped: one only asked, an open one, or one committed.
@@ -164,16 +159,19 @@ pub struct Stepped {
 }
 
 // What feed answers: the receiver, how many bytes of the piece it consumed, where the reported text
-// stands, what is told, and the reply's length.
+// stands, what is told, and the reply's length. What is told of a command is told of `command`, whose
+// places are in that text and in the scratch; it is `Command::NONE` where none was read.
 pub struct Fed {
     pub receiver: Receiver,
     pub consumed: usize,
     pub report: Report,
     pub told: Told,
+    pub command: Command,
     pub reply_len: usize,
 }
 
-// What a console call answers: the receiver, what is told, and the reply's length.
+// What a console call answers: the receiver, what is told, and the reply's length. What done and
+// failed tell, they tell of the ask that they answer.
 pub struct Answered {
     pub receiver: Receiver,
     pub told: Told,
@@ -188,6 +186,9 @@ pub enum Found {
 
 // ---- Free room, the fresh receiver and the action table.
 impl FileRecord {
+    // "Over 4,096 decoded bytes" a part fails its file.
+    pub const PART_LIMIT: usize = 4096;
+
     pub const FREE: FileRecord = FileRecord {
         state: FileState::Free,
         id: [0; 32],
@@ -197,18 +198,24 @@ impl FileRecord {
 }
 
 impl Session {
+    // "thirty-two file records"
+    pub const FILES: usize = 32;
+
     pub const ABSENT: Session = Session {
         state: SessionState::Absent,
         quiet: 0,
         id: [0; 32],
         id_len: 0,
-        files: [FileRecord::FREE; 32],
+        files: [FileRecord::FREE; Session::FILES],
     };
 }
 
 impl Table {
+    // "four sessions"
+    pub const SESSIONS: usize = 4;
+
     pub const EMPTY: Table = Table {
-        sessions: [Session::ABSENT; 4],
+        sessions: [Session::ABSENT; Table::SESSIONS],
         owed: Owed::Nothing,
     };
 
@@ -246,6 +253,11 @@ impl Table {
             Kind::Ignore,
         ],
     ];
+}
+
+impl Reply {
+    // "No reply is longer than 124 bytes": what a reply buffer has at least.
+    pub const ROOM: usize = 124;
 }
 
 impl Receiver {

@@ -1,20 +1,27 @@
 // What a report of the frames does to the table: a command text is read and obeyed.
+ghost use mathlib.Core.List.{List};
 ghost use mathlib.Core.Path.{_≡_};
+ghost use Prim.Native.Nat.{ℕ};
 ghost use Rattle.command.specs.Read.{readOf};
 ghost use Rattle.command.specs.Slots.{refusalNumber};
-ghost use Rattle.protocol.specs.Calls.{acted, telling, readAct, reportAct};
+ghost use Rattle.protocol.specs.Calls.{acted, unread, readAct, reportAct};
+use command::Command;
 use command::Reading;
 use command::Refusal;
 use frames::Report;
-use protocol::Reply;
-use protocol::Status;
 use protocol::Stepped;
 use protocol::Table;
 use protocol::Told;
 
+// A step, and the command that was read for it.
+pub(crate) struct Acted {
+    pub step: Stepped,
+    pub command: Command,
+}
+
 // A report, given its text.
-pub(crate) fn act(table: Table, report: Report, text: &[u8], scratch: &mut [u8]) -> Stepped
-    ensures { λ s. ⌜ acted s (now (scratch .exit)) ≡ reportAct table report (now (text .entry)) (now (scratch .entry)) ⌝ }
+pub(crate) fn act(table: Table, report: Report, text: &[u8], scratch: &mut [u8]) -> Acted
+    ensures { λ a. ⌜ acted (a .step) (a .command) (now (scratch .exit)) ≡ reportAct table report (now (text .entry)) (now (scratch .entry)) ⌝ }
 {
     match report {
         Report::Nothing => tell(table, Told::Nothing),
@@ -27,11 +34,14 @@ pub(crate) fn act(table: Table, report: Report, text: &[u8], scratch: &mut [u8])
 }
 
 // A command text is read, and its command obeyed.
-fn read(table: Table, text: &[u8], scratch: &mut [u8]) -> Stepped
-    ensures { λ s. ⌜ acted s (now (scratch .exit)) ≡ readAct table (now (text .entry)) (readOf (now (text .entry)) (now (scratch .entry))) ⌝ }
+fn read(table: Table, text: &[u8], scratch: &mut [u8]) -> Acted
+    ensures { λ a. ⌜ acted (a .step) (a .command) (now (scratch .exit)) ≡ readAct table (now (text .entry)) (readOf (now (text .entry)) (now (scratch .entry))) ⌝ }
 {
     match command_reader::read(text, scratch) {
-        Reading::Read(command) => sessions::obey(table, command, text, scratch),
+        Reading::Read(command) => Acted {
+            step: sessions::obey(table, command, text, scratch),
+            command: command,
+        },
         Reading::Refused(refusal) => tell(table, Told::Refused(number(refusal))),
     }
 }
@@ -52,22 +62,12 @@ fn number(refusal: Refusal) -> u8
     }
 }
 
-// Nothing but something told.
-fn tell(table: Table, told: Told) -> Stepped
-    ensures { λ s. ⌜ s ≡ telling table told ⌝ }
+// Nothing but something told, where no command was read.
+fn tell(table: Table, told: Told) -> Acted
+    ensures { λ a. ⌜ ((scratch : List ℕ) → acted (a .step) (a .command) scratch ≡ unread table told scratch) ⌝ }
 {
-    Stepped {
-        table: table,
-        told: told,
-        reply: Reply {
-            due: false,
-            status: Status::Ok,
-            quiet: 0,
-            id: [0; 32],
-            id_len: 0,
-            file_id: [0; 32],
-            file_id_len: 0,
-            size: 0,
-        },
+    Acted {
+        step: tables::replies::telling(table, told),
+        command: Command::NONE,
     }
 }

@@ -11,6 +11,8 @@ mod replies;
 ghost use mathlib.Core.Path.{_≡_};
 ghost use Rattle.octets.specs.Outcome.{outcome};
 ghost use Rattle.protocol.specs.Calls.{feeding, feedOf, allowOf, denyOf, dropOf, doneOf, failedOf};
+ghost use Rattle.protocol.specs.Machine.{ours};
+ghost use Rattle.protocol.specs.Promises.{EveryCall};
 use acts::act;
 use protocol::Answered;
 use protocol::Failure;
@@ -22,7 +24,8 @@ use replies::guarded;
 use replies::is_short;
 use replies::refused;
 
-// Takes one piece through the first thing to report. 9 and then 10 consume nothing.
+// Takes one piece through the first thing to report. 9 and then 10 consume nothing. What every call
+// promises by itself stands here too: a refused one changes nothing, a feed goes on, replies are short.
 pub fn feed(
     receiver: Receiver,
     piece: &[u8],
@@ -31,6 +34,7 @@ pub fn feed(
     reply: &mut [u8],
 ) -> Fed
     ensures { λ f. ⌜ feeding f (now (carry .exit)) (now (scratch .exit)) (now (reply .exit)) ≡ feedOf receiver (now (piece .entry)) (now (carry .entry)) (now (scratch .entry)) (now (reply .entry)) ⌝ }
+    ensures { λ _. ⌜ EveryCall ours ⌝ }
 {
     let framing = receiver.framing;
     let table = receiver.table;
@@ -43,8 +47,8 @@ pub fn feed(
     }
     let scanned = frames::scan(framing, piece, carry);
     let report = scanned.report;
-    let step = act(table, report, frames::text(piece, carry, report), scratch);
-    fed(scanned, step, reply)
+    let done = act(table, report, frames::text(piece, carry, report), scratch);
+    fed(scanned, done, reply)
 }
 
 // The user lets the asked session with this id be open: reply OK.

@@ -4,30 +4,35 @@ ghost use Prim.Native.Nat.{ℕ};
 ghost use lib.Dec.{ltb};
 ghost use Rattle.octets.specs.Choice.{either};
 ghost use Rattle.octets.specs.Outcome.{outcome};
+ghost use Rattle.frames.specs.Stream.{textLimit};
+ghost use Rattle.command.specs.Read.{scratchRoom};
 ghost use Rattle.protocol.specs.Answers as Answers;
 ghost use Rattle.protocol.specs.Calls as Calls;
-ghost use Rattle.protocol.specs.Replies.{repliedOf};
+ghost use Rattle.protocol.specs.Replies.{replyRoom, repliedOf};
 ghost use Rattle.receiver.specs.Fed.{fedWith};
+use crate::acts::Acted;
+use command::Command;
 use frames::Framing;
 use frames::Report;
 use frames::Scanned;
 use protocol::Answered;
 use protocol::Fed;
 use protocol::Receiver;
+use protocol::Reply;
 use protocol::Stepped;
 use protocol::Told;
 
 // Whether a buffer is too short for a feed.
 pub(crate) fn is_short(carry: usize, scratch: usize, reply: usize) -> bool
-    ensures { λ r. ⌜ r ≡ either (ltb carry 8192) (either (ltb scratch 6144) (ltb reply 124)) ⌝ }
+    ensures { λ r. ⌜ r ≡ either (ltb carry textLimit) (either (ltb scratch scratchRoom) (ltb reply replyRoom)) ⌝ }
 {
-    if carry < 8192 {
+    if carry < Framing::TEXT_LIMIT {
         return true;
     }
-    if scratch < 6144 {
+    if scratch < Command::SCRATCH_ROOM {
         return true;
     }
-    reply < 124
+    reply < Reply::ROOM
 }
 
 // A feed that consumes nothing and changes nothing.
@@ -39,16 +44,19 @@ pub(crate) fn refused(receiver: Receiver, number: u8) -> Fed
         consumed: 0,
         report: Report::Nothing,
         told: Told::Refused(number),
+        command: Command::NONE,
         reply_len: 0,
     }
 }
 
-// A feed's end, after its scan and its step.
-pub(crate) fn fed(scanned: Scanned, step: Stepped, buffer: &mut [u8]) -> Fed
-    ensures { λ r. ⌜ outcome r (now (buffer .exit)) ≡ fedWith scanned step (now (buffer .entry)) ⌝ }
+// A feed's end, after its scan and its act.
+pub(crate) fn fed(scanned: Scanned, acted: Acted, buffer: &mut [u8]) -> Fed
+    ensures { λ r. ⌜ outcome r (now (buffer .exit)) ≡ fedWith scanned (acted .step) (acted .command) (now (buffer .entry)) ⌝ }
 {
     let framing = scanned.framing;
     let report = scanned.report;
+    let command = acted.command;
+    let step = acted.step;
     let table = step.table;
     let told = step.told;
     let due = step.reply;
@@ -61,6 +69,7 @@ pub(crate) fn fed(scanned: Scanned, step: Stepped, buffer: &mut [u8]) -> Fed
         consumed: scanned.consumed,
         report: report,
         told: told,
+        command: command,
         reply_len: n,
     }
 }
@@ -69,7 +78,7 @@ pub(crate) fn fed(scanned: Scanned, step: Stepped, buffer: &mut [u8]) -> Fed
 pub(crate) fn guarded(receiver: Receiver, step: Stepped, buffer: &mut [u8]) -> Answered
     ensures { λ r. ⌜ outcome r (now (buffer .exit)) ≡ Calls.guarded receiver step (now (buffer .entry)) ⌝ }
 {
-    if buffer.len() < 124 {
+    if buffer.len() < Reply::ROOM {
         return Answered {
             receiver: receiver,
             told: Told::Refused(9),

@@ -74,12 +74,13 @@ fn feed(
 fn answer(fed: Fed, text: &[u8], reply: &mut [u8]) -> Answered {
     let receiver = fed.receiver;
     let told = fed.told;
+    let command = fed.command;
     match told {
-        Told::Asked(command) => {
+        Told::Asked => {
             let id = command.id;
             receiver::allow(receiver, octets::part(text, id.start, id.len), reply)
         }
-        Told::Ask(_, _) => receiver::done(receiver, reply),
+        Told::Ask(_) => receiver::done(receiver, reply),
         Told::Nothing => unanswered(receiver),
         Told::Refused(_) => unanswered(receiver),
         Told::Ignored => unanswered(receiver),

@@ -2,7 +2,10 @@
 // always, and writes only replies. It answers as it reads, since a client waits for its replies.
 mod console;
 
+use command::Command;
+use frames::Framing;
 use protocol::Receiver;
+use protocol::Reply;
 use streams::Got;
 use streams::Run;
 
@@ -14,9 +17,9 @@ fn main() {
 // from a number that no run uses up.
 fn replay() -> Run {
     let mut piece = io::large_buffer();
-    let mut carry = [0u8; 8192];
-    let mut scratch = [0u8; 6144];
-    let mut reply = [0u8; 124];
+    let mut carry = [0u8; Framing::TEXT_LIMIT];
+    let mut scratch = [0u8; Command::SCRATCH_ROOM];
+    let mut reply = [0u8; Reply::ROOM];
     let mut receiver = Receiver::fresh();
     let mut turns = u64::MAX;
     while turns > 0 {

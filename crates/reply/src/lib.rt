@@ -8,14 +8,17 @@ mod writer;
 
 ghost use mathlib.Core.Path.{_≡_};
 ghost use Rattle.octets.specs.Outcome.{outcome};
+ghost use Rattle.protocol.specs.Promises.{EveryStatus};
 ghost use Rattle.protocol.specs.Replies.{isProgress, isHeld, repliedOf};
 use protocol::Reply;
 use protocol::Status;
 
 // Stores a reply at the buffer's start and says how long it is. A reply that is not due, that quiet
-// holds back, or that does not fit has length 0 and leaves the buffer as before.
+// holds back, or that does not fit has length 0 and leaves the buffer as before. That every reply is
+// canonical text and reads back as what it says stands here too.
 pub fn send(reply: Reply, buffer: &mut [u8]) -> usize
     ensures { λ r. ⌜ outcome r (now (buffer .exit)) ≡ repliedOf reply (now (buffer .entry)) ⌝ }
+    ensures { λ _. ⌜ EveryStatus ⌝ }
 {
     if !reply.due {
         return 0;

@@ -53,7 +53,7 @@ fn scan_all(tally: Tally, piece: &[u8], carry: &mut [u8]) -> Tally {
 // down, from a number that no run uses up.
 fn count() -> Run {
     let mut piece = io::large_buffer();
-    let mut carry = [0u8; 8192];
+    let mut carry = [0u8; Framing::TEXT_LIMIT];
     let mut tally = Tally {
         framing: Framing::Plain,
         reports: 0,

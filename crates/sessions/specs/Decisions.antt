@@ -22,7 +22,7 @@ admitted t i c text (Admission.At j) = fileRoom t i c text (Found.At j)
 
 -- a part for the file at a place: a write is asked
 abbrev pub writeAsked : Table → ℕ → ℕ → Bool → Command → Stepped
-writeAsked t i j last c = stepped (withOwed t (writeOwed last i j (c .payload .len))) (Told.Ask (writeAsk last (c .payload)) c) noReply
+writeAsked t i j last c = stepped (withOwed t (writeOwed last i j (c .payload .len))) (Told.Ask (writeAsk last (c .payload))) noReply
 
 -- a part: ignored, the file fails with a status, or a write is asked
 abbrev pub judged : Table → ℕ → Bool → Command → List ℕ → Verdict → Stepped

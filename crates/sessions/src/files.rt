@@ -158,7 +158,7 @@ fn ask_open(table: Table, i: usize, j: usize, command: Command, text: &[u8]) -> 
     let file_type = command.file_type;
     let record = opening(octets::part(text, place.start, place.len));
     let next = with_owed(put_file(table, i, j, record), open_owed(file_type, i, j));
-    asking(next, Ask::Open, command)
+    asking(next, Ask::Open)
 }
 
 fn opening(id: &[u8]) -> FileRecord
@@ -185,20 +185,20 @@ fn open_owed(file_type: FileType, i: usize, j: usize) -> Owed
 }
 
 // The command finish in the open session at place i: a file still started drops it.
-pub(crate) fn finish(table: Table, i: usize, command: Command) -> Stepped
-    ensures { λ r. ⌜ r ≡ finishOf table i command ⌝ }
+pub(crate) fn finish(table: Table, i: usize) -> Stepped
+    ensures { λ r. ⌜ r ≡ finishOf table i ⌝ }
 {
     let session = session_at(table, i);
     match started_file(session) {
-        Found::Nowhere => ask_commit(table, i, command),
+        Found::Nowhere => ask_commit(table, i),
         Found::At(_) => discard(table, i, session),
     }
 }
 
-fn ask_commit(table: Table, i: usize, command: Command) -> Stepped
-    ensures { λ r. ⌜ r ≡ finishFound table i command Found.Nowhere ⌝ }
+fn ask_commit(table: Table, i: usize) -> Stepped
+    ensures { λ r. ⌜ r ≡ finishFound table i Found.Nowhere ⌝ }
 {
-    asking(with_owed(table, Owed::Commit(i)), Ask::Commit, command)
+    asking(with_owed(table, Owed::Commit(i)), Ask::Commit)
 }
 
 // "dropped, EINVAL"

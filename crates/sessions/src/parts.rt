@@ -28,9 +28,6 @@ use tables::places::with_owed;
 use tables::replies::asking;
 use tables::replies::ignored;
 
-// A part has at most so many bytes.
-const PART_LIMIT: usize = 4096;
-
 // What is decided of a part: nothing happens, the file at a place fails, or a write to it is asked.
 pub(crate) enum Verdict {
     Ignored,
@@ -79,7 +76,7 @@ fn judge_at(file: FileRecord, j: usize, n: usize) -> Verdict
 fn measure(count: u64, j: usize, n: usize) -> Verdict
     ensures { λ r. ⌜ ((t : Table) (i : ℕ) (last : Bool) (c : Command) (text : List ℕ) → fileAt (sessionAt t i) j .count ≡ count → c .payload .len ≡ n → partAsked t i j last c text ≡ judged t i last c text r) ⌝ }
 {
-    if n > PART_LIMIT {
+    if n > FileRecord::PART_LIMIT {
         return Verdict::Failed(j, Status::Einval);
     }
     if passes_limit(count, n) {
@@ -111,7 +108,7 @@ fn ask_write(table: Table, i: usize, j: usize, last: bool, command: Command) -> 
 {
     let payload = command.payload;
     let next = with_owed(table, write_owed(last, i, j, payload.len));
-    asking(next, write_ask(last, payload), command)
+    asking(next, write_ask(last, payload))
 }
 
 fn write_owed(last: bool, i: usize, j: usize, n: usize) -> Owed

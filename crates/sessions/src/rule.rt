@@ -95,10 +95,7 @@ fn send(table: Table, command: Command, text: &[u8]) -> Stepped
 fn ask_user(table: Table, i: usize, command: Command, text: &[u8]) -> Stepped
     ensures { λ r. ⌜ r ≡ sendRoom table command (now (text .entry)) (Found.At i) ⌝ }
 {
-    telling(
-        put_session(table, i, asked(command, text)),
-        Told::Asked(command),
-    )
+    telling(put_session(table, i, asked(command, text)), Told::Asked)
 }
 
 fn asked(command: Command, text: &[u8]) -> Session
@@ -149,7 +146,7 @@ pub(crate) fn present(
         Kind::File => file(table, i, command, text, scratch),
         Kind::Data => part(table, i, false, command, text),
         Kind::EndData => part(table, i, true, command, text),
-        Kind::Finish => finish(table, i, command),
+        Kind::Finish => finish(table, i),
         _ => ignored(table),
     }
 }

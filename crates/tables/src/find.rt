@@ -3,11 +3,9 @@ ghost use mathlib.Core.Path.{_≡_};
 ghost use lib.ListN.{take};
 ghost use Rattle.octets.specs.Slices.{equals};
 ghost use Rattle.protocol.specs.Table.{first, isPresent, isAbsent, isUsed, isFree, isStarted, hasId, hasFileId, findSession, findFile};
-use protocol::FILES;
 use protocol::FileRecord;
 use protocol::FileState;
 use protocol::Found;
-use protocol::SESSIONS;
 use protocol::Session;
 use protocol::SessionState;
 use protocol::Table;
@@ -16,7 +14,7 @@ pub fn find_session(table: Table, id: &[u8]) -> Found
     ensures { λ r. ⌜ r ≡ findSession table (now (id .entry)) ⌝ }
 {
     let mut i = 0;
-    while i < SESSIONS {
+    while i < Table::SESSIONS {
         let session = table.sessions[i];
         if has_id(session, id) {
             return Found::At(i);
@@ -30,7 +28,7 @@ pub fn free_session(table: Table) -> Found
     ensures { λ r. ⌜ r ≡ first isAbsent (table .sessions) ⌝ }
 {
     let mut i = 0;
-    while i < SESSIONS {
+    while i < Table::SESSIONS {
         let session = table.sessions[i];
         if is_absent(session) {
             return Found::At(i);
@@ -44,7 +42,7 @@ pub fn find_file(session: Session, id: &[u8]) -> Found
     ensures { λ r. ⌜ r ≡ findFile session (now (id .entry)) ⌝ }
 {
     let mut j = 0;
-    while j < FILES {
+    while j < Session::FILES {
         let file = session.files[j];
         if has_file_id(file, id) {
             return Found::At(j);
@@ -58,7 +56,7 @@ pub fn free_file(session: Session) -> Found
     ensures { λ r. ⌜ r ≡ first isFree (session .files) ⌝ }
 {
     let mut j = 0;
-    while j < FILES {
+    while j < Session::FILES {
         let file = session.files[j];
         if is_free(file) {
             return Found::At(j);
@@ -72,7 +70,7 @@ pub fn started_file(session: Session) -> Found
     ensures { λ r. ⌜ r ≡ first isStarted (session .files) ⌝ }
 {
     let mut j = 0;
-    while j < FILES {
+    while j < Session::FILES {
         let file = session.files[j];
         if is_started(file) {
             return Found::At(j);

@@ -2,18 +2,16 @@
 // room, and nothing can be put there.
 ghost use mathlib.Core.Path.{_≡_};
 ghost use Rattle.protocol.specs.Table.{sessionAt, fileAt, putSession, putFileAt, withOwed, moved, dropAt};
-use protocol::FILES;
 use protocol::FileRecord;
 use protocol::FileState;
 use protocol::Owed;
-use protocol::SESSIONS;
 use protocol::Session;
 use protocol::Table;
 
 pub fn session_at(table: Table, i: usize) -> Session
     ensures { λ r. ⌜ r ≡ sessionAt table i ⌝ }
 {
-    if i < SESSIONS {
+    if i < Table::SESSIONS {
         table.sessions[i]
     } else {
         Session::ABSENT
@@ -23,7 +21,7 @@ pub fn session_at(table: Table, i: usize) -> Session
 pub fn file_at(session: Session, j: usize) -> FileRecord
     ensures { λ r. ⌜ r ≡ fileAt session j ⌝ }
 {
-    if j < FILES {
+    if j < Session::FILES {
         session.files[j]
     } else {
         FileRecord::FREE
@@ -33,7 +31,7 @@ pub fn file_at(session: Session, j: usize) -> FileRecord
 pub fn put_session(table: Table, i: usize, session: Session) -> Table
     ensures { λ r. ⌜ r ≡ putSession table i session ⌝ }
 {
-    if i < SESSIONS {
+    if i < Table::SESSIONS {
         let mut next = table;
         next.sessions[i] = session;
         next
@@ -47,7 +45,7 @@ pub fn put_file(table: Table, i: usize, j: usize, file: FileRecord) -> Table
     ensures { λ r. ⌜ r ≡ putFileAt table i j file ⌝ }
 {
     let mut session = session_at(table, i);
-    if j < FILES {
+    if j < Session::FILES {
         let mut files = session.files;
         files[j] = file;
         session.files = files;

@@ -5,7 +5,6 @@ ghost use Rattle.protocol.specs.Table.{padded};
 ghost use Rattle.protocol.specs.Replies.{noReply, sessionReply, fileReply};
 ghost use Rattle.protocol.specs.Files.{stepped, ignored};
 ghost use Rattle.protocol.specs.Answers.{refused};
-use command::Command;
 use protocol::Ask;
 use protocol::Reply;
 use protocol::Session;
@@ -36,11 +35,11 @@ pub fn telling(table: Table, told: Told) -> Stepped
     }
 }
 
-// An answer is owed to what the command asks.
-pub fn asking(table: Table, ask: Ask, command: Command) -> Stepped
-    ensures { λ r. ⌜ r ≡ stepped table (Told.Ask ask command) noReply ⌝ }
+// An answer is owed to an ask.
+pub fn asking(table: Table, ask: Ask) -> Stepped
+    ensures { λ r. ⌜ r ≡ stepped table (Told.Ask ask) noReply ⌝ }
 {
-    telling(table, Told::Ask(ask, command))
+    telling(table, Told::Ask(ask))
 }
 
 // A status is all that is told, and it is replied.

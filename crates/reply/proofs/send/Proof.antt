@@ -5,6 +5,7 @@ use native.Mathlib.Omega.{arith}
 use lib.ListN.{length, length-map, length-take}
 use borrow.Author.Tests.{not-true, not-false}
 use Rattle.protocol.specs.Replies.{repliedOf}
+use Rattle.protocol.proofs.StatusText.{every-status}
 use Rattle.reply.specs.Parts.{written}
 use Rattle.reply.proofs.Joined.{sent, not-due, held}
 use Rattle.reply.proofs.Putting.{written-none}
@@ -14,14 +15,15 @@ use Rattle.reply.proofs.send.Tie as tie
 
 returns : tie.Need-returns
 unfolding repliedOf
-returns c = rw (not-due (c .before .before .args .t1) (not-true _ (c .if1 .taken))) (written-none _)
+returns c = (rw (not-due (c .before .before .args .t1) (not-true _ (c .if1 .taken))) (written-none _), every-status)
 
 is-held-requires : tie.Need-is-held-requires
 is-held-requires c κs = search needs
 
 returns-2 : tie.Need-returns-2
 unfolding repliedOf
-returns-2 c = rw (held (c .before .before .before .before .args .t1) (sym (c .before .is-held .ensures) ∙ c .if2 .taken)) (written-none _)
+returns-2 c =
+    (rw (held (c .before .before .before .before .args .t1) (sym (c .before .is-held .ensures) ∙ c .if2 .taken)) (written-none _), every-status)
 
 size-text-requires : tie.Need-size-text-requires
 size-text-requires c κs = search needs
@@ -81,10 +83,13 @@ returns-3 c =
     let sz = st .before in
     let two = sz .before in
     let one = two .before .before in
-    let a = one .before .before .args in
-    c .before .before .put-fields .ensures
-    ∙ rw (c1 .first .ensures, c2 .first2 .ensures, c3 .first3 .ensures, sz .size-text .ensures, c4 .first4 .ensures, st .status-text .ensures)
-    (ap (λ (bs : List ℕ). written bs (a .buffer .now)) (sym (sent (a .t1) (not-false _ (one .if1 .left)) (sym (two .before .is-held .ensures) ∙ two .if2 .left))))
+    let a = one .before .before .args in (
+      c .before .before .put-fields .ensures
+          ∙ rw (c1 .first .ensures, c2 .first2 .ensures, c3 .first3 .ensures, sz .size-text .ensures, c4 .first4 .ensures, st .status-text .ensures)
+          (ap (λ (bs : List ℕ). written bs (a .buffer .now))
+          (sym (sent (a .t1) (not-false _ (one .if1 .left)) (sym (two .before .is-held .ensures) ∙ two .if2 .left)))),
+      every-status,
+    )
 
 pub send-spec : {M : Type 1} → statement M
 send-spec =

@@ -39,7 +39,7 @@ tell-requires-4 : tie.Need-tell-requires-4
 tell-requires-4 c κs = search needs
 
 returns : tie.Need-returns
-returns c = rw (c .before .enum-told .given .1, c .tell .ensures)
+returns c = rw (c .before .enum-told .given .1) (c .tell .ensures _)
 
 same-length : tie.Need-same-length
 same-length c = search needs
@@ -54,13 +54,13 @@ returns-3 : tie.Need-returns-3
 returns-3 c = rw (c .before .before .before .before .enum-told3 .given .1) (c .before .before .read2 .ensures)
 
 returns-4 : tie.Need-returns-4
-returns-4 c = rw (c .before .enum-told4 .given .1, c .tell2 .ensures)
+returns-4 c = rw (c .before .enum-told4 .given .1) (c .tell2 .ensures _)
 
 returns-5 : tie.Need-returns-5
-returns-5 c = rw (c .before .enum-told5 .given .1, c .tell3 .ensures)
+returns-5 c = rw (c .before .enum-told5 .given .1) (c .tell3 .ensures _)
 
 returns-6 : tie.Need-returns-6
-returns-6 c = rw (c .before .enum-told6 .given .1, c .tell4 .ensures)
+returns-6 c = rw (c .before .enum-told6 .given .1) (c .tell4 .ensures _)
 
 pub act-spec : {M : Type 1} → statement M
 act-spec =

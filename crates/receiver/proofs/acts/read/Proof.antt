@@ -30,7 +30,7 @@ same-length-2 : tie.Need-same-length-2
 same-length-2 c = search needs
 
 returns-2 : tie.Need-returns-2
-returns-2 c = rw (← c .before .before .before .before .before .before .before .read .ensures .0, c .before .before .before .refusal .given .1, c .tell .ensures, c .before .number .ensures)
+returns-2 c = rw (← c .before .before .before .before .before .before .before .read .ensures .0, c .before .before .before .refusal .given .1, ← c .before .number .ensures) (c .tell .ensures _)
 
 pub read-spec : {M : Type 1} → statement M
 read-spec =

@@ -11,7 +11,7 @@ same-length c = search needs
 
 returns : tie.Need-returns
 unfolding fedWith
-returns c = rw (← c .before .before .send .ensures)
+returns c = rw (← c .before .before .send .ensures .0)
 
 pub fed-spec : {M : Type 1} → statement M
 fed-spec = tie.close (tie.spec send-requires same-length returns)

@@ -20,7 +20,7 @@ same-length c = search needs
 
 returns-2 : tie.Need-returns-2
 unfolding Calls.guarded
-returns-2 c = rw (c .answered .ensures, le-ltb (length (c .before .before .before .before .before .before .before .before .args .buffer .now)) 124 (c .before .before .before .before .before .before .if1 .left), ← c .before .before .before .send .ensures)
+returns-2 c = rw (c .answered .ensures, le-ltb (length (c .before .before .before .before .before .before .before .before .args .buffer .now)) 124 (c .before .before .before .before .before .before .if1 .left), ← c .before .before .before .send .ensures .0)
 
 pub guarded-spec : {M : Type 1} → statement M
 guarded-spec = tie.close (tie.spec returns send-requires answered-requires same-length returns-2)

@@ -30,7 +30,7 @@ same-length-3 c = search needs
 returns : tie.Need-returns
 returns c =
     consumed-within _ _ _ _ _ (c .before .before .before .before .before .before .before .before .before .before
-    .before .before .before .before .before .before .before .feed .ensures)
+    .before .before .before .before .before .before .before .feed .ensures .0)
 
 pub feed-spec : {M : Type 1} → statement M
 feed-spec =

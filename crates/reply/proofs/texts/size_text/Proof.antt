@@ -21,7 +21,7 @@ end-of-requires c κs = search needs
 returns-2 : tie.Need-returns-2
 returns-2 c =
     let size = c .before .before .before .before .before .args .size in
-    rw (c .end-of .ensures) (ap toEnd (c .before .before .write .ensures) ∙ digits (count size) _ (digits-fit size) ∙ rw (ne-eqb size 0 (c .before .before .before .before .if1 .left)))
+    rw (c .end-of .ensures) (ap toEnd (c .before .before .write .ensures .0) ∙ digits (count size) _ (digits-fit size) ∙ rw (ne-eqb size 0 (c .before .before .before .before .if1 .left)))
 
 pub size-text-spec : {M : Type 1} → statement M
 size-text-spec =
