@@ -8,28 +8,32 @@ use mathlib.Core.List.{List, _∷_, append-nil}
 use native.Mathlib.Omega.{arith}
 use lib.ListN.{length, getD, set}
 use lib.Seq.{getD-set-same}
-use borrow.Author.Tests.{le-ltb}
+use borrow.Author.Tests.{le-ltb, eqb-true, eq-eqb}
+use lib.Dec.{eqb}
+use Rattle.octets.specs.Choice.{both}
+use Rattle.octets.specs.Slices.{equals}
+use Rattle.octets.proofs.Below.{both-test}
+use Rattle.octets.proofs.Compare.{equals-refl, equals-sound}
 use Rattle.frames.specs.declared.Framing.{Framing}
-use Rattle.protocol.specs.Table.{noFile, noSession, sessionAt, fileAt, fileIdOf, isPresent, isUsed, putFile, moved}
+use Rattle.protocol.specs.Table.{noFile, noSession, sessionAt, fileAt, idOf, fileIdOf, isPresent, isUsed, putFile, moved}
 use Rattle.protocol.specs.Answers.{grown, settleDone}
 use Rattle.protocol.specs.Calls.{isOwed, replied, guarded, doneOf}
 use Rattle.protocol.specs.History.{Command, Heard, Event, Mark, marksOf, Question, lastAsk}
 use Rattle.protocol.specs.Stretches.{Key, parts, contents}
 use Rattle.protocol.specs.Machine.{Call, World}
-use Rattle.protocol.specs.Claim.{stateAt, keyAt, countAt, quietAt, IsDone, Closes, DirectoryAsked, keyIn, Closed}
+use Rattle.protocol.specs.Claim.{isDone, isDoneAs, Closes, DirectoryAsked, keyIn, Closed}
 use Rattle.protocol.specs.declared.FileState.{FileState}
 use Rattle.protocol.specs.declared.FileState.the-variants as FileState
 use Rattle.protocol.specs.declared.FileRecord.{FileRecord}
-use Rattle.protocol.specs.declared.SessionState.{SessionState}
-use Rattle.protocol.specs.declared.SessionState.the-variants as SessionState
 use Rattle.protocol.specs.declared.Session.{Session}
 use Rattle.protocol.specs.declared.Owed.{Owed}
 use Rattle.protocol.specs.declared.Owed.the-variants as Owed
 use Rattle.protocol.specs.declared.Table.{Table}
 use Rattle.protocol.proofs.Ours.{step, ClosedWhole}
 use Rattle.protocol.proofs.Laws.{no-way}
-use Rattle.protocol.proofs.Invariant.{isPast, FileOK, sessionUsed, Asking}
-use Rattle.protocol.proofs.Puts.{table, free-files, WasDone, none-same, none-free, only-there, none-file, was-closes, none-closes}
+use Rattle.protocol.proofs.Invariant.{keyOf, isPast, FileOK, Asking}
+use Rattle.protocol.proofs.Done.{keyAt, WasDone, counts-done, each-le, was-le, put-more}
+use Rattle.protocol.proofs.Puts.{table, free-files, none-same, none-free, only-there, none-file, none-closes}
 use Rattle.protocol.proofs.Obeyed.{sessionIn}
 use Rattle.protocol.proofs.Settled.{is-for, asking, session-ok, part-done}
 use Rattle.protocol.proofs.Worlds.{WorldOK}
@@ -64,6 +68,18 @@ done-is w reply h = rw (le-ltb (length reply) 124 h)
 not-done : FileState.Started ≡ FileState.Done → ⊥
 not-done e = let z : _≡_ {A = ℕ} 0 1 = cc in omega arith
 
+-- what a record is done as
+done-as : (k : Key) (c quiet : ℕ) (s : Session) (f : FileRecord) → isDoneAs k c quiet s f ≡ true → (k ≡ keyOf s f) × (c ≡ f .count) × (quiet ≡ s .quiet)
+done-as k c quiet s f e =
+    let ids : Bool = both (equals (fileIdOf f) (k .file)) (both (eqb (f .count) c) (eqb (s .quiet) quiet)) in
+    let a = both-test (isDone (f .state)) (both (equals (idOf s) (k .id)) ids) e in
+    let b = both-test (equals (idOf s) (k .id)) ids (a .1) in
+    let d = both-test (equals (fileIdOf f) (k .file)) (both (eqb (f .count) c) (eqb (s .quiet) quiet)) (b .1) in
+    let g = both-test (eqb (f .count) c) (eqb (s .quiet) quiet) (d .1) in
+    let id : idOf s ≡ k .id = equals-sound _ _ (b .0) in
+    let file : fileIdOf f ≡ k .file = equals-sound _ _ (d .0) in
+    (rw (id, file) refl, sym (eqb-true _ _ (g .0)), sym (eqb-true _ _ (g .1)))
+
 -- ---- a file that an answer moves to done, with a count
 module _ (ss : List Session) (o : Owed) (i j n : ℕ) (inside : i < length ss) (within : j < length (sessionIn ss i .files)) where
   abbrev file : FileRecord
@@ -78,33 +94,30 @@ module _ (ss : List Session) (o : Owed) (i j n : ℕ) (inside : i < length ss) (
   same-file : fileAt (putFile (sessionIn ss i) j file) j ≡ file
   same-file = getD-set-same (sessionIn ss i .files) j file noFile within
 
-  -- it is done, with the ids that it had
-  is-done : IsDone closedTable (keyAt (table ss o) i j) n (quietAt (table ss o) i)
-  is-done =
-      record {
-        i = i;
-        j = j;
-        key = rw (same-session, same-file);
-        state = rw (stateAt, same-session, same-file);
-        counted = rw (countAt, same-session, same-file);
-        hushed = rw (quietAt, same-session);
-      }
+  -- one record more is done, with the ids that it had
+  closes-more : isDone (fileAt (sessionIn ss i) j .state) ≡ false → Closes (table ss o) closedTable (keyAt (table ss o) i j) n (sessionIn ss i .quiet)
+  closes-more e =
+      let s = sessionIn ss i in
+      put-more (keyOf s (fileAt s j)) n (s .quiet) (table ss o) i j file Owed.Nothing inside within (rw e)
+      (rw (equals-refl (idOf s), equals-refl (fileIdOf (fileAt s j)), eq-eqb n n refl, eq-eqb (s .quiet) (s .quiet) refl))
 
   -- and no other file closes
-  only-closes : {k : Key} {s quiet : ℕ} → Closes (table ss o) closedTable k s quiet
-      → (k ≡ keyAt (table ss o) i j) × (s ≡ n) × (quiet ≡ quietAt (table ss o) i)
-  unfolding is-done
-  only-closes {k} {s} {quiet} c = go (only-there (table ss o) i j file Owed.Nothing (c .after .i) (c .after .j) (c .after .state))
+  only-closes : (k : Key) (c quiet : ℕ) → Closes (table ss o) closedTable k c quiet
+      → (k ≡ keyAt (table ss o) i j) × (c ≡ n) × (quiet ≡ sessionIn ss i .quiet)
+  only-closes k c quiet more = go (isDoneAs k c quiet (sessionIn ss i) file) refl
     where
-      go : WasDone (sessionIn ss (c .after .i)) (sessionAt closedTable (c .after .i)) (c .after .j)
-          ⊎ ((c .after .i ≡ i) × (c .after .j ≡ j) × (file .state ≡ FileState.Done))
-          → (k ≡ keyAt (table ss o) i j) × (s ≡ n) × (quiet ≡ quietAt (table ss o) i)
-      go (inl was) = absurd (was-closes c was)
-      go (inr e) =
-          let key : keyAt closedTable i j ≡ k = rw (e .0, e .1) at (c .after .key) in
-          let counted : countAt closedTable i j ≡ s = rw (e .0, e .1) at (c .after .counted) in
-          let hushed : quietAt closedTable i ≡ quiet = rw (e .0) at (c .after .hushed) in
-          (sym key ∙ is-done .key, sym counted ∙ is-done .counted, sym hushed ∙ is-done .hushed)
+      go : (b : Bool) → isDoneAs k c quiet (sessionIn ss i) file ≡ b → (k ≡ keyAt (table ss o) i j) × (c ≡ n) × (quiet ≡ sessionIn ss i .quiet)
+      go true e = done-as k c quiet (sessionIn ss i) file e
+      go false e = absurd (omega (arith, each-le k c quiet (table ss o) closedTable still))
+        where
+          still : (i′ j′ : ℕ) → isDoneAs k c quiet (sessionAt closedTable i′) (fileAt (sessionAt closedTable i′) j′) ≡ true
+              → isDoneAs k c quiet (sessionIn ss i′) (fileAt (sessionIn ss i′) j′) ≡ true
+          still i′ j′ h = by (only-there (table ss o) i j file Owed.Nothing i′ j′ (counts-done k c quiet (sessionAt closedTable i′) (fileAt (sessionAt closedTable i′) j′) h))
+            where
+              by : WasDone (sessionIn ss i′) (sessionAt closedTable i′) j′ ⊎ ((i′ ≡ i) × (j′ ≡ j) × (file .state ≡ FileState.Done))
+                  → isDoneAs k c quiet (sessionIn ss i′) (fileAt (sessionIn ss i′) j′) ≡ true
+              by (inl was) = was-le k c quiet (table ss o) closedTable i′ j′ was h
+              by (inr q) = no-way (sym (rw (q .0, q .1, same-session, same-file) at h) ∙ e)
 
 module _ (g : Framing) (ss : List Session) (carry : List ℕ) (h : List Event) (reply : List ℕ) (room : 124 ≤ length reply) where
   -- ---- the open of a directory
@@ -148,7 +161,7 @@ module _ (g : Framing) (ss : List Session) (carry : List ℕ) (h : List Event) (
     joined-after : contents k (file-after .stretch .marks) ≡ parts k (file-after .stretch .marks)
     joined-after = rw append-nil at (file-after .joined)
 
-    whole : ReplyLaw → ClosedWhole w reply k size (quietAt (w .receiver .table) i)
+    whole : ReplyLaw → ClosedWhole w reply k size (sessionIn ss i .quiet)
     unfolding settleDone
     whole law =
         let s = session-ok (ok .table) refl i in
@@ -169,24 +182,6 @@ module _ (g : Framing) (ss : List Session) (carry : List ℕ) (h : List Event) (
               (s .opened (a .state) .named j (ap isUsed (a .about .at .state))) (omega arith) g _ reply refl room);
         }
 
-    -- no record with its ids was done: the ids of sessions differ, and those of the files of one
-    none-before : (s quiet : ℕ) → IsDone (w .receiver .table) k s quiet → ⊥
-    none-before s quiet d =
-        let e : d .i ≡ i = ok .table .alone (d .i) i (present (d .i) (sessionIn ss (d .i) .state) refl (d .j) (d .state)) (ap isPresent (a .state)) (ap (λ (x : Key). x .id) (d .key)) in
-        let state : fileAt (sessionIn ss i) (d .j) .state ≡ FileState.Done = rw e at (d .state) in
-        let file : fileIdOf (fileAt (sessionIn ss i) (d .j)) ≡ k .file = rw e at (ap (λ (x : Key). x .file) (d .key)) in
-        let f : d .j ≡ j = session-ok (ok .table) refl i .opened (a .state) .alone (d .j) j (ap isUsed state) (ap isUsed (a .about .at .state)) file in
-        let z : FileState.Started ≡ FileState.Done = sym (a .about .at .state) ∙ (rw f at state) in
-        let y : _≡_ {A = ℕ} 0 1 = cc in omega arith
-      where
-        -- a session with a done file is open
-        present : (i : ℕ) (s : SessionState) → sessionIn ss i .state ≡ s → (j : ℕ) → fileAt (sessionIn ss i) j .state ≡ FileState.Done → sessionUsed (sessionIn ss i) ≡ true
-        present i SessionState.Absent e j q =
-            let z : FileState.Free ≡ FileState.Done = sym (session-ok (ok .table) refl i .shut (λ (o : sessionIn ss i .state ≡ SessionState.Open). let y : _≡_ {A = ℕ} 0 1 = cc in omega arith) j) ∙ q in
-            let y : _≡_ {A = ℕ} 0 1 = cc in absurd (omega arith)
-        present i SessionState.Asked e j q = ap isPresent e
-        present i SessionState.Open e j q = ap isPresent e
-
     closes : (d : Command) (p : List ℕ) → lastAsk (marksOf h) ≡ Question.asks d (Heard.writesLast p)
         → Closed (w .receiver .table) (step w (Call.done reply) .receiver .table) d
     unfolding settleDone
@@ -196,29 +191,34 @@ module _ (g : Framing) (ss : List Session) (carry : List ℕ) (h : List Event) (
         let key : keyIn d ≡ k = rw (← y, a .id, a .about .at .file) in
         record {
           count = size;
-          quiet = quietAt (w .receiver .table) i;
-          closes = record {
-            before = rw key none-before;
-            after = rw (key, done-is w reply room) (is-done ss (Owed.WriteLast i j n) i j size (a .inside) (a .about .at .within));
-          };
+          quiet = sessionIn ss i .quiet;
+          closes =
+              rw (key, done-is w reply room)
+              (closes-more ss (Owed.WriteLast i j n) i j size (a .inside) (a .about .at .within) (ap isDone (a .about .at .state)));
         }
 
   -- ---- whatever is owed
-  pub turned : ReplyLaw → (o : Owed) → WorldOK (world g ss o carry h) → {k : Key} {s quiet : ℕ} → Closes (table ss o) (settleDone (table ss o) o .table) k s quiet
+  pub turned : ReplyLaw → (o : Owed) → WorldOK (world g ss o carry h) → (k : Key) (s quiet : ℕ) → Closes (table ss o) (settleDone (table ss o) o .table) k s quiet
       → DirectoryAsked k (marksOf h) ⊎ ClosedWhole (world g ss o carry h) reply k s quiet
   unfolding settleDone
-  turned law Owed.Nothing ok c = absurd (none-closes (none-same (table ss Owed.Nothing) Owed.Nothing) c)
-  turned law (Owed.OpenFile i j) ok c = absurd (none-closes (none-file (table ss (Owed.OpenFile i j)) i j _ Owed.Nothing not-done) c)
-  turned law (Owed.OpenDirectory i j) ok c =
+  turned law Owed.Nothing ok k s quiet c = absurd (none-closes (table ss Owed.Nothing) (settleDone (table ss Owed.Nothing) Owed.Nothing .table) k s quiet (none-same (table ss Owed.Nothing) Owed.Nothing) c)
+  turned law (Owed.OpenFile i j) ok k s quiet c =
+      let o = Owed.OpenFile i j in
+      absurd (none-closes (table ss o) (settleDone (table ss o) o .table) k s quiet (none-file (table ss (Owed.OpenFile i j)) i j _ Owed.Nothing not-done) c)
+  turned law (Owed.OpenDirectory i j) ok k s quiet c =
       let a = asking (ok .table) refl in
-      let e = only-closes ss (Owed.OpenDirectory i j) i j 0 (a .inside) (a .about .at .within) c in
+      let e = only-closes ss (Owed.OpenDirectory i j) i j 0 (a .inside) (a .about .at .within) k s quiet c in
       rw (e .0) (inl (directory-turns i j ok))
-  turned law (Owed.Write i j n) ok c = absurd (none-closes (none-file (table ss (Owed.Write i j n)) i j _ Owed.Nothing not-done) c)
-  turned law (Owed.WriteLast i j n) ok c =
+  turned law (Owed.Write i j n) ok k s quiet c =
+      let o = Owed.Write i j n in
+      absurd (none-closes (table ss o) (settleDone (table ss o) o .table) k s quiet (none-file (table ss (Owed.Write i j n)) i j _ Owed.Nothing not-done) c)
+  turned law (Owed.WriteLast i j n) ok k s quiet c =
       let a = asking (ok .table) refl in
-      let e = only-closes ss (Owed.WriteLast i j n) i j _ (a .inside) (a .about .at .within) c in
+      let e = only-closes ss (Owed.WriteLast i j n) i j _ (a .inside) (a .about .at .within) k s quiet c in
       rw (e .0, e .1, e .2) (inr (whole i j n ok law))
-  turned law (Owed.Commit i) ok c = absurd (none-closes (none-free (table ss (Owed.Commit i)) i _ Owed.Nothing free-files) c)
+  turned law (Owed.Commit i) ok k s quiet c =
+      let o = Owed.Commit i in
+      absurd (none-closes (table ss o) (settleDone (table ss o) o .table) k s quiet (none-free (table ss (Owed.Commit i)) i _ Owed.Nothing free-files) c)
 
   -- a last part asked last and answered is the one that is owed
   pub closed : (o : Owed) → WorldOK (world g ss o carry h) → (d : Command) (p : List ℕ) → lastAsk (marksOf h) ≡ Question.asks d (Heard.writesLast p)

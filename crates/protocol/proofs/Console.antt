@@ -28,7 +28,8 @@ use Rattle.protocol.specs.declared.Found.the-variants as Found
 use Rattle.protocol.proofs.Laws.{no-way, equals-same, found-at, unique-other}
 use Rattle.protocol.proofs.Invariant.{keyOf, fileKey, FileOK, commitsFor, Holds, standing, committing, sessionUsed, SessionOK, owing, Asking, TableOK}
 use Rattle.protocol.proofs.Marks.{id-other, part-other, commits-other, none-allowed, none-noted, session-map}
-use Rattle.protocol.proofs.Puts.{table, notedMarks, put-session, drop-session, free-files, not-owed, asking-other, NoneDone, none-same, none-put, none-free}
+use Rattle.protocol.proofs.Done.{NoneDone}
+use Rattle.protocol.proofs.Puts.{table, notedMarks, put-session, drop-session, free-files, not-owed, asking-other, none-same, none-put, none-free}
 use Rattle.protocol.proofs.Obeyed.{sessionIn}
 
 -- ---- marks that bring a file nothing
@@ -166,7 +167,7 @@ module _ {ss : List Session} {o : Owed} {m : List Mark} (ok : TableOK (table ss 
           → Noted (table ss o) m (Mark.allow k) (allowState (table ss o) i s)
       state i e SessionState.Absent q = record { ok = ok; none = none }
       state i e SessionState.Asked q =
-          record { ok = allow-ok i e q; none = none-put (table ss o) i (withState (sessionIn ss i) SessionState.Open) o (λ j q. (q, refl)) }
+          record { ok = allow-ok i e q; none = none-put (table ss o) i (withState (sessionIn ss i) SessionState.Open) o (λ j q. (q, refl, refl, refl)) }
       state i e SessionState.Open q = record { ok = ok; none = none }
 
       found : (f : Found) → findSession (table ss o) k ≡ f → Noted (table ss o) m (Mark.allow k) (allowFound (table ss o) f)

@@ -19,7 +19,8 @@ use Rattle.protocol.specs.declared.Stepped.{Stepped}
 use Rattle.protocol.specs.declared.Answered.{Answered}
 use Rattle.protocol.proofs.Ours.{Lent, step, ClosedWhole, TurnedDone, Right, Everywhere}
 use Rattle.protocol.proofs.Laws.{no-way}
-use Rattle.protocol.proofs.Puts.{not-owed, NoneDone, none-same, none-closes}
+use Rattle.protocol.proofs.Done.{NoneDone}
+use Rattle.protocol.proofs.Puts.{not-owed, none-same, none-closes}
 use Rattle.protocol.proofs.Settled.{done-noted, failed-noted, failed-none}
 use Rattle.protocol.proofs.Console.{allow-noted, deny-moved, drop-noted}
 use Rattle.protocol.proofs.Worlds.{WorldOK, start-ok, noted-ok, guarded-ok, by-guard}
@@ -53,32 +54,40 @@ guarded-none : (w : World) (s : Stepped) (reply : List ℕ) → NoneDone (w .rec
 guarded-none w s reply none =
     by-guard (λ (a : Answered). NoneDone (w .receiver .table) (a .receiver .table)) w s reply (none-same (w .receiver .table) (w .receiver .table .owed)) (λ n. none)
 
+-- nor does a call at which none turns done
+never : (w : World) (c : Call) → NoneDone (w .receiver .table) (step w c .receiver .table) → (k : Key) (s quiet : ℕ)
+    → Closes (w .receiver .table) (step w c .receiver .table) k s quiet → TurnedDone w c k s quiet
+never w c none k s quiet closes = absurd (none-closes (w .receiver .table) (step w c .receiver .table) k s quiet none closes)
+
 module _ (law : ReplyLaw) where
-  done-turns : (w : World) → WorldOK w → (reply : List ℕ) {k : Key} {s quiet : ℕ}
+  done-turns : (w : World) → WorldOK w → (reply : List ℕ) (k : Key) (s quiet : ℕ)
       → Closes (w .receiver .table) (step w (Call.done reply) .receiver .table) k s quiet
       → DirectoryAsked k (marksOf (w .history)) ⊎ ClosedWhole w reply k s quiet
   unfolding doneOf guarded
-  done-turns w ok reply {k} {s} {quiet} c = go (ltb (length reply) 124) refl c
+  done-turns w ok reply k s quiet c = go (ltb (length reply) 124) refl c
     where
       go : (b : Bool) → ltb (length reply) 124 ≡ b → Closes (w .receiver .table) (step w (Call.done reply) .receiver .table) k s quiet
           → DirectoryAsked k (marksOf (w .history)) ⊎ ClosedWhole w reply k s quiet
-      go true e c = absurd (none-closes (none-same (w .receiver .table) (w .receiver .table .owed)) (rw e at c))
+      go true e c =
+          let t = w .receiver .table in absurd (none-closes t (record { sessions = t .sessions; owed = t .owed }) k s quiet (none-same t (t .owed)) (rw e at c))
       go false e c =
           let room : 124 ≤ length reply = ltb-false _ _ e in
-          turned (w .receiver .framing) (w .receiver .table .sessions) (w .carry) (w .history) reply room law (w .receiver .table .owed) ok (rw (done-is w reply room) at c)
+          turned (w .receiver .framing) (w .receiver .table .sessions) (w .carry) (w .history) reply room law (w .receiver .table .owed) ok k s quiet (rw (done-is w reply room) at c)
 
-  turned-done : (w : World) → WorldOK w → (c : Call) → Lent w c → {k : Key} {s quiet : ℕ}
+  turned-done : (w : World) → WorldOK w → (c : Call) → Lent w c → (k : Key) (s quiet : ℕ)
       → Closes (w .receiver .table) (step w c .receiver .table) k s quiet → TurnedDone w c k s quiet
   unfolding allowOf denyOf dropOf failedOf
-  turned-done w ok (Call.feed piece carry scratch reply) lent c = absurd (none-closes (feed-ok w ok piece carry scratch reply lent .none) c)
-  turned-done w ok (Call.allow id reply) _ c =
-      absurd (none-closes (guarded-none w (allowedOf (w .receiver .table) id) reply (allow-noted (ok .table) id .none)) c)
-  turned-done w ok (Call.deny id reply) _ c =
-      absurd (none-closes (guarded-none w (deniedOf (w .receiver .table) id) reply (deny-moved (ok .table) id .none)) c)
-  turned-done w ok (Call.drop id) _ c = absurd (none-closes (drop-noted (ok .table) id .none) c)
-  turned-done w ok (Call.done reply) _ c = record { reply = reply; byDone = refl; right = done-turns w ok reply c }
-  turned-done w ok (Call.failed code reply) _ c =
-      let t = w .receiver .table in absurd (none-closes (guarded-none w (settleFailed t code (t .owed)) reply (failed-none (t .sessions) code (t .owed))) c)
+  turned-done w ok (Call.feed piece carry scratch reply) lent =
+      never w (Call.feed piece carry scratch reply) (feed-ok w ok piece carry scratch reply lent .none)
+  turned-done w ok (Call.allow id reply) _ =
+      never w (Call.allow id reply) (guarded-none w (allowedOf (w .receiver .table) id) reply (allow-noted (ok .table) id .none))
+  turned-done w ok (Call.deny id reply) _ =
+      never w (Call.deny id reply) (guarded-none w (deniedOf (w .receiver .table) id) reply (deny-moved (ok .table) id .none))
+  turned-done w ok (Call.drop id) _ = never w (Call.drop id) (drop-noted (ok .table) id .none)
+  turned-done w ok (Call.done reply) _ = λ k s quiet c. record { reply = reply; byDone = refl; right = done-turns w ok reply k s quiet c }
+  turned-done w ok (Call.failed code reply) _ =
+      let t = w .receiver .table in
+      never w (Call.failed code reply) (guarded-none w (settleFailed t code (t .owed)) reply (failed-none (t .sessions) code (t .owed)))
 
 -- ---- a last part answered done closes its file
 done-closes : (w : World) → WorldOK w → (d : Command) (p reply : List ℕ) → lastAsk (marksOf (w .history)) ≡ Question.asks d (Heard.writesLast p)
@@ -98,7 +107,7 @@ module _ (law : ReplyLaw) where
   right : (w : World) → WorldOK w → (c : Call) → Lent w c → Right w c
   right w ok c lent =
       record {
-        closes = λ k s quiet. turned-done law w ok c lent;
+        closes = turned-done law w ok c lent;
         closed = λ d p reply ask e q. rw e (done-closes w ok d p reply ask q);
         partsStand = step-ok w ok c lent .table .told;
       }

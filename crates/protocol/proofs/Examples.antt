@@ -38,13 +38,13 @@ use Rattle.protocol.specs.Calls.{Feeding, scannedFeed, feedOf, guarded, 
 use Rattle.protocol.specs.History.{bytesOf, Mark, marksOf}
 use Rattle.protocol.specs.Stretches.{Key, Stretch, since, parts, contents}
 use Rattle.protocol.specs.Machine.{Call, World, start}
-use Rattle.protocol.specs.Claim.{stateAt, countAt}
 use Rattle.protocol.specs.Cuts.{Move, consoleCalls}
 use Rattle.protocol.specs.declared.FileState.the-variants as FileState
 use Rattle.protocol.specs.declared.Status.the-variants as Status
 use Rattle.protocol.specs.declared.Told.{Told}
 use Rattle.protocol.specs.declared.Told.the-variants as Told
 use Rattle.protocol.specs.declared.Answered.{Answered}
+use Rattle.protocol.proofs.Done.{stateAt, countAt}
 use Rattle.protocol.proofs.Ours.{step, allGiven, after, AllLent}
 use Rattle.protocol.proofs.Cuts.{cuts-alike}
 

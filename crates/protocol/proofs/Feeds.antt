@@ -29,7 +29,8 @@ use Rattle.protocol.proofs.Ours.{Lent, step}
 use Rattle.protocol.proofs.Laws.{no-way, low-taken}
 use Rattle.protocol.proofs.Means.{Read, command, refused, text-read}
 use Rattle.protocol.proofs.Invariant.{TableOK}
-use Rattle.protocol.proofs.Puts.{table, not-owed, NoneDone, none-same}
+use Rattle.protocol.proofs.Done.{NoneDone}
+use Rattle.protocol.proofs.Puts.{table, not-owed, none-same}
 use Rattle.protocol.proofs.Obeyed.{idle}
 use Rattle.protocol.proofs.ObeyedRule.{obey-kept}
 use Rattle.protocol.proofs.Worlds.{WorldOK}

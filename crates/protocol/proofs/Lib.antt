@@ -3,6 +3,7 @@ pub mod Laws
 pub mod Refusals
 pub mod Means
 pub mod Invariant
+pub mod Done
 pub mod Marks
 pub mod Puts
 pub mod Obeyed

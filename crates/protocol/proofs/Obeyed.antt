@@ -34,7 +34,8 @@ use Rattle.protocol.proofs.Laws.{no-way, found-at, unique-other}
 use Rattle.protocol.proofs.Means.{Means}
 use Rattle.protocol.proofs.Invariant.{keyOf, fileKey, Holds, sessionUsed, owing, About, TableOK}
 use Rattle.protocol.proofs.Marks.{id-other, file-other, content-other, content-none, holds-read, file-read, none-read, session-map, session-read}
-use Rattle.protocol.proofs.Puts.{table, free-files, drop-session, NoneDone, none-same, none-free}
+use Rattle.protocol.proofs.Done.{NoneDone}
+use Rattle.protocol.proofs.Puts.{table, free-files, drop-session, none-same, none-free}
 
 -- nothing owed
 abbrev pub idle : List Session → Table

@@ -16,7 +16,7 @@ use Rattle.protocol.specs.Calls.{isOwed}
 use Rattle.protocol.specs.History.{Command, Heard, Mark, Question, lastAsk}
 use Rattle.protocol.specs.Stretches.{Key, since, startStands, AllStand}
 use Rattle.protocol.specs.Machine.{isRefused}
-use Rattle.protocol.specs.Claim.{stateAt, IsDone, Closes}
+use Rattle.protocol.specs.Claim.{Closes}
 use Rattle.protocol.specs.Promises.{IsId}
 use Rattle.protocol.specs.declared.FileState.{FileState}
 use Rattle.protocol.specs.declared.FileState.the-variants as FileState
@@ -27,6 +27,7 @@ use Rattle.protocol.specs.declared.Owed.{Owed}
 use Rattle.protocol.specs.declared.Owed.the-variants as Owed
 use Rattle.protocol.specs.declared.Table.{Table}
 use Rattle.protocol.specs.declared.Stepped.{Stepped}
+use Rattle.protocol.proofs.Done.{stateAt, WasDone, NoneDone, none-le}
 use Rattle.protocol.proofs.Laws.{no-way, set-each, set-any, set-unique, replicate-each}
 use Rattle.protocol.proofs.Invariant.{keyOf, isPast, fileKey, FileOK, Holds, fileUsed, OpenOK, sessionUsed, SessionOK, owing, About, Asking, TableOK}
 
@@ -140,20 +141,14 @@ asking-here ss i s d a o e h open-state id about =
       about = rw x about;
     }
 
--- ---- no record turns done: one that is done was so before, with the same ids
-abbrev pub WasDone : Session → Session → ℕ → Type 0
-WasDone s s′ j = (fileAt s j .state ≡ FileState.Done) × (keyOf s (fileAt s j) ≡ keyOf s′ (fileAt s′ j))
-
-abbrev pub NoneDone : Table → Table → Type 0
-NoneDone t t′ = (i j : ℕ) → stateAt t′ i j ≡ FileState.Done → WasDone (sessionAt t i) (sessionAt t′ i) j
-
+-- ---- no record turns done: one that is done was so before
 pub none-same : (t : Table) (o : Owed) → NoneDone t (table (t .sessions) o)
-none-same t o i j q = (q, refl)
+none-same t o i j q = (q, refl, refl, refl)
 
 pub none-put : (t : Table) (i : ℕ) (s : Session) (o : Owed) → ((j : ℕ) → fileAt s j .state ≡ FileState.Done → WasDone (sessionAt t i) s j)
     → NoneDone t (table (set (t .sessions) i s) o)
 none-put t i s o h i′ j =
-    set-any (λ (n : ℕ) (x : Session). fileAt x j .state ≡ FileState.Done → WasDone (sessionAt t n) x j) (t .sessions) i s noSession (h j) (λ n q. (q, refl)) i′
+    set-any (λ (n : ℕ) (x : Session). fileAt x j .state ≡ FileState.Done → WasDone (sessionAt t n) x j) (t .sessions) i s noSession (h j) (λ n q. (q, refl, refl, refl)) i′
 
 pub none-free : (t : Table) (i : ℕ) (s : Session) (o : Owed) → ((j : ℕ) → fileAt s j .state ≡ FileState.Free)
     → NoneDone t (table (set (t .sessions) i s) o)
@@ -165,20 +160,21 @@ pub only-there : (t : Table) (i j : ℕ) (f : FileRecord) (o : Owed) (i′ j′ 
     stateAt t′ i′ j′ ≡ FileState.Done → WasDone (sessionAt t i′) (sessionAt t′ i′) j′ ⊎ ((i′ ≡ i) × (j′ ≡ j) × (f .state ≡ FileState.Done))
 only-there t i j f o i′ j′ =
     set-any (λ (n : ℕ) (x : Session). fileAt x j′ .state ≡ FileState.Done → WasDone (sessionAt t n) x j′ ⊎ ((n ≡ i) × (j′ ≡ j) × (f .state ≡ FileState.Done)))
-    (t .sessions) i (putFile (sessionAt t i) j f) noSession (λ q. here (inside j′ q)) (λ n q. inl (q, refl)) i′
+    (t .sessions) i (putFile (sessionAt t i) j f) noSession (λ q. here (inside j′ q)) (λ n q. inl (q, refl, refl, refl)) i′
   where
     s : Session
     s = sessionAt t i
 
     At : ℕ → FileRecord → Type 0
-    At n x = ((fileAt s n .state ≡ FileState.Done) × (keyOf s (fileAt s n) ≡ keyOf s x)) ⊎ ((n ≡ j) × (f .state ≡ FileState.Done))
+    At n x =
+        ((fileAt s n .state ≡ FileState.Done) × (keyOf s (fileAt s n) ≡ keyOf s x) × (fileAt s n .count ≡ x .count)) ⊎ ((n ≡ j) × (f .state ≡ FileState.Done))
 
     inside : (n : ℕ) → fileAt (putFile s j f) n .state ≡ FileState.Done → At n (fileAt (putFile s j f) n)
     inside =
-        set-any (λ (n : ℕ) (x : FileRecord). x .state ≡ FileState.Done → At n x) (s .files) j f noFile (λ q. inr (refl, q)) (λ n q. inl (q, refl))
+        set-any (λ (n : ℕ) (x : FileRecord). x .state ≡ FileState.Done → At n x) (s .files) j f noFile (λ q. inr (refl, q)) (λ n q. inl (q, refl, refl))
 
     here : At j′ (fileAt (putFile s j f) j′) → WasDone s (putFile s j f) j′ ⊎ ((i ≡ i) × (j′ ≡ j) × (f .state ≡ FileState.Done))
-    here (inl q) = inl q
+    here (inl q) = inl (q .0, q .1, q .2, refl)
     here (inr q) = inr (refl, q .0, q .1)
 
 pub none-file : (t : Table) (i j : ℕ) (f : FileRecord) (o : Owed) → (f .state ≡ FileState.Done → ⊥)
@@ -190,11 +186,6 @@ none-file t i j f o h i′ j′ q = go (only-there t i j f o i′ j′ q)
     go (inl w) = w
     go (inr e) = absurd (h (e .2))
 
--- a file that was done does not close; so where none turns done, no file closes
-pub was-closes : {t t′ : Table} {k : Key} {s quiet : ℕ} (c : Closes t t′ k s quiet)
-    → WasDone (sessionAt t (c .after .i)) (sessionAt t′ (c .after .i)) (c .after .j) → ⊥
-was-closes c was =
-    let a = c .after in c .before _ _ (record { i = a .i; j = a .j; key = was .1 ∙ a .key; state = was .0; counted = refl; hushed = refl })
-
-pub none-closes : {t t′ : Table} {k : Key} {s quiet : ℕ} → NoneDone t t′ → Closes t t′ k s quiet → ⊥
-none-closes none c = was-closes c (none (c .after .i) (c .after .j) (c .after .state))
+-- so no file closes
+pub none-closes : (t t′ : Table) (k : Key) (n quiet : ℕ) → NoneDone t t′ → Closes t t′ k n quiet → ⊥
+none-closes t t′ k n quiet none c = omega (arith, none-le k n quiet t t′ none)

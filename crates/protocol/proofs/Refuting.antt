@@ -5,21 +5,23 @@ use mathlib.Core.Bool.{Bool, true, false, not}
 use mathlib.Core.Logic.{_⊎_, inl, inr}
 use mathlib.Core.Option.{Option}
 use mathlib.Core.List.{List, [], _∷_, _++_}
+use native.Mathlib.Omega.{arith}
 use lib.ListN.{length, take, drop, getD, replicate}
 use lib.Dec.{eqb}
 use borrow.Author.Tests.{eq-eqb}
 use Rattle.octets.specs.Choice.{both, either, every}
 use Rattle.octets.specs.Slices.{equals}
+use Rattle.octets.proofs.Below.{both-test}
 use Rattle.octets.specs.Ascii.{ascii}
 use Rattle.octets.specs.Outcome.{Outcome}
 use Rattle.decimal.specs.declared.Number.{Number}
 use Rattle.command.specs.Meaning.{Meaning, meaningOf, sizeOf}
-use Rattle.protocol.specs.Table.{noFile, noSession, fileAt}
+use Rattle.protocol.specs.Table.{noFile, noSession, sessionAt}
 use Rattle.protocol.specs.Replies.{framed}
 use Rattle.protocol.specs.History.{Command, Heard, Mark, marksOf, Question, lastAsk}
 use Rattle.protocol.specs.Stretches.{Key, isFor, isFile, isDirectory, Stretch, since, parts, contents, startStands, AllStand}
 use Rattle.protocol.specs.Machine.{Machine, Call, World, isRefused, Lent, step, start}
-use Rattle.protocol.specs.Claim.{stateAt, countAt, keyAt, quietAt, IsDone, LastPartAsked, DirectoryAsked, ClosingReply, ClosedWhole, TurnedDone, Right, Everywhere, EveryHistory}
+use Rattle.protocol.specs.Claim.{isDone, doneAs, keyIn, LastPartAsked, DirectoryAsked, ClosingReply, ClosedWhole, TurnedDone, Right, Everywhere, EveryHistory}
 use Rattle.protocol.specs.Cuts.{AllLent}
 use Rattle.protocol.specs.declared.FileState.{FileState}
 use Rattle.protocol.specs.declared.FileState.the-variants as FileState
@@ -28,6 +30,8 @@ use Rattle.protocol.specs.declared.Session.{Session}
 use Rattle.protocol.specs.declared.Table.{Table}
 use Rattle.protocol.specs.declared.Answered.{Answered}
 use Rattle.protocol.proofs.Laws.{no-way, equals-same}
+use Rattle.protocol.proofs.Done.{NoneDone}
+use Rattle.protocol.proofs.Puts.{none-closes}
 
 -- ---- a list of calls: every feed is lent the world's carry, and the other buffers are all alike
 unfoldable pub carry₀ : List ℕ
@@ -86,13 +90,6 @@ pub hands-badly : (m : Machine) (cs : List Deed) (piece : List ℕ) → HandsBad
 hands-badly m cs piece h claim = h (right-at m cs (Deed.feed piece) claim .partsStand)
 
 -- ---- no record of a table is done
-abbrev isDone : FileState → Bool
-isDone FileState.Free = false
-isDone FileState.Opening = false
-isDone FileState.Started = false
-isDone FileState.Done = true
-isDone FileState.Failed = false
-
 abbrev undone : FileRecord → Bool
 undone f = not (isDone (f .state))
 
@@ -102,22 +99,14 @@ noneDone t = every (λ (s : Session). every undone (s .files)) (t .sessions)
 every-at : {A : Type 0} (p : A → Bool) (d : A) → p d ≡ true → (l : List A) → every p l ≡ true → (i : ℕ) → p (getD l i d) ≡ true
 unfolding every
 every-at p d h [] e i = h
-every-at p d h (x ∷ xs) e zero = go (p x) refl e
-  where
-    go : (b : Bool) → p x ≡ b → both b (every p xs) ≡ true → p x ≡ true
-    go true q e = q
-    go false q e = no-way (sym e)
-every-at p d h (x ∷ xs) e (suc i) = every-at p d h xs (go (p x) e) i
-  where
-    go : (b : Bool) → both b (every p xs) ≡ true → every p xs ≡ true
-    go true e = e
-    go false e = no-way (sym e)
+every-at p d h (x ∷ xs) e zero = both-test (p x) (every p xs) e .0
+every-at p d h (x ∷ xs) e (suc i) = every-at p d h xs (both-test (p x) (every p xs) e .1) i
 
-pub none-done : (t : Table) → noneDone t ≡ true → {k : Key} (n q : ℕ) → IsDone t k n q → ⊥
+none-done : (t t′ : Table) → noneDone t′ ≡ true → NoneDone t t′
 unfolding every
-none-done t e n q d =
-    let here = every-at (λ (s : Session). every undone (s .files)) noSession refl (t .sessions) e (d .i) in
-    no-way (sym (every-at undone noFile refl (getD (t .sessions) (d .i) noSession .files) here (d .j)) ∙ ap (λ (g : FileState). not (isDone g)) (d .state))
+none-done t t′ e i j q =
+    let here = every-at (λ (s : Session). every undone (s .files)) noSession refl (t′ .sessions) e i in
+    no-way (sym (every-at undone noFile refl (sessionAt t′ i .files) here j) ∙ ap (λ (g : FileState). not (isDone g)) q)
 
 -- ---- a file closes that is not whole: the claim's words as tests
 abbrev pub key : Key
@@ -180,24 +169,6 @@ either-right : (b : Bool) → either b true ≡ true
 either-right true = refl
 either-right false = refl
 
--- the first file of the first session: its state, ids and count, and the session's quiet
-abbrev FileShown : Type 0
-FileShown = FileState × Key × ℕ × ℕ
-
-abbrev firstFile : Table → FileShown
-firstFile t = (stateAt t 0 0, keyAt t 0 0, countAt t 0 0, quietAt t 0)
-
-first-done : (t : Table) {k : Key} {n q : ℕ} → firstFile t ≡ (FileState.Done, k, n, q) → IsDone t k n q
-first-done t e =
-    record {
-      i = 0;
-      j = 0;
-      key = ap (λ (x : FileShown). x .1) e;
-      state = ap (λ (x : FileShown). x .0) e;
-      counted = ap (λ (x : FileShown). x .2) e;
-      hushed = ap (λ (x : FileShown). x .3) e;
-    }
-
 module _ (m : Machine) (cs : List Deed) where
   abbrev w : World
   w = afterAll m cs
@@ -215,8 +186,8 @@ module _ (m : Machine) (cs : List Deed) where
   -- the file a closes at a done, in a session that is not quiet
   pub record ClosesBadly : Type 0 where
     pub count : ℕ
-    pub before : noneDone (w .receiver .table) ≡ true
-    pub after : firstFile (w′ .receiver .table) ≡ (FileState.Done, key, count, 0)
+    pub before : doneAs key count 0 (w .receiver .table) ≡ 0
+    pub after : doneAs key count 0 (w′ .receiver .table) ≡ 1
     pub wrong : turnsRight count ≡ false
 
   abbrev replyIn : Call → List ℕ
@@ -237,7 +208,7 @@ module _ (m : Machine) (cs : List Deed) where
   closes-badly b claim = no-way (sym (turns-right (b .count) (rw (← (ap replyIn (turned .byDone))) at (turned .right))) ∙ b .wrong)
     where
       turned : TurnedDone m w (Call.done reply₀) key (b .count) 0
-      turned = right-at m cs Deed.done claim .closes key (b .count) 0 (record { before = none-done (w .receiver .table) (b .before); after = first-done (w′ .receiver .table) (b .after) })
+      turned = right-at m cs Deed.done claim .closes key (b .count) 0 (rw (b .before, b .after) (omega arith))
 
   -- a last part is answered done, and no file is done after it
   pub record StaysOpen (d : Command) (p : List ℕ) : Type 0 where
@@ -248,4 +219,4 @@ module _ (m : Machine) (cs : List Deed) where
   pub stays-open : {d : Command} {p : List ℕ} → StaysOpen d p → EveryHistory m → ⊥
   stays-open {d} {p} b claim =
       let c = right-at m cs Deed.done claim .closed d p reply₀ (b .asked) refl (b .taken) in
-      none-done (w′ .receiver .table) (b .after) (c .count) (c .quiet) (c .closes .after)
+      none-closes (w .receiver .table) (w′ .receiver .table) (keyIn d) (c .count) (c .quiet) (none-done (w .receiver .table) (w′ .receiver .table) (b .after)) (c .closes)

@@ -26,7 +26,8 @@ use Rattle.protocol.specs.declared.Stepped.{Stepped}
 use Rattle.protocol.proofs.Laws.{no-way, equals-other, equals-same, unique-other}
 use Rattle.protocol.proofs.Invariant.{keyOf, fileKey, isPast, FileOK, commitsFor, fileUsed, OpenOK, sessionUsed, SessionOK, owing, AtFile, OpenAsked, PartAsked, writeHeard, Asking, TableOK}
 use Rattle.protocol.proofs.Marks.{none-answered, file-other, file-done, file-starts, file-answered, holds-answered, session-answered}
-use Rattle.protocol.proofs.Puts.{table, notedMarks, put-session, drop-session, put-file, free-files, not-owed, NoneDone, none-same, none-free, none-file}
+use Rattle.protocol.proofs.Done.{NoneDone}
+use Rattle.protocol.proofs.Puts.{table, notedMarks, put-session, drop-session, put-file, free-files, not-owed, none-same, none-free, none-file}
 use Rattle.protocol.proofs.Obeyed.{idle, sessionIn}
 
 -- the file that is owed is the command's

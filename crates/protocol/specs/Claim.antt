@@ -1,16 +1,18 @@
 -- Demand 3, of a machine: every list of calls from a fresh receiver, and what holds at each of them.
-use Prim.Native.Nat.{ℕ, _≤_}
+use Prim.Native.Nat.{ℕ, _+_, _≤_, _<_}
 use mathlib.Core.Path.{_≡_}
-use mathlib.Core.Bool.{true, false}
+use mathlib.Core.Bool.{Bool, true, false}
 use mathlib.Core.Logic.{_⊎_}
 use mathlib.Core.Option.{Option}
 use mathlib.Core.List.{List, [], _∷_}
 use lib.ListN.{length, take}
+use lib.Dec.{eqb}
+use Rattle.octets.specs.Choice.{pick, both}
 use Rattle.octets.specs.Ascii.{ascii}
+use Rattle.octets.specs.Slices.{equals}
 use Rattle.octets.specs.Outcome.{Outcome}
 use Rattle.command.specs.Meaning.{Meaning, meaningOf, actionCode, idOf, fileIdOf, sizeOf, statusOf}
 use Rattle.command.specs.Values.{count}
-use Rattle.protocol.specs.Table.{sessionAt, fileAt}
 use Rattle.protocol.specs.Table as Table
 use Rattle.protocol.specs.Replies.{framed}
 use Rattle.protocol.specs.History.{Command, Heard, Mark, marksOf, Question, lastAsk}
@@ -18,35 +20,39 @@ use Rattle.protocol.specs.Stretches.{Key, isFor, isFile, isDirectory, St
 use Rattle.protocol.specs.Machine.{Machine, Call, World, isRefused, step, Lent, start}
 use Rattle.protocol.specs.declared.FileState.{FileState}
 use Rattle.protocol.specs.declared.FileState.the-variants as FileState
+use Rattle.protocol.specs.declared.FileRecord.{FileRecord}
+use Rattle.protocol.specs.declared.Session.{Session}
 use Rattle.protocol.specs.declared.Table.{Table}
 use Rattle.protocol.specs.declared.Answered.{Answered}
 
--- ---- the records of a table
-abbrev pub stateAt : Table → ℕ → ℕ → FileState
-stateAt t i j = fileAt (sessionAt t i) j .state
+-- ---- the done records of a table, by ids and not by places
+abbrev pub isDone : FileState → Bool
+isDone FileState.Free = false
+isDone FileState.Opening = false
+isDone FileState.Started = false
+isDone FileState.Done = true
+isDone FileState.Failed = false
 
-abbrev pub countAt : Table → ℕ → ℕ → ℕ
-countAt t i j = fileAt (sessionAt t i) j .count
+-- the record f of the session s has these ids, and is done with count n; the session has that quiet
+abbrev pub isDoneAs : Key → ℕ → ℕ → Session → FileRecord → Bool
+isDoneAs k n quiet s f =
+    both (isDone (f .state)) (both (equals (Table.idOf s) (k .id))
+    (both (equals (Table.fileIdOf f) (k .file)) (both (eqb (f .count) n) (eqb (s .quiet) quiet))))
 
-abbrev pub keyAt : Table → ℕ → ℕ → Key
-keyAt t i j = record { id = Table.idOf (sessionAt t i); file = Table.fileIdOf (fileAt (sessionAt t i) j) }
+-- how many there are: a sum over the sessions, of sums over their files
+abbrev pub total : {A : Type 0} → (A → ℕ) → List A → ℕ
+total g [] = 0
+total g (x ∷ xs) = g x + total g xs
 
-abbrev pub quietAt : Table → ℕ → ℕ
-quietAt t i = sessionAt t i .quiet
+abbrev pub doneIn : Key → ℕ → ℕ → Session → ℕ
+doneIn k n quiet s = total (λ (f : FileRecord). pick (isDoneAs k n quiet s f) 1 0) (s .files)
 
--- a record with these ids is done with count s, in a session with that quiet, whichever place it stands at
-pub record IsDone (t : Table) (k : Key) (s quiet : ℕ) : Type 0 where
-  pub i : ℕ
-  pub j : ℕ
-  pub key : keyAt t i j ≡ k
-  pub state : stateAt t i j ≡ FileState.Done
-  pub counted : countAt t i j ≡ s
-  pub hushed : quietAt t i ≡ quiet
+abbrev pub doneAs : Key → ℕ → ℕ → Table → ℕ
+doneAs k n quiet t = total (doneIn k n quiet) (t .sessions)
 
--- "It closes as done, its record turning done": the file with these ids was not done, and is, with count s
-pub record Closes (t t′ : Table) (k : Key) (s quiet : ℕ) : Type 0 where
-  pub before : (n q : ℕ) → IsDone t k n q → ⊥
-  pub after : IsDone t′ k s quiet
+-- "It closes as done, its record turning done": more records with these ids are done with that count than before, in whichever places
+abbrev pub Closes : Table → Table → Key → ℕ → ℕ → Type 0
+Closes t t′ k n quiet = doneAs k n quiet t < doneAs k n quiet t′
 
 -- ---- at a closing
 -- the ask told last was the last part for the file
@@ -110,7 +116,8 @@ pub record Right (m : Machine) (w : World) (c : Call) : Type 0 where
       → TurnedDone m w c k s quiet
   -- "exactly when its last part is answered done"
   pub closed : (d : Command) (p reply : List ℕ) → lastAsk (marksOf (w .history)) ≡ Question.asks d (Heard.writesLast p)
-      → c ≡ Call.done reply → isRefused (m .dones (w .receiver) reply .answer .told) ≡ false → Closed (w .receiver .table) (step m w c .receiver .table) d
+      → c ≡ Call.done reply → isRefused (m .dones (w .receiver) reply .answer .told) ≡ false
+      → Closed (w .receiver .table) (step m w c .receiver .table) d
   -- "No part is handed over outside a session that the user allowed and that still stands"
   pub partsStand : AllStand (marksOf (step m w c .history))
 
