@@ -1,12 +1,12 @@
--- Each call, lent the kept carry, does to the table what its move does: a feed with a report that of the next thing told by the bytes that it
--- consumes, a feed without one nothing.
+-- Each call, lent the kept carry, does to the table what its move does: a feed with a report that of the next thing told by the bytes
+-- that it consumes, a feed without one nothing.
 use Prim.Native.Nat.{ℕ, _≤_}
 use mathlib.Core.Path.{_≡_, refl, sym, _∙_}
 use mathlib.Core.Bool.{Bool, true, false}
 use mathlib.Core.List.{List, [], _∷_, _++_, append-nil}
 use lib.ListN.{length, take}
 use lib.Dec.{ltb, lit≤}
-use borrow.Author.Tests.{ltb-false, le-leb}
+use borrow.Author.Tests.{ltb-false}
 use Rattle.octets.specs.Choice.{pick}
 use Rattle.octets.specs.Outcome.{Outcome, outcome}
 use Rattle.frames.specs.Stream as Stream
@@ -22,7 +22,8 @@ use Rattle.command.specs.Read.{readOf}
 use Rattle.protocol.specs.Table.{findSession}
 use Rattle.protocol.specs.Replies.{replyBytes, repliedOf}
 use Rattle.protocol.specs.Answers.{refused, settleDone, settleFailed, dropFound, allowedOf, deniedOf, droppedOf}
-use Rattle.protocol.specs.Calls.{isOwed, Feeding, feeding, Acted, readAct, reportAct, feedRefused, scannedFeed, isShort, feedOf, answeredBy, replied, guarded, allowOf, denyOf, dropOf, doneOf, failedOf}
+use Rattle.protocol.specs.Calls.{isOwed, Feeding, feeding, Acted, readAct, reportAct, feedRefused, scannedFeed, isShort, feedOf}
+use Rattle.protocol.specs.Calls.{answeredBy, replied, guarded, allowOf, denyOf, dropOf, doneOf, failedOf}
 use Rattle.protocol.specs.History.{Event, bytesOf, modeAfter}
 use Rattle.protocol.specs.Machine.{Call, World, isUnfed, isRefused, afterFeed, afterCall, start}
 use Rattle.protocol.specs.Cuts.{saying, Move, Output, reporting, answering, isReport, isReportMove, reportOf, answerOf}
@@ -37,7 +38,8 @@ use Rattle.protocol.specs.declared.Found.{Found}
 use Rattle.protocol.specs.declared.Found.the-variants as Found
 use Rattle.protocol.proofs.Ours.{Lent, step, given}
 use Rattle.protocol.proofs.ReplyBytes.{SizedReply, reply-sent}
-use Rattle.protocol.proofs.Sizes.{SizedStep, none-sized, empty-sized, done-sized, failed-sized, allow-sized, deny-sized, dropped-sized}
+use Rattle.protocol.proofs.Sizes.{SizedStep, none-sized, empty-sized}
+use Rattle.protocol.proofs.Sizes.{done-sized, failed-sized, allow-sized, deny-sized, dropped-sized}
 use Rattle.protocol.proofs.ReplyLengths.{report-sized, Roomy, roomy}
 use Rattle.protocol.proofs.CutsReading.{same-reading}
 use Rattle.protocol.proofs.CutsSteps.{SameAct, unread-same, act-same}
@@ -51,6 +53,10 @@ pub record Kept (w : World) : Type 0 where
 pub start-kept : (carry : List ℕ) → Kept (start carry)
 unfolding stream
 start-kept carry = record { follows = fresh-follows carry; sized = empty-sized }
+
+-- what bytes tell after all that came before
+abbrev pub toldAfter : World → List ℕ → List Stream.Told
+toldAfter w bs = stream (modeAfter (w .history)) bs .0
 
 -- ---- a report
 abbrev reportedBy : List ℕ → Acted → List ℕ → Output
@@ -68,18 +74,21 @@ module _ (t : Table) (h : Sized t) (scratch reply : List ℕ) (enough : 6144 ≤
   act-moves : (d : Stream.Told) (a : Acted) → SizedReply (a .step .reply) → SameAct (textIn d) a (actOn t d)
       → Acts t a (reportedBy (textIn d) a reply ∷ []) (d ∷ [])
   act-moves d a z s =
-      let e : reportedBy (textIn d) a reply ≡ reported t d = rw (reply-sent (a .step .reply) reply z long .bytes, s .values, s .said, s .step) in
+      let sent = reply-sent (a .step .reply) reply z long .bytes in
+      let e : reportedBy (textIn d) a reply ≡ reported t d = rw (sent, s .values, s .said, s .step) in
       let q : a .step .table ≡ actOn t d .step .table = rw (s .step) in
       record { taken = s .taken; moves = rw (e, q) (one (reported t d) (d ∷ []) refl (λ rest. refl)) }
 
-  text-moves : (text : List ℕ)
-      → Acts t (readAct t text (readOf text scratch)) (reportedBy text (readAct t text (readOf text scratch)) reply ∷ []) (Stream.Told.command text ∷ [])
+  text-moves : (text : List ℕ) → let a = readAct t text (readOf text scratch) in
+      Acts t a (reportedBy text a reply ∷ []) (Stream.Told.command text ∷ [])
   text-moves text =
-      act-moves (Stream.Told.command text) _ (report-sized t h (Report.InCarry 0) text scratch .reply) (act-same t h text (same-reading text scratch zeros enough (lit≤ tt)))
+      act-moves (Stream.Told.command text) _ (report-sized t h (Report.InCarry 0) text scratch .reply)
+      (act-same t h text (same-reading text scratch zeros enough (lit≤ tt)))
 
   report-moves : (k : Report) (piece carry : List ℕ) → (k ≡ Report.ShortCarry → ⊥)
       → let text = textOf piece carry k in
-      Acts t (reportAct t k text scratch) (pick (isReport k) (reportedBy text (reportAct t k text scratch) reply ∷ []) []) (toldOf k text)
+      let a = reportAct t k text scratch in
+      Acts t a (pick (isReport k) (reportedBy text a reply ∷ []) []) (toldOf k text)
   unfolding textOf
   report-moves Report.Nothing piece carry n = record { taken = refl; moves = none refl }
   report-moves (Report.InPiece start len) piece carry n = text-moves _
@@ -89,14 +98,15 @@ module _ (t : Table) (h : Sized t) (scratch reply : List ℕ) (enough : 6144 ≤
   report-moves Report.ShortCarry piece carry n = absurd (n refl)
 
 -- a feed that is not refused with 9 or 10 tells neither
-pub report-taken : (t : Table) → Sized t → (scratch reply : List ℕ) → 6144 ≤ length scratch → 124 ≤ length reply → (k : Report) (piece carry : List ℕ)
-    → (k ≡ Report.ShortCarry → ⊥) → isUnfed (reportAct t k (textOf piece carry k) scratch .step .told) ≡ false
+pub report-taken : (t : Table) → Sized t → (scratch reply : List ℕ) → 6144 ≤ length scratch → 124 ≤ length reply
+    → (k : Report) (piece carry : List ℕ) → (k ≡ Report.ShortCarry → ⊥)
+    → isUnfed (reportAct t k (textOf piece carry k) scratch .step .told) ≡ false
 report-taken t h scratch reply enough long k piece carry n = report-moves t h scratch reply enough long k piece carry n .taken
 
 -- ---- a feed
 -- what a feed of a piece does to the world
 record Feeds (w : World) (piece : List ℕ) (f : Feeding) : Type 0 where
-  moves : Moves (w .receiver .table) (f .fed .receiver .table) (reportOf piece f) (stream (modeAfter (w .history)) (take (f .fed .consumed) piece) .0)
+  moves : Moves (w .receiver .table) (f .fed .receiver .table) (reportOf piece f) (toldAfter w (take (f .fed .consumed) piece))
   kept : Kept (afterFeed w piece f)
 
 module _ (w : World) (ok : Kept w) (piece carry scratch reply : List ℕ) where
@@ -115,17 +125,20 @@ module _ (w : World) (ok : Kept w) (piece carry scratch reply : List ℕ) where
   taken-feeds : Roomy carry scratch reply → (isUnfed (taken .fed .told) ≡ false → carry ≡ w .carry) → Feeds w piece taken
   unfolding scannedFeed
   taken-feeds long lent =
-      let k = scanOf (w .receiver .framing) piece carry in
-      let a = report-moves (w .receiver .table) (ok .sized) scratch reply (long .scratch) (long .reply) (k .answer .report) piece (k .buffer)
-      (call-report (w .receiver .framing) piece carry (long .carry)) in
-      let f : Follows (w .receiver .framing) carry (modeAfter (w .history)) = rw (lent (a .taken)) (ok .follows) in
+      let r = w .receiver in
+      let k = scanOf (r .framing) piece carry in
+      let report = k .answer .report in
+      let a = report-moves (r .table) (ok .sized) scratch reply (long .scratch) (long .reply) report piece (k .buffer)
+      (call-report (r .framing) piece carry (long .carry)) in
+      let f : Follows (r .framing) carry (modeAfter (w .history)) = rw (lent (a .taken)) (ok .follows) in
       let c = call-follows piece f in
+      let bs = take (k .answer .consumed) piece in
       record {
         moves = rw (c .0) (a .moves);
         kept =
             record {
-              follows = rw (a .taken, modeAfter, stream-append Mode.outside (bytesOf (w .history)) (take (k .answer .consumed) piece)) (c .1);
-              sized = report-sized (w .receiver .table) (ok .sized) (k .answer .report) (textOf piece (k .buffer) (k .answer .report)) scratch .table;
+              follows = rw (a .taken, modeAfter, stream-append Mode.outside (bytesOf (w .history)) bs) (c .1);
+              sized = report-sized (r .table) (ok .sized) report (textOf piece (k .buffer) report) scratch .table;
             };
       }
 
@@ -136,8 +149,11 @@ module _ (w : World) (ok : Kept w) (piece carry scratch reply : List ℕ) where
       no : ℕ → Feeding
       no n = feeding (feedRefused (w .receiver) n) carry scratch reply
 
+      fed : Bool → Bool → Feeding
+      fed s b = pick s (no 9) (pick b (no 10) taken)
+
       go : (s : Bool) → isShort carry scratch reply ≡ s → (b : Bool)
-          → (isUnfed (pick s (no 9) (pick b (no 10) taken) .fed .told) ≡ false → carry ≡ w .carry) → Feeds w piece (pick s (no 9) (pick b (no 10) taken))
+          → (isUnfed (fed s b .fed .told) ≡ false → carry ≡ w .carry) → Feeds w piece (fed s b)
       go true e b lent = refused-feeds 9 refl
       go false e true lent = refused-feeds 10 refl
       go false e false lent = taken-feeds (roomy carry scratch reply e) lent
@@ -150,18 +166,23 @@ record Answers (r : Receiver) (a : Outcome Answered) (os : List Output) : Type 0
   sized : Sized (a .answer .receiver .table)
 
 answers : (r : Receiver) → Sized (r .table) → (m : Move) → isReportMove m ≡ false → (s : Stepped) (reply : List ℕ) → SizedStep s
-    → ((ds : List Stream.Told) → move (r .table) m ds ≡ moveBy m s ds) → Answers r (guarded r s reply) (answerOf m reply (guarded r s reply))
+    → ((ds : List Stream.Told) → move (r .table) m ds ≡ moveBy m s ds)
+    → Answers r (guarded r s reply) (answerOf m reply (guarded r s reply))
 unfolding guarded
 answers r h m c s reply z e = go (ltb (length reply) 124) refl
   where
     out : Outcome Answered → Output
     out a = answering m (a .answer .told) (take (a .answer .«reply_len») (a .buffer))
 
-    go : (b : Bool) → ltb (length reply) 124 ≡ b
-        → let a = pick b (outcome (answeredBy (r .framing) (refused (r .table) 9) 0) reply) (replied (r .framing) s reply) in Answers r a (pick b [] (out a ∷ []))
+    short : Outcome Answered
+    short = outcome (answeredBy (r .framing) (refused (r .table) 9) 0) reply
+
+    go : (b : Bool) → ltb (length reply) 124 ≡ b → let a = pick b short (replied (r .framing) s reply) in
+        Answers r a (pick b [] (out a ∷ []))
     go true q = record { framing = refl; moves = none refl; sized = h }
     go false q =
-        let o : out (replied (r .framing) s reply) ≡ moveBy m s [] .output = rw (reply-sent (s .reply) reply (z .reply) (ltb-false _ _ q) .bytes) in
+        let sent = reply-sent (s .reply) reply (z .reply) (ltb-false _ _ q) .bytes in
+        let o : out (replied (r .framing) s reply) ≡ moveBy m s [] .output = rw sent in
         record { framing = refl; moves = rw o (one (moveBy m s [] .output) [] (rw c) e); sized = z .table }
 
 -- drop replies nothing
@@ -184,7 +205,7 @@ consumed w (Call.done reply) = []
 consumed w (Call.failed code reply) = []
 
 abbrev pub toldBy : World → Call → List Stream.Told
-toldBy w c = stream (modeAfter (w .history)) (consumed w c) .0
+toldBy w c = toldAfter w (consumed w c)
 
 pub record Steps (w : World) (c : Call) : Type 0 where
   pub bytes : bytesOf (step w c .history) ≡ bytesOf (w .history) ++ consumed w c
@@ -200,10 +221,14 @@ module _ (w : World) (ok : Kept w) where
   abbrev r : Receiver
   r = w .receiver
 
+  abbrev t : Table
+  t = w .receiver .table
+
   abbrev h : List Event
   h = w .history
 
-  console-kept : (a : Answered) (h′ : List Event) → bytesOf h′ ≡ bytesOf h ++ [] → a .receiver .framing ≡ r .framing → Sized (a .receiver .table) → Kept (afterCall w a h′)
+  console-kept : (a : Answered) (h′ : List Event) → bytesOf h′ ≡ bytesOf h ++ [] → a .receiver .framing ≡ r .framing
+      → Sized (a .receiver .table) → Kept (afterCall w a h′)
   console-kept a h′ q f z = record { follows = rw (f, modeAfter, q, append-nil (bytesOf h)) (ok .follows); sized = z }
 
   pub steps : (c : Call) → Lent w c → Steps w c
@@ -212,25 +237,27 @@ module _ (w : World) (ok : Kept w) where
       let f = feeds w ok piece carry scratch reply lent in
       record { bytes = refl; moves = f .moves; kept = f .kept }
   steps (Call.allow id reply) lent =
-      let a = answers r (ok .sized) (Move.allow id) refl (allowedOf (r .table) id) reply (allow-sized (r .table) (ok .sized) id) (λ ds. refl) in
+      let a = answers r (ok .sized) (Move.allow id) refl (allowedOf t id) reply (allow-sized t (ok .sized) id) (λ ds. refl) in
       let q = noted-bytes (isRefused (allowOf r id reply .answer .told)) (Event.allowed id) h refl in
       record { bytes = q; moves = a .moves; kept = console-kept (allowOf r id reply .answer) _ q (a .framing) (a .sized) }
   steps (Call.deny id reply) lent =
-      let a = answers r (ok .sized) (Move.deny id) refl (deniedOf (r .table) id) reply (deny-sized (r .table) (ok .sized) id) (λ ds. refl) in
+      let a = answers r (ok .sized) (Move.deny id) refl (deniedOf t id) reply (deny-sized t (ok .sized) id) (λ ds. refl) in
       let q = sym (append-nil (bytesOf h)) in
       record { bytes = q; moves = a .moves; kept = console-kept (denyOf r id reply .answer) h q (a .framing) (a .sized) }
   steps (Call.drop id) lent =
       let q = noted-bytes (isRefused (dropOf r id .told)) (Event.dropped id) h refl in
       record {
         bytes = q;
-        moves = one (answering (Move.drop id) (droppedOf (r .table) id .told) []) [] refl (λ ds. rw (drop-silent (r .table) id));
-        kept = console-kept (dropOf r id) _ q refl (dropped-sized (r .table) (ok .sized) id .table);
+        moves = one (answering (Move.drop id) (droppedOf t id .told) []) [] refl (λ ds. rw (drop-silent t id));
+        kept = console-kept (dropOf r id) _ q refl (dropped-sized t (ok .sized) id .table);
       }
   steps (Call.done reply) lent =
-      let a = answers r (ok .sized) Move.done refl (settleDone (r .table) (r .table .owed)) reply (done-sized (r .table) (ok .sized) (r .table .owed)) (λ ds. refl) in
+      let z = done-sized t (ok .sized) (t .owed) in
+      let a = answers r (ok .sized) Move.done refl (settleDone t (t .owed)) reply z (λ ds. refl) in
       let q = noted-bytes (isRefused (doneOf r reply .answer .told)) (Event.answered true) h refl in
       record { bytes = q; moves = a .moves; kept = console-kept (doneOf r reply .answer) _ q (a .framing) (a .sized) }
   steps (Call.failed code reply) lent =
-      let a = answers r (ok .sized) (Move.failed code) refl (settleFailed (r .table) code (r .table .owed)) reply (failed-sized (r .table) (ok .sized) code (r .table .owed)) (λ ds. refl) in
+      let z = failed-sized t (ok .sized) code (t .owed) in
+      let a = answers r (ok .sized) (Move.failed code) refl (settleFailed t code (t .owed)) reply z (λ ds. refl) in
       let q = noted-bytes (isRefused (failedOf r code reply .answer .told)) (Event.answered false) h refl in
       record { bytes = q; moves = a .moves; kept = console-kept (failedOf r code reply .answer) _ q (a .framing) (a .sized) }

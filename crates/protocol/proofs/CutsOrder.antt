@@ -1,8 +1,8 @@
 -- The console's calls, each with the number of reports before it, and the number of all reports tell in which order all of them came.
 use Prim.Native.Nat.{ℕ, suc, _≤_}
-use mathlib.Core.Path.{_≡_, refl, sym, ap, _∙_}
+use mathlib.Core.Path.{_≡_, refl, sym, ap}
 use mathlib.Core.Bool.{Bool, true, false}
-use mathlib.Core.List.{List, [], _∷_, _++_}
+use mathlib.Core.List.{List, [], _∷_}
 use native.Mathlib.Omega.{arith}
 use Rattle.octets.specs.Choice.{pick}
 use Rattle.protocol.specs.Cuts.{Move, isReportMove, Output, consoleCalls}
@@ -15,6 +15,10 @@ moves (o ∷ os) = o .move ∷ moves os
 abbrev pub reports : List Output → ℕ
 reports [] = 0
 reports (o ∷ os) = pick (isReportMove (o .move)) (suc (reports os)) (reports os)
+
+-- the calls of a move and of those after it, given whether it is a report
+abbrev callsBy : Bool → ℕ → Move → List Output → List (ℕ × Move)
+callsBy b n m os = pick b (consoleCalls (suc n) os) ((n, m) ∷ consoleCalls n os)
 
 -- ---- the first call comes after n reports or more
 abbrev From : ℕ → List (ℕ × Move) → Type 0
@@ -29,7 +33,7 @@ from : (n : ℕ) (os : List Output) → From n (consoleCalls n os)
 from n [] = tt
 from n (o ∷ os) = go (isReportMove (o .move)) (from (suc n) os)
   where
-    go : (b : Bool) → From (suc n) (consoleCalls (suc n) os) → From n (pick b (consoleCalls (suc n) os) ((n, o .move) ∷ consoleCalls n os))
+    go : (b : Bool) → From (suc n) (consoleCalls (suc n) os) → From n (callsBy b n (o .move) os)
     go true h = from-less n (consoleCalls (suc n) os) h
     go false h = omega arith
 
@@ -51,11 +55,12 @@ nothing-more : {A : Type 0} (n : ℕ) (o : Output) (os : List Output) → report
 nothing-more {A} n o os r c = go (isReportMove (o .move)) refl r c
   where
     go : (b : Bool) → isReportMove (o .move) ≡ b → pick b (suc (reports os)) (reports os) ≡ 0
-        → pick b (consoleCalls (suc n) os) ((n, o .move) ∷ consoleCalls n os) ≡ [] → A
+        → callsBy b n (o .move) os ≡ [] → A
     go true e r c = absurd (omega arith)
     go false e r c = let z : _≡_ {A = ℕ} 0 1 = cc in absurd (omega arith)
 
-pub same-order : (n : ℕ) (os₁ os₂ : List Output) → reports os₁ ≡ reports os₂ → consoleCalls n os₁ ≡ consoleCalls n os₂ → moves os₁ ≡ moves os₂
+pub same-order : (n : ℕ) (os₁ os₂ : List Output) → reports os₁ ≡ reports os₂ → consoleCalls n os₁ ≡ consoleCalls n os₂
+    → moves os₁ ≡ moves os₂
 same-order n [] [] r c = refl
 same-order n [] (o ∷ os) r c = nothing-more n o os (sym r) (sym c)
 same-order n (o ∷ os) [] r c = nothing-more n o os r c
@@ -64,7 +69,7 @@ same-order n (o₁ ∷ os₁) (o₂ ∷ os₂) r c =
   where
     go : (b₁ : Bool) → isReportMove (o₁ .move) ≡ b₁ → (b₂ : Bool) → isReportMove (o₂ .move) ≡ b₂
         → pick b₁ (suc (reports os₁)) (reports os₁) ≡ pick b₂ (suc (reports os₂)) (reports os₂)
-        → pick b₁ (consoleCalls (suc n) os₁) ((n, o₁ .move) ∷ consoleCalls n os₁) ≡ pick b₂ (consoleCalls (suc n) os₂) ((n, o₂ .move) ∷ consoleCalls n os₂)
+        → callsBy b₁ n (o₁ .move) os₁ ≡ callsBy b₂ n (o₂ .move) os₂
         → ((k : ℕ) → reports os₁ ≡ reports os₂ → consoleCalls k os₁ ≡ consoleCalls k os₂ → moves os₁ ≡ moves os₂)
         → o₁ .move ∷ moves os₁ ≡ o₂ .move ∷ moves os₂
     go true e true f r c more = rw (report-is (o₁ .move) e, report-is (o₂ .move) f, more (suc n) (omega arith) c)

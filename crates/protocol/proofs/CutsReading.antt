@@ -2,26 +2,24 @@
 use Prim.Native.Nat.{ℕ, _+_, _≤_}
 use mathlib.Core.Path.{_≡_, refl, sym, ap, _∙_}
 use mathlib.Core.Bool.{Bool, true, false}
-use mathlib.Core.List.{List, []}
-use lib.ListN.{length, take, drop, getD, set}
-use lib.Dec.{leb}
+use mathlib.Core.List.{List}
+use lib.ListN.{length, getD, set}
 use borrow.Author.Tests.{le-ltb}
 use Rattle.octets.specs.Choice.{pick}
-use Rattle.octets.specs.Slices.{partOf}
 use Rattle.octets.specs.Outcome.{Outcome, outcome}
 use Rattle.command.specs.Keys.{keys, Kind, kindAt}
 use Rattle.command.specs.Values.{Value, Got, valueRead}
 use Rattle.command.specs.Fields.{Turn, textRead}
 use Rattle.command.specs.Meaning.{Meaning, meaningOf, bytesIn}
-use Rattle.command.specs.Slots.{free, slotsOf, bytesAt, valuesOf}
+use Rattle.command.specs.Slots.{free, slotsOf, valuesOf}
 use Rattle.command.specs.Read.{Reader, storedFor, slotFor, keptBy, kept, begun, Answer, finished, readOf, meaningIn}
-use Rattle.command.specs.declared.Place.{Place}
 use Rattle.command.specs.declared.Slot.{Slot}
 use Rattle.command.specs.declared.Command.{Command}
 use Rattle.command.proofs.SimulationFields.{Agree, on, off, text-agree}
 use Rattle.command.proofs.Simulation.{read-means}
 use Rattle.protocol.specs.Files.{stringIn}
 use Rattle.protocol.proofs.Refusals.{meaning-refusal}
+use Rattle.protocol.proofs.Means.{string-means}
 
 -- ---- the answer
 -- two readers with different scratches
@@ -38,35 +36,33 @@ same-by k n at (Got.refused x) r = off r
 
 same-kept : (n at : ℕ) (v : List ℕ) {s s′ : Reader} → Same s s′ → Agree Same (kept n at v s) (kept n at v s′)
 unfolding kept
-same-kept n at v {s} {s′} r = go (getD (s .slots) n free .stood) (getD (s′ .slots) n free .stood) (ap (λ (l : List Slot). getD l n free .stood) (r .slots))
+same-kept n at v {s} {s′} r = go (stood (s .slots)) (stood (s′ .slots)) (ap stood (r .slots))
   where
-    go : (b b′ : Bool) → b ≡ b′ → Agree Same (pick b (Turn.off 5 s) (keptBy (kindAt keys n) n at s (valueRead (kindAt keys n) v)))
-        (pick b′ (Turn.off 5 s′) (keptBy (kindAt keys n) n at s′ (valueRead (kindAt keys n) v)))
+    stood : List Slot → Bool
+    stood l = getD l n free .stood
+
+    turn : Bool → Reader → Turn Reader
+    turn b s = pick b (Turn.off 5 s) (keptBy (kindAt keys n) n at s (valueRead (kindAt keys n) v))
+
+    go : (b b′ : Bool) → b ≡ b′ → Agree Same (turn b s) (turn b′ s′)
     go true b′ e = rw (← e) (off r)
     go false b′ e = rw (← e) (same-by (kindAt keys n) n at (valueRead (kindAt keys n) v) r)
 
 same-read : (t scratch scratch′ : List ℕ) → Agree Same (textRead kept t (begun scratch)) (textRead kept t (begun scratch′))
 same-read t scratch scratch′ =
-    text-agree t {R = λ (at : ℕ). Same} (record { later = λ h r. r; steps = λ n from at v h l i a r. same-kept n at v r }) (record { slots = refl; used = refl })
+    text-agree t {R = λ (at : ℕ). Same} (record { later = λ h r. r; steps = λ n from at v h l i a r. same-kept n at v r })
+    (record { slots = refl; used = refl })
 
 finished-same : {x y : Turn Reader} → Agree Same x y → finished x .answer ≡ finished y .answer
 finished-same (on r) = rw (r .slots)
 finished-same (off r) = refl
 
-read-same : (t scratch scratch′ : List ℕ) → 6144 ≤ length scratch → 6144 ≤ length scratch′ → readOf t scratch .answer ≡ readOf t scratch′ .answer
+read-same : (t scratch scratch′ : List ℕ) → 6144 ≤ length scratch → 6144 ≤ length scratch′
+    → readOf t scratch .answer ≡ readOf t scratch′ .answer
 unfolding readOf
 read-same t scratch scratch′ h h′ = rw (le-ltb _ _ h, le-ltb _ _ h′) (finished-same (same-read t scratch scratch′))
 
 -- ---- the command
--- a string at a place, as the rule and as the meaning take it
-string-value : (l : List ℕ) (p : Place) → stringIn l p ≡ bytesIn (bytesAt l p)
-unfolding partOf bytesAt
-string-value l p = go (leb (p .start + p .len) (length l))
-  where
-    go : (b : Bool) → pick b (take (p .len) (drop (p .start) l)) [] ≡ bytesIn (pick b (Value.bytes (take (p .len) (drop (p .start) l))) Value.outside)
-    go true = refl
-    go false = refl
-
 -- of one command and two scratches: its values are the same, and so are its name and its payload
 pub record SameCommand (t : List ℕ) (c : Command) (after after′ : List ℕ) : Type 0 where
   pub values : valuesOf c t after ≡ valuesOf c t after′
@@ -76,20 +72,25 @@ pub record SameCommand (t : List ℕ) (c : Command) (after after′ : List ℕ) 
 same-command : (t after after′ : List ℕ) (c : Command) → valuesOf c t after ≡ valuesOf c t after′ → SameCommand t c after after′
 unfolding valuesOf slotsOf
 same-command t after after′ c e =
+    let value : ℕ → List Value → List ℕ = λ n v. bytesIn (getD v n Value.outside) in
     record {
       values = e;
-      name = string-value after (c .name) ∙ ap (λ (v : List Value). bytesIn (getD v 11 Value.outside)) e ∙ sym (string-value after′ (c .name));
-      payload = string-value after (c .payload) ∙ ap (λ (v : List Value). bytesIn (getD v 14 Value.outside)) e ∙ sym (string-value after′ (c .payload));
+      name = string-means after (c .name) ∙ ap (value 11) e ∙ sym (string-means after′ (c .name));
+      payload = string-means after (c .payload) ∙ ap (value 14) e ∙ sym (string-means after′ (c .payload));
     }
 
 -- two readings of one text: the same refusal, one of 1 to 8, or the same command
 pub data SameReading (t : List ℕ) : Outcome Answer → Outcome Answer → Type 0 where
-  refused : (n : ℕ) (after after′ : List ℕ) → n ≤ 8 → SameReading t (outcome (Answer.refused n) after) (outcome (Answer.refused n) after′)
-  read : (c : Command) (after after′ : List ℕ) → SameCommand t c after after′ → SameReading t (outcome (Answer.read c) after) (outcome (Answer.read c) after′)
+  refused : (n : ℕ) (after after′ : List ℕ) → n ≤ 8
+      → SameReading t (outcome (Answer.refused n) after) (outcome (Answer.refused n) after′)
+  read : (c : Command) (after after′ : List ℕ) → SameCommand t c after after′
+      → SameReading t (outcome (Answer.read c) after) (outcome (Answer.read c) after′)
 
-pub same-reading : (t scratch scratch′ : List ℕ) → 6144 ≤ length scratch → 6144 ≤ length scratch′ → SameReading t (readOf t scratch) (readOf t scratch′)
+pub same-reading : (t scratch scratch′ : List ℕ) → 6144 ≤ length scratch → 6144 ≤ length scratch′
+    → SameReading t (readOf t scratch) (readOf t scratch′)
 same-reading t scratch scratch′ h h′ =
-    go (readOf t scratch .answer) (readOf t scratch′ .answer) (read-same t scratch scratch′ h h′) (read-means t scratch h) (read-means t scratch′ h′)
+    go (readOf t scratch .answer) (readOf t scratch′ .answer) (read-same t scratch scratch′ h h′)
+    (read-means t scratch h) (read-means t scratch′ h′)
   where
     after : List ℕ
     after = readOf t scratch .buffer

@@ -76,5 +76,6 @@ takes m = pick (isReportMove m) 1 0
 -- from the table t to the table t′: no move, and nothing told; or one move that gives an output, and takes what is told
 pub data Moves (t t′ : Table) : List Output → List Stream.Told → Type 0 where
   none : t ≡ t′ → Moves t t′ [] []
-  one : (o : Output) (ds : List Stream.Told) → length ds ≡ takes (o .move) → ((rest : List Stream.Told) → move t (o .move) (ds ++ rest) ≡ moved o t′ rest)
+  one : (o : Output) (ds : List Stream.Told) → length ds ≡ takes (o .move)
+      → ((rest : List Stream.Told) → move t (o .move) (ds ++ rest) ≡ moved o t′ rest)
       → Moves t t′ (o ∷ []) ds

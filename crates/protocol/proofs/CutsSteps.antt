@@ -47,7 +47,9 @@ module _ (t : Table) (c : Command) (text scratch scratch′ : List ℕ) (e : str
   file-same : (i : ℕ) → fileOf t i c text scratch ≡ fileOf t i c text scratch′
   unfolding fileOf
   file-same i =
-      ap (pick (eqb (length (fileIdIn c text)) 0) (fileStatus t (sessionAt t i) c text Status.Einval)) (known-same i (findFile (sessionAt t i) (fileIdIn c text)))
+      let f = fileIdIn c text in
+      let s = sessionAt t i in
+      ap (pick (eqb (length f) 0) (fileStatus t s c text Status.Einval)) (known-same i (findFile s f))
 
   present-same : (i : ℕ) (k : Kind) → presentResult t i c text scratch k ≡ presentResult t i c text scratch′ k
   present-same i Kind.Ignore = refl

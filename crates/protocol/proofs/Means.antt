@@ -1,4 +1,5 @@
--- A command as it is kept, with its text and the scratch, and the command of the history that it is: what the session rule uses of them agrees.
+-- A command as it is kept, with its text and the scratch, and the command of the history that it is: what the session rule uses of them
+-- agrees.
 use Prim.Native.Nat.{ℕ, _+_, _≤_}
 use mathlib.Core.Path.{_≡_, refl, sym, ap, _∙_}
 use mathlib.Core.Bool.{Bool, true, false}
@@ -38,11 +39,14 @@ pub acts-as : {c : PlacedCommand} {text scratch : List ℕ} {d : List Value} →
 acts-as means a e = means .action ∙ ap Slots.actionCode e
 
 -- a string at a place, as the rule and as the meaning take it
-string-means : (l : List ℕ) (p : Place) → stringIn l p ≡ bytesIn (bytesAt l p)
+pub string-means : (l : List ℕ) (p : Place) → stringIn l p ≡ bytesIn (bytesAt l p)
 unfolding partOf bytesAt
 string-means l p = go (leb (p .start + p .len) (length l))
   where
-    go : (b : Bool) → pick b (take (p .len) (drop (p .start) l)) [] ≡ bytesIn (pick b (Value.bytes (take (p .len) (drop (p .start) l))) Value.outside)
+    part : List ℕ
+    part = take (p .len) (drop (p .start) l)
+
+    go : (b : Bool) → pick b part [] ≡ bytesIn (pick b (Value.bytes part) Value.outside)
     go true = refl
     go false = refl
 
@@ -50,8 +54,8 @@ string-length : (l : List ℕ) (p : Place) → p .start + p .len ≤ length l �
 unfolding partOf
 string-length l p h = rw (le-leb _ _ h) (omega (arith, length-take (p .len) (drop (p .start) l), length-drop (p .start) l))
 
-values-mean : (c : PlacedCommand) (text scratch : List ℕ) → Named (valuesOf c text scratch) → c .payload .start + c .payload .len ≤ length scratch
-    → Means c text scratch (valuesOf c text scratch)
+values-mean : (c : PlacedCommand) (text scratch : List ℕ) → Named (valuesOf c text scratch)
+    → c .payload .start + c .payload .len ≤ length scratch → Means c text scratch (valuesOf c text scratch)
 unfolding valuesOf slotsOf
 values-mean c text scratch n h =
     record {
