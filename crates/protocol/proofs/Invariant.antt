@@ -67,10 +67,14 @@ isPast FileState.Failed = true
 abbrev pub fileKey : Session → List ℕ → Key
 fileKey s f = record { id = idOf s; file = f }
 
+-- no start of the file stands
+abbrev pub NoneStands : List Mark → Key → Type 0
+NoneStands m k = startStands k (since k m) ≡ false
+
 -- a file id that no record past its opening has was not started since the session was allowed
 abbrev pub Unstarted : List Mark → Session → Type 0
 Unstarted m s =
-    (f : List ℕ) → ((j : ℕ) → isPast (fileAt s j .state) ≡ true → fileIdOf (fileAt s j) ≡ f → ⊥) → startStands (fileKey s f) (since (fileKey s f) m) ≡ false
+    (f : List ℕ) → ((j : ℕ) → isPast (fileAt s j .state) ≡ true → fileIdOf (fileAt s j) ≡ f → ⊥) → NoneStands m (fileKey s f)
 
 -- an open one: its files have different ids, and each that is started is as the history says
 pub record OpenOK (owed : Bool) (m : List Mark) (s : Session) : Type 0 where

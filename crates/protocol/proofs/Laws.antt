@@ -132,7 +132,8 @@ set-unique used key d l i a h un new j j′ p q r = go (ℕ-discrete j i) (ℕ-d
 
 -- the others than one with the id have other ids
 pub unique-other : {A : Type 0} (used : A → Bool) (key : A → List ℕ) (d : A) (l : List A) (i : ℕ) (k : List ℕ) → Unique used key d l
-    → used (getD l i d) ≡ true → key (getD l i d) ≡ k → (j : ℕ) → (j ≡ i → ⊥) → used (getD l j d) ≡ true → equals (key (getD l j d)) k ≡ false
+    → used (getD l i d) ≡ true → key (getD l i d) ≡ k → (j : ℕ) → (j ≡ i → ⊥)
+    → used (getD l j d) ≡ true → equals (key (getD l j d)) k ≡ false
 unique-other used key d l i k un u e j n v = equals-other (key (getD l j d)) k (λ q. n (un j i v u (q ∙ sym e)))
 
 -- of as many equal members, and of what stands past their end

@@ -12,12 +12,13 @@ use Rattle.command.specs.Meaning.{idOf, fileIdOf}
 use Rattle.protocol.specs.Table.{fileAt}
 use Rattle.protocol.specs.Table as Table
 use Rattle.protocol.specs.History.{Command, Heard, Mark, hearingMark, Question, lastAsk}
-use Rattle.protocol.specs.Stretches.{Key, isFor, isData, isEnd, isRegular, isFile, startsFor, partFor, contentFor, Stretch, startAt, longer, onward, since, parts, contents, allows, allowedIn, startStands}
+use Rattle.protocol.specs.Stretches.{Key, isFor, isData, isEnd, isRegular, isFile, startsFor, partFor, contentFor}
+use Rattle.protocol.specs.Stretches.{Stretch, startAt, longer, onward, since, parts, contents, allows, allowedIn, startStands}
 use Rattle.protocol.specs.declared.FileState.the-variants as FileState
 use Rattle.protocol.specs.declared.SessionState.the-variants as SessionState
 use Rattle.protocol.specs.declared.Session.{Session}
 use Rattle.protocol.proofs.Laws.{no-way, both-false}
-use Rattle.protocol.proofs.Invariant.{keyOf, fileKey, FileOK, commitsFor, Holds, standing, committing, SessionOK}
+use Rattle.protocol.proofs.Invariant.{keyOf, fileKey, FileOK, NoneStands, commitsFor, Holds, standing, committing, SessionOK}
 
 -- ---- of which commands and asks a file has nothing
 -- what an ask, if one was heard, hands over for the file of the command read
@@ -109,15 +110,15 @@ module _ {m : List Mark} {k : Key} {n : ℕ} where
       }
 
 -- an answer to an ask for another file
-pub file-answered : {m : List Mark} {k : Key} {n : ℕ} (d : Command) (a : Heard) (v : Bool) → lastAsk m ≡ Question.asks d a → isFor k d ≡ false
-    → FileOK true m k n → FileOK false (Mark.answer v (lastAsk m) ∷ m) k n
+pub file-answered : {m : List Mark} {k : Key} {n : ℕ} (d : Command) (a : Heard) (v : Bool) → lastAsk m ≡ Question.asks d a
+    → isFor k d ≡ false → FileOK true m k n → FileOK false (Mark.answer v (lastAsk m) ∷ m) k n
 file-answered {m} {k} {n} d a true ask e f =
     rw (part-other k d a e, add-zero n) at (file-done (Question.asks d a) ask (starts-other k d a e) f)
 file-answered {m} {k} {n} d a false ask e f = file-failed (Question.asks d a) ask (part-other k d a e) f
 
 -- the open of a regular file answered done: it starts with nothing
-pub file-starts : {m : List Mark} {k : Key} (d : Command) (a : Heard) → lastAsk m ≡ Question.asks d a → startsFor k (Question.asks d a) ≡ true
-    → FileOK false (Mark.answer true (lastAsk m) ∷ m) k 0
+pub file-starts : {m : List Mark} {k : Key} (d : Command) (a : Heard) → lastAsk m ≡ Question.asks d a
+    → startsFor k (Question.asks d a) ≡ true → FileOK false (Mark.answer true (lastAsk m) ∷ m) k 0
 file-starts d a ask e = record { stretch = record { command = d; marks = [] }; started = rw (ask, e); joined = refl; counted = refl }
 
 -- ---- a file of which no start stands
@@ -134,25 +135,24 @@ pub none-allowed : (k : Key) (i : List ℕ) (s : Option Stretch) → equals (k .
 none-allowed k i Option.none e = refl
 none-allowed k i (Option.some s) e = rw e
 
-pub none-read : (m : List Mark) (k : Key) (d : Command) (x : Option Heard) → startStands k (since k m) ≡ false
-    → startStands k (since k (hearingMark x (Mark.read d ∷ m))) ≡ false
+pub none-read : (m : List Mark) (k : Key) (d : Command) (x : Option Heard) → NoneStands m k
+    → NoneStands (hearingMark x (Mark.read d ∷ m)) k
 none-read m k d Option.none e = none-onward k (Mark.read d) (since k m) e
 none-read m k d (Option.some a) e =
     none-onward k (Mark.asked a) (onward (Mark.read d) (since k m)) (none-onward k (Mark.read d) (since k m) e)
 
-pub none-noted : (m : List Mark) (k : Key) (i : List ℕ) → startStands k (since k m) ≡ false
-    → (startStands k (since k (Mark.allow i ∷ m)) ≡ false) × (startStands k (since k (Mark.drop i ∷ m)) ≡ false)
+pub none-noted : (m : List Mark) (k : Key) (i : List ℕ) → NoneStands m k → NoneStands (Mark.allow i ∷ m) k × NoneStands (Mark.drop i ∷ m) k
 none-noted m k i e = (none-onward k (Mark.allow i) (since k m) e, none-onward k (Mark.drop i) (since k m) e)
 
 -- an answer to an ask for another file
 pub none-answered : (m : List Mark) (k : Key) (d : Command) (a : Heard) (v : Bool) → lastAsk m ≡ Question.asks d a → isFor k d ≡ false
-    → startStands k (since k m) ≡ false → startStands k (since k (Mark.answer v (lastAsk m) ∷ m)) ≡ false
+    → NoneStands m k → NoneStands (Mark.answer v (lastAsk m) ∷ m) k
 none-answered m k d a false ask e f = none-onward k (Mark.answer false (lastAsk m)) (since k m) f
 none-answered m k d a true ask e f = rw (ask, starts-other k d a e) (none-onward k (Mark.answer true (Question.asks d a)) (since k m) f)
 
 -- ---- a session
-pub holds-read : {i : List ℕ} {m : List Mark} (d : Command) (x : Option Heard) → both (isEnd d) (equals i (idOf d)) ≡ false → Holds false i m
-    → Holds (isHeard x) i (hearingMark x (Mark.read d ∷ m))
+pub holds-read : {i : List ℕ} {m : List Mark} (d : Command) (x : Option Heard) → both (isEnd d) (equals i (idOf d)) ≡ false
+    → Holds false i m → Holds (isHeard x) i (hearingMark x (Mark.read d ∷ m))
 holds-read d Option.none e (standing h) = standing (rw e h)
 holds-read d (Option.some a) e (standing h) = standing (rw e h)
 holds-read d x e (committing f g) = no-way (sym f)
@@ -163,30 +163,48 @@ holds-answered q v ask e (standing h) = standing h
 holds-answered q v ask e (committing f g) = no-way (sym (rw ask at g) ∙ e)
 
 -- ---- what a session keeps, if it goes on standing and its started files go on
-pub session-map : {b b′ : Bool} {m m′ : List Mark} {s : Session} → (s .state ≡ SessionState.Open → Holds b (Table.idOf s) m → Holds b′ (Table.idOf s) m′)
+pub session-map : {b b′ : Bool} {m m′ : List Mark} {s : Session}
+    → (s .state ≡ SessionState.Open → Holds b (Table.idOf s) m → Holds b′ (Table.idOf s) m′)
     → (s .state ≡ SessionState.Open → (j : ℕ) → fileAt s j .state ≡ FileState.Started
     → FileOK b m (keyOf s (fileAt s j)) (fileAt s j .count) → FileOK b′ m′ (keyOf s (fileAt s j)) (fileAt s j .count))
-    → (s .state ≡ SessionState.Open → (f : List ℕ) → startStands (fileKey s f) (since (fileKey s f) m) ≡ false → startStands (fileKey s f) (since (fileKey s f) m′) ≡ false)
+    → (s .state ≡ SessionState.Open → (f : List ℕ) → NoneStands m (fileKey s f) → NoneStands m′ (fileKey s f))
     → SessionOK b m s → SessionOK b′ m′ s
 session-map h f g o =
     record {
       named = o .named;
       shut = o .shut;
       opened = λ e. let p = o .opened e in
-          record { stand = h e (p .stand); alone = p .alone; named = p .named; each = λ j u. f e j u (p .each j u); unstarted = λ n u. g e n (p .unstarted n u) };
+          record {
+            stand = h e (p .stand);
+            alone = p .alone;
+            named = p .named;
+            each = λ j u. f e j u (p .each j u);
+            unstarted = λ n u. g e n (p .unstarted n u);
+          };
     }
 
--- a command read for another session
-pub session-read : (d : Command) (m : List Mark) (x : Option Heard) (s : Session) → (s .state ≡ SessionState.Open → equals (Table.idOf s) (idOf d) ≡ false)
+-- a command read, whose content is what is then handed over
+pub session-heard : (d : Command) (m : List Mark) (x : Option Heard) (s : Session)
+    → (s .state ≡ SessionState.Open → Holds false (Table.idOf s) m → Holds (isHeard x) (Table.idOf s) (hearingMark x (Mark.read d ∷ m)))
+    → (s .state ≡ SessionState.Open → (j : ℕ) → fileAt s j .state ≡ FileState.Started
+    → let k = keyOf s (fileAt s j) in contentFor k d ≡ handed k d x)
+    → SessionOK false m s → SessionOK (isHeard x) (hearingMark x (Mark.read d ∷ m)) s
+session-heard d m x s h f = session-map h (λ o j g. file-read d x (f o j g)) (λ _ n. none-read m (fileKey s n) d x)
+
+-- one for another session
+pub session-read : (d : Command) (m : List Mark) (x : Option Heard) (s : Session)
+    → (s .state ≡ SessionState.Open → equals (Table.idOf s) (idOf d) ≡ false)
     → SessionOK false m s → SessionOK (isHeard x) (hearingMark x (Mark.read d ∷ m)) s
 session-read d m x s other =
-    session-map (λ o. holds-read d x (rw (other o) (both-false (isEnd d))))
-    (λ o j _. let k = keyOf s (fileAt s j) in let e = id-other k d (other o) in file-read d x (content-other k d e ∙ sym (handed-other k d x e)))
-    (λ _ f. none-read m (fileKey s f) d x)
+    session-heard d m x s (λ o. holds-read d x (rw (other o) (both-false (isEnd d))))
+    (λ o j _. let k = keyOf s (fileAt s j) in
+    let e = id-other k d (other o) in
+    content-other k d e ∙ sym (handed-other k d x e))
 
 -- an answer to an ask for another session
 pub session-answered : {m : List Mark} (d : Command) (a : Heard) (v : Bool) → lastAsk m ≡ Question.asks d a → (s : Session)
-    → (s .state ≡ SessionState.Open → equals (Table.idOf s) (idOf d) ≡ false) → SessionOK true m s → SessionOK false (Mark.answer v (lastAsk m) ∷ m) s
+    → (s .state ≡ SessionState.Open → equals (Table.idOf s) (idOf d) ≡ false)
+    → SessionOK true m s → SessionOK false (Mark.answer v (lastAsk m) ∷ m) s
 session-answered {m} d a v ask s other =
     session-map (λ o. holds-answered (Question.asks d a) v ask (commits-other (Table.idOf s) d a (other o)))
     (λ o j _. file-answered d a v ask (id-other (keyOf s (fileAt s j)) d (other o)))

@@ -32,8 +32,8 @@ use Rattle.protocol.specs.declared.Stepped.{Stepped}
 use Rattle.protocol.specs.declared.Found.the-variants as Found
 use Rattle.protocol.proofs.Laws.{no-way, found-at, unique-other}
 use Rattle.protocol.proofs.Means.{Means}
-use Rattle.protocol.proofs.Invariant.{keyOf, fileKey, Holds, sessionUsed, owing, About, TableOK}
-use Rattle.protocol.proofs.Marks.{id-other, file-other, content-other, content-none, holds-read, file-read, none-read, session-map, session-read}
+use Rattle.protocol.proofs.Invariant.{keyOf, Holds, sessionUsed, owing, About, TableOK}
+use Rattle.protocol.proofs.Marks.{id-other, file-other, content-other, content-none, holds-read, session-heard, session-read}
 use Rattle.protocol.proofs.Done.{NoneDone}
 use Rattle.protocol.proofs.Puts.{table, free-files, drop-session, none-same, none-free}
 
@@ -97,7 +97,7 @@ module _ {ss : List Session} {m : List Mark} {d : Command} (ok : TableOK (idle s
   still h f =
       record {
         alone = ok .alone;
-        each = λ i. session-map (λ o. holds-read d Option.none (h i o)) (λ o j g. file-read d Option.none (f i j o g)) (λ _ f. none-read m (fileKey (sessionIn ss i) f) d Option.none) (ok .each i);
+        each = λ i. session-heard d m Option.none (sessionIn ss i) (λ o. holds-read d Option.none (h i o)) (λ o j. f i j o) (ok .each i);
         owed = λ e. no-way (sym e);
         told = ok .told;
       }
@@ -152,8 +152,8 @@ module _ {ss : List Session} {m : List Mark} {d : Command} (ok : TableOK (idle s
             content-other k d (id-other k d (others n q o))
 
     -- an ask is told, and the table stays as it is but for what is owed
-    pub kept-asked : {scratch : List ℕ} (w : Told) (r : Reply) (a : Heard) (o : Owed) → hearing w scratch ≡ Option.some a → isUnfed w ≡ false
-        → isOwed o ≡ true → owing o ≡ i → sessionIn ss i .state ≡ SessionState.Open → About (sessionIn ss i) d a o
+    pub kept-asked : {scratch : List ℕ} (w : Told) (r : Reply) (a : Heard) (o : Owed) → hearing w scratch ≡ Option.some a
+        → isUnfed w ≡ false → isOwed o ≡ true → owing o ≡ i → sessionIn ss i .state ≡ SessionState.Open → About (sessionIn ss i) d a o
         → ((n : ℕ) → sessionIn ss n .state ≡ SessionState.Open → Holds true (idOf (sessionIn ss n)) (Mark.asked a ∷ Mark.read d ∷ m))
         → ((k : Key) → contentFor k d ≡ partFor k (Question.asks d a))
         → StandsFor (Option.some d) a (Mark.read d ∷ m)
@@ -163,7 +163,7 @@ module _ {ss : List Session} {m : List Mark} {d : Command} (ok : TableOK (idle s
           ok =
               rw hears (record {
                 alone = ok .alone;
-                each = λ n. rw b (session-map (λ q _. holds n q) (λ q j _. file-read d (Option.some a) (content (keyOf (sessionIn ss n) (fileAt (sessionIn ss n) j)))) (λ _ f. none-read m (fileKey (sessionIn ss n) f) d (Option.some a)) (ok .each n));
+                each = λ n. rw b (session-heard d m (Option.some a) (sessionIn ss n) (λ q _. holds n q) (λ q j _. content _) (ok .each n));
                 owed =
                     λ _.
                     record {

@@ -1,5 +1,5 @@
--- Stores into the table: a session put at its place, and a file of it, keep the invariant where their own parts hold; and no record turns done
--- by a store that puts no done one.
+-- Stores into the table: a session put at its place, and a file of it, keep the invariant where their own parts hold; and no record turns
+-- done by a store that puts no done one.
 use Prim.Native.Nat.{ℕ, _<_}
 use mathlib.Core.Path.{_≡_, refl, sym, _∙_}
 use mathlib.Core.Bool.{Bool, true, false}
@@ -14,7 +14,7 @@ use Rattle.command.specs.Meaning as Meaning
 use Rattle.protocol.specs.Table.{absentSession, noFile, noSession, sessionAt, fileAt, idOf, fileIdOf, putFile}
 use Rattle.protocol.specs.Calls.{isOwed}
 use Rattle.protocol.specs.History.{Command, Heard, Mark, Question, lastAsk}
-use Rattle.protocol.specs.Stretches.{Key, since, startStands, AllStand}
+use Rattle.protocol.specs.Stretches.{Key, AllStand}
 use Rattle.protocol.specs.Machine.{isRefused}
 use Rattle.protocol.specs.Claim.{Closes}
 use Rattle.protocol.specs.Promises.{IsId}
@@ -29,7 +29,8 @@ use Rattle.protocol.specs.declared.Table.{Table}
 use Rattle.protocol.specs.declared.Stepped.{Stepped}
 use Rattle.protocol.proofs.Done.{stateAt, WasDone, NoneDone, none-le}
 use Rattle.protocol.proofs.Laws.{no-way, set-each, set-any, set-unique, replicate-each}
-use Rattle.protocol.proofs.Invariant.{keyOf, isPast, fileKey, FileOK, Holds, fileUsed, OpenOK, sessionUsed, SessionOK, owing, About, Asking, TableOK}
+use Rattle.protocol.proofs.Invariant.{keyOf, isPast, fileKey, FileOK, NoneStands, Holds, fileUsed, OpenOK}
+use Rattle.protocol.proofs.Invariant.{sessionUsed, SessionOK, owing, About, Asking, TableOK}
 
 -- the table with other sessions, and with something owed
 abbrev pub table : List Session → Owed → Table
@@ -38,6 +39,13 @@ table ss o = record { sessions = ss; owed = o }
 -- the marks after a console call's step, which is refused or adds the mark x
 abbrev pub notedMarks : List Mark → Mark → Stepped → List Mark
 notedMarks m x out = pick (isRefused (out .told)) m (x ∷ m)
+
+-- states that differ
+pub absent-open : SessionState.Absent ≡ SessionState.Open → ⊥
+absent-open e = let z : _≡_ {A = ℕ} 0 1 = cc in omega arith
+
+pub free-done : {A : Type 0} → FileState.Free ≡ FileState.Done → A
+free-done e = let z : _≡_ {A = ℕ} 0 1 = cc in absurd (omega arith)
 
 -- ---- a session
 pub put-session : (t : Table) {m m′ : List Mark} (i : ℕ) (s : Session) (o : Owed) → TableOK t m → i < length (t .sessions)
@@ -64,8 +72,7 @@ pub free-files : (j : ℕ) → fileAt absentSession j .state ≡ FileState.Free
 free-files j = replicate-each (λ (f : FileRecord). f .state ≡ FileState.Free) refl refl 32 j
 
 pub absent-ok : {b : Bool} {m : List Mark} → SessionOK b m absentSession
-absent-ok =
-    shut-session absentSession (λ (e : SessionState.Absent ≡ SessionState.Open). let z : _≡_ {A = ℕ} 0 1 = cc in omega arith) (λ e. no-way (sym e)) free-files
+absent-ok = shut-session absentSession absent-open (λ e. no-way (sym e)) free-files
 
 -- a session dropped
 pub drop-session : (t : Table) {m m′ : List Mark} (i : ℕ) (o : Owed) → TableOK t m → i < length (t .sessions)
@@ -83,18 +90,20 @@ pub put-file : {b b′ : Bool} {m m′ : List Mark} (s : Session) (j : ℕ) (f :
     → ((n : ℕ) → (n ≡ j → ⊥) → fileAt s n .state ≡ FileState.Started → FileOK b′ m′ (keyOf s (fileAt s n)) (fileAt s n .count))
     → (f .state ≡ FileState.Started → FileOK b′ m′ (keyOf s f) (f .count))
     → (isPast (fileAt s j .state) ≡ true → (isPast (f .state) ≡ true) × (fileIdOf f ≡ fileIdOf (fileAt s j)))
-    → ((g : List ℕ) → (isPast (f .state) ≡ true → fileIdOf f ≡ g → ⊥) → startStands (fileKey s g) (since (fileKey s g) m) ≡ false
-    → startStands (fileKey s g) (since (fileKey s g) m′) ≡ false)
+    → ((g : List ℕ) → (isPast (f .state) ≡ true → fileIdOf f ≡ g → ⊥) → NoneStands m (fileKey s g) → NoneStands m′ (fileKey s g))
     → OpenOK b′ m′ (putFile s j f)
 put-file {b} {b′} {m} {m′} s j f ok h new id hold there here past goes =
     record {
       stand = hold;
       alone = set-unique fileUsed fileIdOf noFile (s .files) j f h (ok .alone) (λ _. new);
       named = set-each (λ (x : FileRecord). fileUsed x ≡ true → IsId (fileIdOf x)) noFile (s .files) j f h (λ _. id) (λ n _. ok .named n);
-      each = set-each (λ (x : FileRecord). x .state ≡ FileState.Started → FileOK b′ m′ (keyOf s x) (x .count)) noFile (s .files) j f h here there;
+      each = set-each Each noFile (s .files) j f h here there;
       unstarted = λ g p. goes g (rw same at (p j)) (ok .unstarted g (λ n. still g p n (ℕ-discrete n j)));
     }
   where
+    Each : FileRecord → Type 0
+    Each x = x .state ≡ FileState.Started → FileOK b′ m′ (keyOf s x) (x .count)
+
     same : fileAt (putFile s j f) j ≡ f
     same = getD-set-same (s .files) j f noFile h
 
@@ -113,7 +122,8 @@ not-owed (Owed.WriteLast i j n) e = no-way e
 not-owed (Owed.Commit i) e = no-way e
 
 -- by a session that stays as it is
-pub asking-other : (ss : List Session) (i : ℕ) (s : Session) (q : Question) (o : Owed) → (owing o ≡ i → ⊥) → Asking ss q o → Asking (set ss i s) q o
+pub asking-other : (ss : List Session) (i : ℕ) (s : Session) (q : Question) (o : Owed) → (owing o ≡ i → ⊥)
+    → Asking ss q o → Asking (set ss i s) q o
 asking-other ss i s q o n a =
     let x : getD (set ss i s) (owing o) noSession ≡ getD ss (owing o) noSession = getD-set-other ss i (owing o) s noSession n in
     record {
@@ -148,22 +158,29 @@ none-same t o i j q = (q, refl, refl, refl)
 pub none-put : (t : Table) (i : ℕ) (s : Session) (o : Owed) → ((j : ℕ) → fileAt s j .state ≡ FileState.Done → WasDone (sessionAt t i) s j)
     → NoneDone t (table (set (t .sessions) i s) o)
 none-put t i s o h i′ j =
-    set-any (λ (n : ℕ) (x : Session). fileAt x j .state ≡ FileState.Done → WasDone (sessionAt t n) x j) (t .sessions) i s noSession (h j) (λ n q. (q, refl, refl, refl)) i′
+    set-any (λ (n : ℕ) (x : Session). fileAt x j .state ≡ FileState.Done → WasDone (sessionAt t n) x j)
+    (t .sessions) i s noSession (h j) (λ n q. (q, refl, refl, refl)) i′
 
 pub none-free : (t : Table) (i : ℕ) (s : Session) (o : Owed) → ((j : ℕ) → fileAt s j .state ≡ FileState.Free)
     → NoneDone t (table (set (t .sessions) i s) o)
-none-free t i s o free =
-    none-put t i s o (λ j q. let e : FileState.Free ≡ FileState.Done = sym (free j) ∙ q in let z : _≡_ {A = ℕ} 0 1 = cc in absurd (omega arith))
+none-free t i s o free = none-put t i s o (λ j q. free-done (sym (free j) ∙ q))
+
+-- the table with a record put at a place
+abbrev pub withFile : Table → ℕ → ℕ → FileRecord → Owed → Table
+withFile t i j f o = table (set (t .sessions) i (putFile (sessionAt t i) j f)) o
 
 -- a record put at a place is the only one that can turn done
-pub only-there : (t : Table) (i j : ℕ) (f : FileRecord) (o : Owed) (i′ j′ : ℕ) → let t′ = table (set (t .sessions) i (putFile (sessionAt t i) j f)) o in
+pub only-there : (t : Table) (i j : ℕ) (f : FileRecord) (o : Owed) (i′ j′ : ℕ) → let t′ = withFile t i j f o in
     stateAt t′ i′ j′ ≡ FileState.Done → WasDone (sessionAt t i′) (sessionAt t′ i′) j′ ⊎ ((i′ ≡ i) × (j′ ≡ j) × (f .state ≡ FileState.Done))
 only-there t i j f o i′ j′ =
-    set-any (λ (n : ℕ) (x : Session). fileAt x j′ .state ≡ FileState.Done → WasDone (sessionAt t n) x j′ ⊎ ((n ≡ i) × (j′ ≡ j) × (f .state ≡ FileState.Done)))
+    set-any (λ (n : ℕ) (x : Session). fileAt x j′ .state ≡ FileState.Done → Or n x)
     (t .sessions) i (putFile (sessionAt t i) j f) noSession (λ q. here (inside j′ q)) (λ n q. inl (q, refl, refl, refl)) i′
   where
     s : Session
     s = sessionAt t i
+
+    Or : ℕ → Session → Type 0
+    Or n x = WasDone (sessionAt t n) x j′ ⊎ ((n ≡ i) × (j′ ≡ j) × (f .state ≡ FileState.Done))
 
     At : ℕ → FileRecord → Type 0
     At n x =
@@ -171,18 +188,18 @@ only-there t i j f o i′ j′ =
 
     inside : (n : ℕ) → fileAt (putFile s j f) n .state ≡ FileState.Done → At n (fileAt (putFile s j f) n)
     inside =
-        set-any (λ (n : ℕ) (x : FileRecord). x .state ≡ FileState.Done → At n x) (s .files) j f noFile (λ q. inr (refl, q)) (λ n q. inl (q, refl, refl))
+        set-any (λ (n : ℕ) (x : FileRecord). x .state ≡ FileState.Done → At n x)
+        (s .files) j f noFile (λ q. inr (refl, q)) (λ n q. inl (q, refl, refl))
 
-    here : At j′ (fileAt (putFile s j f) j′) → WasDone s (putFile s j f) j′ ⊎ ((i ≡ i) × (j′ ≡ j) × (f .state ≡ FileState.Done))
+    here : At j′ (fileAt (putFile s j f) j′) → Or i (putFile s j f)
     here (inl q) = inl (q .0, q .1, q .2, refl)
     here (inr q) = inr (refl, q .0, q .1)
 
 pub none-file : (t : Table) (i j : ℕ) (f : FileRecord) (o : Owed) → (f .state ≡ FileState.Done → ⊥)
-    → NoneDone t (table (set (t .sessions) i (putFile (sessionAt t i) j f)) o)
+    → NoneDone t (withFile t i j f o)
 none-file t i j f o h i′ j′ q = go (only-there t i j f o i′ j′ q)
   where
-    go : WasDone (sessionAt t i′) (sessionAt (table (set (t .sessions) i (putFile (sessionAt t i) j f)) o) i′) j′ ⊎ ((i′ ≡ i) × (j′ ≡ j) × (f .state ≡ FileState.Done))
-        → WasDone (sessionAt t i′) (sessionAt (table (set (t .sessions) i (putFile (sessionAt t i) j f)) o) i′) j′
+    go : {A : Type 0} → A ⊎ ((i′ ≡ i) × (j′ ≡ j) × (f .state ≡ FileState.Done)) → A
     go (inl w) = w
     go (inr e) = absurd (h (e .2))
 

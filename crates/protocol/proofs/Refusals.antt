@@ -22,7 +22,8 @@ use Rattle.command.specs.Keys.{Alias, Kind, Key, keys, kindAt, numberOf, placeI
 use Rattle.command.specs.Letters.{safeByte, textByte}
 use Rattle.command.specs.Values.{Value, count, Got, aliasRead, wordRead, over, safeRead, integerRead, base64Read, valueRead}
 use Rattle.command.specs.Fields.{Turn, andThen, Step, isKey, equalsSign, keyOf, valueOf, fieldRead, fieldsRead, textRead}
-use Rattle.command.specs.Meaning.{Field, stored, once, meant, blank, valuesIn, bytesIn, actionCode, idOf, fileIdOf, missing, Meaning, complete, finished, meaningOf}
+use Rattle.command.specs.Meaning.{Field, stored, once, meant, blank, valuesIn, bytesIn, actionCode, idOf, fileIdOf}
+use Rattle.command.specs.Meaning.{missing, Meaning, complete, finished, meaningOf}
 use Rattle.protocol.specs.Promises.{IsId}
 use Rattle.protocol.proofs.Laws.{set-any}
 
@@ -37,7 +38,10 @@ module _ {S : Type 0} (P : S → Type 0) (step : Step S) (keeps : (n at : ℕ) (
   unfolding fieldRead
   field-turns at f s h = go (both (ltb (equalsSign f) (length f)) (isKey (keyOf f))) (ltb (numberOf keys (keyOf f)) (length keys))
     where
-      go : (a b : Bool) → Turns P (pick a (pick b (step (numberOf keys (keyOf f)) (at + (equalsSign f + 1)) (valueOf f) s) (Turn.on s)) (Turn.off 4 s))
+      turn : Turn S
+      turn = step (numberOf keys (keyOf f)) (at + (equalsSign f + 1)) (valueOf f) s
+
+      go : (a b : Bool) → Turns P (pick a (pick b turn (Turn.on s)) (Turn.off 4 s))
       go true true = keeps (numberOf keys (keyOf f)) (at + (equalsSign f + 1)) (valueOf f) s h
       go true false = on h
       go false b = off 4 (lit≤ tt)
@@ -56,7 +60,10 @@ module _ {S : Type 0} (P : S → Type 0) (step : Step S) (keeps : (n at : ℕ) (
   unfolding textRead
   text-turns t s h = go (ltb 8192 (length t)) (every textByte t) (startsWith t (ascii "5113;"))
     where
-      go : (a b c : Bool) → Turns P (pick a (Turn.off 1 s) (pick b (pick c (fieldsRead step 5 (split 59 (drop 5 t)) s) (Turn.off 4 s)) (Turn.off 3 s)))
+      turn : Turn S
+      turn = fieldsRead step 5 (split 59 (drop 5 t)) s
+
+      go : (a b c : Bool) → Turns P (pick a (Turn.off 1 s) (pick b (pick c turn (Turn.off 4 s)) (Turn.off 3 s)))
       go true b c = off 1 (lit≤ tt)
       go false true true = fields-turns 5 (split 59 (drop 5 t)) s h
       go false true false = off 4 (lit≤ tt)
@@ -76,7 +83,8 @@ abbrev FitGot : Kind → Got → Type 0
 FitGot k (Got.got v) = Fit k (Field.seen v)
 FitGot k (Got.refused r) = r ≤ 8
 
-alias-fits : (first : ℕ) (ws : List (List ℕ)) (aliases more : List Alias) (v : List ℕ) → FitGot (Kind.word first ws aliases) (aliasRead more v)
+alias-fits : (first : ℕ) (ws : List (List ℕ)) (aliases more : List Alias) (v : List ℕ)
+    → FitGot (Kind.word first ws aliases) (aliasRead more v)
 unfolding aliasRead
 alias-fits first ws aliases [] v = omega arith
 alias-fits first ws aliases (a ∷ more) v = go (equals v (a .text)) (alias-fits first ws aliases more v)
@@ -90,7 +98,10 @@ value-fits : (k : Kind) (v : List ℕ) → FitGot k (valueRead k v)
 unfolding valueRead wordRead safeRead
 value-fits (Kind.word first ws aliases) v = go (ltb (placeIn ws v) (length ws))
   where
-    go : (b : Bool) → FitGot (Kind.word first ws aliases) (pick b (Got.got (Value.number (count (first + placeIn ws v)))) (aliasRead aliases v))
+    word : Got
+    word = Got.got (Value.number (count (first + placeIn ws v)))
+
+    go : (b : Bool) → FitGot (Kind.word first ws aliases) (pick b word (aliasRead aliases v))
     go true = tt
     go false = alias-fits first ws aliases aliases v
 value-fits (Kind.safe short) v = go (every safeByte v) refl (over short v) refl
@@ -140,7 +151,8 @@ meant-turns n at v s h = go (getD s n Field.unseen)
 
 -- ---- the command
 value-safe : (ks : List Key) (s : List Field) (n : ℕ) → ((i : ℕ) → Fit (kindAt ks i) (getD s i Field.unseen)) → kindAt ks n ≡ Kind.safe true
-    → (every safeByte (bytesIn (getD (valuesIn ks s) n Value.outside)) ≡ true) × (length (bytesIn (getD (valuesIn ks s) n Value.outside)) ≤ 32)
+    → let v = bytesIn (getD (valuesIn ks s) n Value.outside) in
+    (every safeByte v ≡ true) × (length v ≤ 32)
 unfolding every
 value-safe [] s n h e = (refl, omega arith)
 value-safe (k ∷ ks) [] n h e = (refl, omega arith)

@@ -44,7 +44,8 @@ pub record Sent (r : Reply) (n : ℕ) (buffer : List ℕ) : Type 0 where
   pub short : n ≤ replyRoom
   pub bytes : take n buffer ≡ replyBytes r
 
-pub reply-sent : (r : Reply) (buffer : List ℕ) → SizedReply r → 124 ≤ length buffer → Sent r (repliedOf r buffer .answer) (repliedOf r buffer .buffer)
+pub reply-sent : (r : Reply) (buffer : List ℕ) → SizedReply r → 124 ≤ length buffer
+    → Sent r (repliedOf r buffer .answer) (repliedOf r buffer .buffer)
 unfolding repliedOf
 reply-sent r buffer h l =
     rw (le-leb (0 + length (replyBytes r)) (length buffer) (omega (arith, reply-length r h)))

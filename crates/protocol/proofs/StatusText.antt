@@ -90,8 +90,8 @@ shows-none : Shows [] [] []
 unfolding fieldsOf checkedOf
 shows-none = record { fields = refl; fine = refl }
 
-shows-text : (k : Key) (ks : List Key) (v : Value) (c : List Value) (b : List ℕ) (fs : List (List ℕ)) → shown (k .kind) v ≡ textOr b → Shows ks c fs
-    → Shows (k ∷ ks) (v ∷ c) (unlessEmpty (k .name) b fs)
+shows-text : (k : Key) (ks : List Key) (v : Value) (c : List Value) (b : List ℕ) (fs : List (List ℕ)) → shown (k .kind) v ≡ textOr b
+    → Shows ks c fs → Shows (k ∷ ks) (v ∷ c) (unlessEmpty (k .name) b fs)
 unfolding fieldsOf checkedOf
 shows-text k ks v c [] fs e r = record { fields = rw (e, r .fields); fine = rw (e, r .fine) }
 shows-text k ks v c (x ∷ b) fs e r = record { fields = rw (e, r .fields); fine = rw (e, r .fine) }
@@ -175,10 +175,11 @@ module _ (id file : List ℕ) (size : ℕ) (w : Status) (safe : every safeByte i
   pub status-means : meaningOf (statusText id file size (statusWord w)) ≡ Meaning.command (statusValues id file size (statusWord w))
   status-means =
       let c : List Value = statusValues id file size (statusWord w) in
+      let closed = length-append (statusText id file size (statusWord w)) (0x1B ∷ 0x5C ∷ []) in
       let a : Accepted c (canonical c) = record {
         kinds = shows-status .fine;
         whole = ne-eqb (length id) 0 (λ (q : length id ≡ 0). omega arith);
-        short = rw (← status-canonical) (omega (arith, status-length id file size w short fileShort small, length-append (statusText id file size (statusWord w)) (0x1B ∷ 0x5C ∷ [])));
+        short = rw (← status-canonical) (omega (arith, status-length id file size w short fileShort small, closed));
         room = omega arith;
       } in
       rw status-canonical (read-written c (canonical c) (length (canonical c)) (rw (accepted-writes c (canonical c) a)))
