@@ -3,11 +3,8 @@ use Prim.Native.Nat.{ℕ, _≤_}
 use mathlib.Core.Path.{_≡_, refl}
 use mathlib.Core.Bool.{Bool, true, false}
 use mathlib.Core.List.{List, append-nil}
-use native.Mathlib.Omega.{arith}
 use lib.ListN.{length, take}
-use lib.Dec.{ltb}
-use borrow.Author.Tests.{ltb-false, le-leb, lt-leb}
-use Rattle.octets.specs.Choice.{pick, either}
+use Rattle.octets.specs.Choice.{pick}
 use Rattle.frames.specs.Stream.{Mode, stream}
 use Rattle.frames.specs.Calls.{scanOf, textOf}
 use Rattle.frames.specs.Follows.{Follows, toldOf}
@@ -26,7 +23,7 @@ use Rattle.protocol.specs.declared.Told.the-variants as Told
 use Rattle.protocol.specs.declared.Owed.{Owed}
 use Rattle.protocol.specs.declared.Owed.the-variants as Owed
 use Rattle.protocol.proofs.Ours.{Lent, step}
-use Rattle.protocol.proofs.Laws.{no-way, low-taken}
+use Rattle.protocol.proofs.Laws.{low-taken}
 use Rattle.protocol.proofs.Means.{Read, command, refused, text-read}
 use Rattle.protocol.proofs.Invariant.{TableOK}
 use Rattle.protocol.proofs.Done.{NoneDone}
@@ -34,6 +31,7 @@ use Rattle.protocol.proofs.Puts.{table, not-owed, none-same}
 use Rattle.protocol.proofs.Obeyed.{idle}
 use Rattle.protocol.proofs.ObeyedRule.{obey-kept}
 use Rattle.protocol.proofs.Worlds.{WorldOK}
+use Rattle.protocol.proofs.ReplyLengths.{roomy}
 
 -- ---- what a report does
 record ActOK (ss : List Session) (m : List Mark) (a : Acted) : Type 0 where
@@ -41,7 +39,8 @@ record ActOK (ss : List Session) (m : List Mark) (a : Acted) : Type 0 where
   none : NoneDone (idle ss) (a .step .table)
   taken : isUnfed (a .step .told) ≡ false
 
-module _ {ss : List Session} {m : List Mark} (same : TableOK (idle ss) m) (scratch : List ℕ) (enough : 6144 ≤ length scratch) (text : List ℕ) where
+module _ {ss : List Session} {m : List Mark} (same : TableOK (idle ss) m) (scratch : List ℕ) (enough : 6144 ≤ length scratch)
+    (text : List ℕ) where
   -- a text that is read
   read-act : ActOK ss (readMark (meaningOf text) m) (readAct (idle ss) text (readOf text scratch))
   read-act = go (readOf text scratch .answer) (text-read text scratch enough)
@@ -69,15 +68,15 @@ abbrev pub world : Framing → List Session → Owed → List ℕ → List Event
 world g ss o carry h = record { receiver = record { framing = g; table = table ss o }; carry = carry; history = h }
 
 -- one that is not refused with 9 or 10: its carry is the world's
-feed-taken : (g : Framing) (ss : List Session) (kept : List ℕ) (h : List Event) → WorldOK (world g ss Owed.Nothing kept h)
-    → (piece carry scratch reply : List ℕ) → 8192 ≤ length carry → 6144 ≤ length scratch
-    → (isUnfed (scannedFeed (idle ss) piece (scanOf g piece carry) scratch reply .fed .told) ≡ false → carry ≡ kept)
-    → FeedOK (world g ss Owed.Nothing kept h)
-    (afterFeed (world g ss Owed.Nothing kept h) piece (scannedFeed (idle ss) piece (scanOf g piece carry) scratch reply))
+feed-taken : (g : Framing) (ss : List Session) (kept : List ℕ) (h : List Event) → let w = world g ss Owed.Nothing kept h in
+    WorldOK w → (piece carry scratch reply : List ℕ) → 8192 ≤ length carry → 6144 ≤ length scratch
+    → let f = scannedFeed (idle ss) piece (scanOf g piece carry) scratch reply in
+    (isUnfed (f .fed .told) ≡ false → carry ≡ kept) → FeedOK w (afterFeed w piece f)
 unfolding scannedFeed marksOf
 feed-taken g ss kept h w piece carry scratch reply long enough lent =
     let k = scanOf g piece carry in
-    let a = report-act (w .table) scratch enough (textOf piece (k .buffer) (k .answer .report)) (k .answer .report) (call-report g piece carry long) in
+    let r = k .answer .report in
+    let a = report-act (w .table) scratch enough (textOf piece (k .buffer) r) r (call-report g piece carry long) in
     let e : carry ≡ kept = lent (a .taken) in
     let f : Follows g carry (modeAfter h) = rw e (w .follows) in
     let c = call-follows piece f in
@@ -90,10 +89,11 @@ feed-taken g ss kept h w piece carry scratch reply long enough lent =
       none = a .none;
     }
 
-feed-idle : (g : Framing) (ss : List Session) (o : Owed) (kept : List ℕ) (h : List Event) → o ≡ Owed.Nothing → WorldOK (world g ss o kept h)
-    → (piece carry scratch reply : List ℕ) → 8192 ≤ length carry → 6144 ≤ length scratch
-    → (isUnfed (scannedFeed (table ss o) piece (scanOf g piece carry) scratch reply .fed .told) ≡ false → carry ≡ kept)
-    → FeedOK (world g ss o kept h) (afterFeed (world g ss o kept h) piece (scannedFeed (table ss o) piece (scanOf g piece carry) scratch reply))
+feed-idle : (g : Framing) (ss : List Session) (o : Owed) (kept : List ℕ) (h : List Event) → o ≡ Owed.Nothing
+    → let w = world g ss o kept h in
+    WorldOK w → (piece carry scratch reply : List ℕ) → 8192 ≤ length carry → 6144 ≤ length scratch
+    → let f = scannedFeed (table ss o) piece (scanOf g piece carry) scratch reply in
+    (isUnfed (f .fed .told) ≡ false → carry ≡ kept) → FeedOK w (afterFeed w piece f)
 feed-idle g ss o kept h n w piece carry scratch reply long enough lent =
     rw n (feed-taken g ss kept h (rw n at w) piece carry scratch reply long enough (rw n at lent))
 
@@ -110,11 +110,6 @@ feed-refused w ok n l piece carry scratch reply =
           };
       none = none-same (w .receiver .table) (w .receiver .table .owed);
     }
-
-both-long : (a b c : Bool) → either a (either b c) ≡ false → (a ≡ false) × (b ≡ false)
-both-long true b c e = no-way e
-both-long false true c e = no-way e
-both-long false false c e = (refl, refl)
 
 pub feed-ok : (w : World) → WorldOK w → (piece carry scratch reply : List ℕ) → Lent w (Call.feed piece carry scratch reply)
     → FeedOK w (step w (Call.feed piece carry scratch reply))
@@ -133,6 +128,7 @@ feed-ok w ok piece carry scratch reply = go (isShort carry scratch reply) refl (
     go true e b q lent = feed-refused w ok 9 refl piece carry scratch reply
     go false e true q lent = feed-refused w ok 10 refl piece carry scratch reply
     go false e false q lent =
-        let l = both-long (ltb (length carry) 8192) (ltb (length scratch) 6144) (ltb (length reply) 124) e in
-        feed-idle (w .receiver .framing) (w .receiver .table .sessions) (w .receiver .table .owed) (w .carry) (w .history) (not-owed (w .receiver .table .owed) q) ok
-        piece carry scratch reply (ltb-false _ _ (l .0)) (ltb-false _ _ (l .1)) lent
+        let t = w .receiver .table in
+        let long = roomy carry scratch reply e in
+        feed-idle (w .receiver .framing) (t .sessions) (t .owed) (w .carry) (w .history) (not-owed (t .owed) q) ok
+        piece carry scratch reply (long .carry) (long .scratch) lent

@@ -1,5 +1,5 @@
 -- WHAT EVERY CALL PROMISES, of the receiver's own: a refused one changes nothing, a feed goes on, and no reply is over 124 bytes.
-use Prim.Native.Nat.{ℕ, _≤_}
+use Prim.Native.Nat.{ℕ}
 use mathlib.Core.Path.{_≡_, refl, sym, _∙_}
 use mathlib.Core.Bool.{Bool, true, false}
 use mathlib.Core.List.{List}
@@ -8,13 +8,15 @@ use lib.ListN.{length}
 use lib.Dec.{ltb}
 use borrow.Author.Tests.{ltb-false}
 use Rattle.octets.specs.Choice.{pick}
-use Rattle.octets.specs.Outcome.{Outcome, outcome}
+use Rattle.octets.specs.Outcome.{outcome}
 use Rattle.frames.specs.Calls.{scanOf, textOf}
 use Rattle.frames.proofs.CallLaws.{call-report, consumed-le, consumes}
 use Rattle.protocol.specs.Table.{sessionAt, findSession}
-use Rattle.protocol.specs.Replies.{noReply, repliedOf}
-use Rattle.protocol.specs.Answers.{refused, allowState, allowFound, denyState, denyFound, dropFound, settleDone, settleFailed, allowedOf, deniedOf, droppedOf}
-use Rattle.protocol.specs.Calls.{isOwed, Feeding, feeding, feedRefused, scannedFeed, isShort, feedOf, answeredBy, replied, guarded, allowOf, denyOf, dropOf, doneOf, failedOf}
+use Rattle.protocol.specs.Replies.{noReply}
+use Rattle.protocol.specs.Answers.{refused, allowState, allowFound, denyState, denyFound, dropFound}
+use Rattle.protocol.specs.Answers.{settleDone, settleFailed, allowedOf, deniedOf, droppedOf}
+use Rattle.protocol.specs.Calls.{isOwed, Feeding, feeding, feedRefused, scannedFeed, isShort, feedOf}
+use Rattle.protocol.specs.Calls.{answeredBy, replied, guarded, allowOf, denyOf, dropOf, doneOf, failedOf}
 use Rattle.protocol.specs.Machine.{ours, isUnfed, isRefused}
 use Rattle.protocol.specs.Promises.{Sized, FeedPromise, CallPromise, EveryCall}
 use Rattle.protocol.specs.declared.SessionState.{SessionState}
@@ -25,7 +27,6 @@ use Rattle.protocol.specs.declared.Table.{Table}
 use Rattle.protocol.specs.declared.Receiver.{Receiver}
 use Rattle.protocol.specs.declared.Failure.{Failure}
 use Rattle.protocol.specs.declared.Stepped.{Stepped}
-use Rattle.protocol.specs.declared.Answered.{Answered}
 use Rattle.protocol.specs.declared.Found.{Found}
 use Rattle.protocol.specs.declared.Found.the-variants as Found
 use Rattle.protocol.proofs.Laws.{no-way}
@@ -109,32 +110,41 @@ module _ (r : Receiver) (h : Sized (r .table)) (piece carry scratch reply : List
   abbrev taken : Feeding
   taken = scannedFeed (r .table) piece (scanOf (r .framing) piece carry) scratch reply
 
-  refused-promise : (n : ℕ) → isUnfed (feedRefused r n .told) ≡ true → FeedPromise r piece carry scratch reply (feeding (feedRefused r n) carry scratch reply)
-  refused-promise n u =
-      record { unfed = λ _. (refl, refl, refl, refl, refl); progress = λ e _. no-way (sym u ∙ e); within = omega arith; short = omega arith }
+  abbrev no : ℕ → Feeding
+  no n = feeding (feedRefused r n) carry scratch reply
 
-  taken-promise : isShort carry scratch reply ≡ false → FeedPromise r piece carry scratch reply taken
+  abbrev Keeps : Feeding → Type 0
+  Keeps f = FeedPromise r piece carry scratch reply f
+
+  refused-promise : (n : ℕ) → isUnfed (no n .fed .told) ≡ true → Keeps (no n)
+  refused-promise n u =
+      record {
+        unfed = λ _. (refl, refl, refl, refl, refl);
+        progress = λ e _. no-way (sym u ∙ e);
+        within = omega arith;
+        short = omega arith;
+      }
+
+  taken-promise : isShort carry scratch reply ≡ false → Keeps taken
   unfolding scannedFeed
   taken-promise e =
       let long = roomy carry scratch reply e in
       let k = scanOf (r .framing) piece carry in
-      let text = textOf piece (k .buffer) (k .answer .report) in
-      let u = report-taken (r .table) h scratch reply (long .scratch) (long .reply) (k .answer .report) piece (k .buffer) (call-report (r .framing) piece carry (long .carry)) in
+      let report = k .answer .report in
+      let whole = call-report (r .framing) piece carry (long .carry) in
+      let u = report-taken (r .table) h scratch reply (long .scratch) (long .reply) report piece (k .buffer) whole in
       record {
         unfed = λ q. no-way (sym q ∙ u);
         progress = λ _ l. consumes (r .framing) piece carry (long .carry) .2 l;
         within = consumed-le (r .framing) piece carry;
-        short = reply-sent _ reply (report-sized (r .table) h (k .answer .report) text scratch .reply) (long .reply) .short;
+        short = reply-sent _ reply (report-sized (r .table) h report (textOf piece (k .buffer) report) scratch .reply) (long .reply) .short;
       }
 
-  feed-promise : FeedPromise r piece carry scratch reply (feedOf r piece carry scratch reply)
+  feed-promise : Keeps (feedOf r piece carry scratch reply)
   unfolding feedOf
   feed-promise = go (isShort carry scratch reply) refl (isOwed (r .table .owed))
     where
-      no : ℕ → Feeding
-      no n = feeding (feedRefused r n) carry scratch reply
-
-      go : (s : Bool) → isShort carry scratch reply ≡ s → (b : Bool) → FeedPromise r piece carry scratch reply (pick s (no 9) (pick b (no 10) taken))
+      go : (s : Bool) → isShort carry scratch reply ≡ s → (b : Bool) → Keeps (pick s (no 9) (pick b (no 10) taken))
       go true e b = refused-promise 9 refl
       go false e true = refused-promise 10 refl
       go false e false = taken-promise e

@@ -6,7 +6,7 @@ use mathlib.Core.List.{List, [], _∷_}
 use lib.ListN.{length}
 use lib.Dec.{ltb}
 use Rattle.octets.specs.Choice.{pick}
-use Rattle.octets.specs.Outcome.{outcome}
+use Rattle.octets.specs.Outcome.{Outcome, outcome}
 use Rattle.frames.specs.Stream.{stream}
 use Rattle.frames.specs.Follows.{Follows}
 use Rattle.frames.proofs.Follows.{fresh-follows}
@@ -41,6 +41,20 @@ start-ok carry =
           };
     }
 
+-- a property of the table that a refusal with 9 has, and the step
+pub by-guard : (P : Answered → Type 0) (w : World) (s : Stepped) (reply : List ℕ)
+    → P (answeredBy (w .receiver .framing) (refused (w .receiver .table) 9) 0)
+    → ((n : ℕ) → P (answeredBy (w .receiver .framing) s n)) → P (guarded (w .receiver) s reply .answer)
+unfolding guarded
+by-guard P w s reply short taken = go (ltb (length reply) 124)
+  where
+    no : Outcome Answered
+    no = outcome (answeredBy (w .receiver .framing) (refused (w .receiver .table) 9) 0) reply
+
+    go : (b : Bool) → P (pick b no (replied (w .receiver .framing) s reply) .answer)
+    go true = short
+    go false = taken (repliedOf (s .reply) reply .answer)
+
 -- ---- a console call's step, noted as the event e with its mark x
 module _ {w : World} (ok : WorldOK w) (e : Event) (x : Mark) (bytes : bytesOf (e ∷ w .history) ≡ bytesOf (w .history))
     (marks : marksOf (e ∷ w .history) ≡ x ∷ marksOf (w .history)) where
@@ -60,20 +74,7 @@ module _ {w : World} (ok : WorldOK w) (e : Event) (x : Mark) (bytes : bytesOf (e
   -- with a reply buffer
   pub guarded-ok : (s : Stepped) (reply : List ℕ) → TableOK (s .table) (notedMarks (marksOf (w .history)) x s)
       → let a = guarded (w .receiver) s reply .answer in WorldOK (afterCall w a (noted (a .told) e (w .history)))
-  unfolding guarded
-  guarded-ok s reply t = go (ltb (length reply) 124)
-    where
-      go : (b : Bool) → let a = pick b (outcome (answeredBy (w .receiver .framing) (refused (w .receiver .table) 9) 0) reply) (replied (w .receiver .framing) s reply) .answer in
-          WorldOK (afterCall w a (noted (a .told) e (w .history)))
-      go true = record { follows = ok .follows; table = ok .table }
-      go false = noted-ok s (repliedOf (s .reply) reply .answer) t
-
--- a property of the table that a refusal with 9 has, and the step
-pub by-guard : (P : Answered → Type 0) (w : World) (s : Stepped) (reply : List ℕ) → P (answeredBy (w .receiver .framing) (refused (w .receiver .table) 9) 0)
-    → ((n : ℕ) → P (answeredBy (w .receiver .framing) s n)) → P (guarded (w .receiver) s reply .answer)
-unfolding guarded
-by-guard P w s reply short taken = go (ltb (length reply) 124)
-  where
-    go : (b : Bool) → P (pick b (outcome (answeredBy (w .receiver .framing) (refused (w .receiver .table) 9) 0) reply) (replied (w .receiver .framing) s reply) .answer)
-    go true = short
-    go false = taken (repliedOf (s .reply) reply .answer)
+  guarded-ok s reply t =
+      by-guard (λ (a : Answered). WorldOK (afterCall w a (noted (a .told) e (w .history)))) w s reply
+      (record { follows = ok .follows; table = ok .table })
+      (λ n. noted-ok s n t)
