@@ -4,37 +4,13 @@ use mathlib.Core.Path.{_≡_, refl, sym, _∙_}
 use mathlib.Core.Option.{Option}
 use mathlib.Core.List.{List, [], _∷_, _++_}
 use lib.ListN.{length, take, drop, replicate}
-use Rattle.bytes.specs.Bytes.{indexOf, indexAfter}
-use Rattle.octets.specs.Choice.{every}
 use Rattle.octets.specs.Ascii.{ascii}
 use Rattle.octets.specs.Outcome.{Outcome}
-use Rattle.octets.specs.Slices.{equals, startsWith, partOf}
-use Rattle.octets.specs.Split.{split, onto, join}
-use Rattle.base64.specs.Alphabet as Base64
-use Rattle.base64.specs.Decode as Decode
-use Rattle.base64.specs.Encode as Base64Text
-use Rattle.decimal.specs.Write as Decimal
-use Rattle.pathname.specs.Name.{rooted, validComponent, validComponents, validName}
-use Rattle.pathname.specs.Utf8.{followers, sequences}
-use Rattle.frames.specs.Stream.{readByte, stream}
-use Rattle.frames.specs.Framings.{mayBeCommand}
-use Rattle.frames.specs.Steps.{stepOf, walkFrom}
-use Rattle.frames.specs.Carry.{heldOf, carryOf}
-use Rattle.frames.specs.Calls.{reportOf, scanOf, textOf}
-use Rattle.command.specs.Keys.{placeIn}
-use Rattle.command.specs.Letters.{keyByte, safeByte, textByte}
-use Rattle.command.specs.Values.{aliasRead, wordRead, safeRead, valueRead}
-use Rattle.command.specs.Fields.{isKey, fieldRead, fieldsRead, textRead}
-use Rattle.command.specs.Meaning.{meaningOf}
-use Rattle.command.specs.Slots.{actionOf, fileTypeOf, transmissionOf, commandOf}
-use Rattle.command.specs.Read.{kept, readOf}
-use Rattle.protocol.specs.Table.{freshReceiver, first}
-use Rattle.protocol.specs.Actions.{resultIn, kindOf}
-use Rattle.protocol.specs.Replies.{fileReply, statusText, framed, replyBytes, repliedOf}
-use Rattle.protocol.specs.Files.{idIn, countLimit, fileChecked, fileOf, partAsked, dataOf, finishOf}
-use Rattle.protocol.specs.Sessions.{obeyOf}
-use Rattle.protocol.specs.Answers.{settleDone, allowedOf}
-use Rattle.protocol.specs.Calls.{Feeding, scannedFeed, feedOf, guarded, allowOf, doneOf}
+use Rattle.frames.specs.Calls.{textOf}
+use Rattle.protocol.specs.Table.{freshReceiver}
+use Rattle.protocol.specs.Replies.{fileReply, framed, replyBytes}
+use Rattle.protocol.specs.Files.{idIn, countLimit}
+use Rattle.protocol.specs.Calls.{Feeding, feedOf, allowOf, doneOf}
 use Rattle.protocol.specs.History.{bytesOf, Mark, marksOf}
 use Rattle.protocol.specs.Stretches.{Key, Stretch, since, parts, contents}
 use Rattle.protocol.specs.Machine.{Call, World, start}
@@ -47,6 +23,7 @@ use Rattle.protocol.specs.declared.Answered.{Answered}
 use Rattle.protocol.proofs.Done.{stateAt, countAt}
 use Rattle.protocol.proofs.Ours.{step, allGiven, after, AllLent}
 use Rattle.protocol.proofs.Cuts.{cuts-alike}
+use Rattle.protocol.proofs.Starred.{computing}
 
 -- ---- a console that "allows every session at once, answers done always, and writes only replies"
 abbrev scratch₀ : List ℕ
@@ -86,8 +63,10 @@ feed r = feedOf (r .world .receiver) (r .rest) (r .world .carry) scratch₀ repl
 
 abbrev fed : Replay → Replay
 fed r =
-    replay (step (r .world) (Call.feed (r .rest) (r .world .carry) scratch₀ reply₀)) (r .written ++ take (feed r .fed .«reply_len») (feed r .reply))
-    (drop (feed r .fed .consumed) (r .rest))
+    let w = r .world in
+    let f = feed r in
+    replay (step w (Call.feed (r .rest) (w .carry) scratch₀ reply₀)) (r .written ++ take (f .fed .«reply_len») (f .reply))
+    (drop (f .fed .consumed) (r .rest))
 
 -- and the answer to what it tells
 abbrev next : Replay → Replay
@@ -120,15 +99,20 @@ output =
 -- the same in two pieces, cut in the closer of the data command: 1B | 5C
 abbrev first-piece : List ℕ
 first-piece =
-    framed (ascii "5113;ac=send;id=m") ++ framed (ascii "5113;ac=file;id=m;fid=a;n=L256") ++ 0x1B ∷ 0x5D ∷ ascii "5113;ac=data;id=m;fid=a;d=YWJj" ++ 0x1B ∷ []
+    framed (ascii "5113;ac=send;id=m") ++ framed (ascii "5113;ac=file;id=m;fid=a;n=L256")
+    ++ 0x1B ∷ 0x5D ∷ ascii "5113;ac=data;id=m;fid=a;d=YWJj" ++ 0x1B ∷ []
 
 abbrev second-piece : List ℕ
 second-piece = 0x5C ∷ framed (ascii "5113;ac=end_data;id=m;fid=a") ++ framed (ascii "5113;ac=finish;id=m")
 
+abbrev between : Replay
+between = play 3 first-piece begin
+
 -- the same ids once more, with a file of one byte
 abbrev again : List ℕ
 again =
-    framed (ascii "5113;ac=send;id=m") ++ framed (ascii "5113;ac=file;id=m;fid=a;n=L256") ++ framed (ascii "5113;ac=end_data;id=m;fid=a;d=QQ==")
+    framed (ascii "5113;ac=send;id=m") ++ framed (ascii "5113;ac=file;id=m;fid=a;n=L256")
+    ++ framed (ascii "5113;ac=end_data;id=m;fid=a;d=QQ==")
 
 -- two ways to bring its first command and to allow the session: in one piece, and in two with other bytes in the buffers
 abbrev one-piece : List Call
@@ -167,9 +151,9 @@ record Computed : Type 0 where
   whole : play 5 input begin .written ≡ output
   whole-closes : Closing (fed (play 3 input begin) .world) (play 4 input begin .world) (ascii "abc")
   -- cut in a closer it gives the same; the text then stands in the carry
-  cut : play 3 second-piece (play 3 first-piece begin) .written ≡ output
-  cut-carry : take 30 (play 3 first-piece begin .world .carry) ≡ ascii "5113;ac=data;id=m;fid=a;d=YWJj"
-  cut-closes : Closing (fed (play 1 second-piece (play 3 first-piece begin)) .world) (play 2 second-piece (play 3 first-piece begin) .world) (ascii "abc")
+  cut : play 3 second-piece between .written ≡ output
+  cut-carry : take 30 (between .world .carry) ≡ ascii "5113;ac=data;id=m;fid=a;d=YWJj"
+  cut-closes : Closing (fed (play 1 second-piece between) .world) (play 2 second-piece between .world) (ascii "abc")
   -- the ids used again: the second file starts from zero, and closes with its own contents
   again-starts : countAt (play 2 again (play 5 input begin) .world .receiver .table) 0 0 ≡ 0
   again-closes : Closing (fed (play 2 again (play 5 input begin)) .world) (play 3 again (play 5 input begin) .world) (ascii "A")
@@ -184,7 +168,7 @@ record Computed : Type 0 where
   longest : length (replyBytes (fileReply Status.Progress 0 (replicate 32 105) 32 (replicate 32 102) 32 countLimit)) ≡ 124
 
 computed : Computed
-unfolding indexOf indexAfter every equals startsWith partOf split onto join Base64.valueOf Base64.letterOf Decode.verdictOf Decode.bytesOf Decode.scan Decode.ending Decode.group Base64Text.textOf Decimal.writable Decimal.textOf Decimal.fixed Decimal.widthFrom rooted validComponent validComponents validName followers sequences readByte stream mayBeCommand stepOf walkFrom heldOf carryOf reportOf scanOf textOf placeIn keyByte safeByte textByte aliasRead wordRead safeRead valueRead isKey fieldRead fieldsRead textRead meaningOf actionOf fileTypeOf transmissionOf commandOf kept readOf first resultIn kindOf statusText replyBytes repliedOf fileChecked fileOf partAsked dataOf finishOf obeyOf settleDone allowedOf scannedFeed feedOf guarded allowOf doneOf marksOf
+unfolding computing
 computed = record {
   whole = refl;
   whole-closes = record { before = refl; after = refl; counted = refl; handed = refl; contained = refl };
@@ -204,5 +188,5 @@ computed = record {
 
 alike : allGiven (start (replicate 8192 0)) one-piece ≡ allGiven (start ones) two-pieces
 alike =
-    cuts-alike (replicate 8192 0) ones one-piece two-pieces (computed .one-lent) (computed .two-lent) (computed .one-bytes ∙ sym (computed .two-bytes))
-    (computed .one-calls ∙ sym (computed .two-calls)) .0
+    cuts-alike (replicate 8192 0) ones one-piece two-pieces (computed .one-lent) (computed .two-lent)
+    (computed .one-bytes ∙ sym (computed .two-bytes)) (computed .one-calls ∙ sym (computed .two-calls)) .0

@@ -5,49 +5,24 @@ use mathlib.Core.Bool.{true, false}
 use mathlib.Core.List.{List, [], _∷_, _++_}
 use native.Mathlib.Omega.{arith}
 use lib.ListN.{length, take}
-use Rattle.bytes.specs.Bytes.{indexOf, indexAfter}
-use Rattle.octets.specs.Choice.{every}
 use Rattle.octets.specs.Ascii.{ascii}
-use Rattle.octets.specs.Slices.{equals, startsWith, partOf}
-use Rattle.octets.specs.Split.{split, onto, join}
-use Rattle.base64.specs.Alphabet as Base64
-use Rattle.base64.specs.Decode as Decode
-use Rattle.base64.specs.Encode as Base64Text
-use Rattle.decimal.specs.Read as DecimalRead
-use Rattle.decimal.specs.Write as Decimal
-use Rattle.pathname.specs.Name.{rooted, validComponent, validComponents, validName}
-use Rattle.pathname.specs.Utf8.{followers, sequences}
-use Rattle.frames.specs.Stream.{readByte, stream}
-use Rattle.frames.specs.Framings.{mayBeCommand}
-use Rattle.frames.specs.Steps.{stepOf, walkFrom}
-use Rattle.frames.specs.Carry.{heldOf, carryOf}
-use Rattle.frames.specs.Calls.{reportOf, scanOf, textOf}
-use Rattle.command.specs.Keys.{placeIn}
-use Rattle.command.specs.Letters.{keyByte, safeByte, textByte}
-use Rattle.command.specs.Values.{aliasRead, wordRead, safeRead, valueRead}
-use Rattle.command.specs.Fields.{isKey, fieldRead, fieldsRead, textRead}
-use Rattle.command.specs.Meaning.{meaningOf}
-use Rattle.command.specs.Slots.{actionOf, fileTypeOf, transmissionOf, commandOf}
-use Rattle.command.specs.Read.{kept, readOf}
-use Rattle.protocol.specs.Table.{freshReceiver, emptyTable, withOwed, first}
-use Rattle.protocol.specs.Actions.{resultIn, kindOf}
-use Rattle.protocol.specs.Replies.{statusText, replyBytes, repliedOf}
-use Rattle.protocol.specs.Files.{fileChecked, fileOf, partAsked, dataOf, finishOf}
-use Rattle.protocol.specs.Sessions.{obeyOf}
-use Rattle.protocol.specs.Answers.{settleDone, allowedOf}
-use Rattle.protocol.specs.Calls.{scannedFeed, feedOf, guarded, allowOf, doneOf}
+use Rattle.protocol.specs.Table.{freshReceiver, emptyTable, withOwed}
 use Rattle.protocol.specs.History.{Command, Question, bytesOf, marksOf, lastAsk}
 use Rattle.protocol.specs.Machine.{Machine, ours, isUnfed, start}
 use Rattle.protocol.specs.Promises.{EveryCall}
 use Rattle.protocol.specs.Cuts.{allGiven, after, consoleCalls, CutsAlike}
-use Rattle.protocol.specs.WrongMachines.{sendPiece, filePiece, directoryPiece, dataPiece, longerIdPiece, endPiece, cancelPiece, oneTooSmall, lastOnly, otherSize, skipping, twice, shorterIds, dataOpens, reopening, neverClosing, unasked, deaf, closerLost, hungry, stalling, Teeth}
+use Rattle.protocol.specs.WrongMachines.{sendPiece, filePiece, directoryPiece, dataPiece, longerIdPiece, endPiece, cancelPiece}
+use Rattle.protocol.specs.WrongMachines.{oneTooSmall, lastOnly, otherSize, skipping, twice, shorterIds, dataOpens, reopening}
+use Rattle.protocol.specs.WrongMachines.{neverClosing, unasked, deaf, closerLost, hungry, stalling, Teeth}
 use Rattle.protocol.specs.declared.Owed.the-variants as Owed
 use Rattle.protocol.specs.declared.Receiver.{Receiver}
 use Rattle.protocol.specs.declared.Failure.the-variants as Failure
 use Rattle.protocol.specs.declared.Fed.{Fed}
 use Rattle.protocol.proofs.Laws.{no-way}
 use Rattle.protocol.proofs.Sizes.{empty-sized}
-use Rattle.protocol.proofs.Refuting.{carry₀, scratch₀, reply₀, Deed, feed, allow, done, calls, all-lent, afterAll, HandsBadly, hands-badly, turnsRight, ClosesBadly, closes-badly, StaysOpen, stays-open}
+use Rattle.protocol.proofs.Starred.{computing}
+use Rattle.protocol.proofs.Refuting.{carry₀, scratch₀, reply₀, Deed, feed, allow, done, calls, all-lent, afterAll}
+use Rattle.protocol.proofs.Refuting.{HandsBadly, hands-badly, turnsRight, ClosesBadly, closes-badly, StaysOpen, stays-open}
 
 -- a session allowed, a file started in it, and abc written
 abbrev allowed : List Deed
@@ -121,7 +96,7 @@ record Computed : Type 0 where
   ours-parted : length (allGiven ours (start carry₀) (calls ours (start carry₀) parted)) ≡ 1
 
 computed : Computed
-unfolding carry₀ scratch₀ reply₀ indexOf indexAfter every equals startsWith partOf split onto join Base64.valueOf Base64.letterOf Decode.verdictOf Decode.bytesOf Decode.scan Decode.ending Decode.group Base64Text.textOf DecimalRead.parseOf DecimalRead.magnitudeOf DecimalRead.digitsOf DecimalRead.rangedOf Decimal.writable Decimal.textOf Decimal.fixed Decimal.widthFrom rooted validComponent validComponents validName followers sequences readByte stream mayBeCommand stepOf walkFrom heldOf carryOf reportOf scanOf textOf placeIn keyByte safeByte textByte aliasRead wordRead safeRead valueRead isKey fieldRead fieldsRead textRead meaningOf actionOf fileTypeOf transmissionOf commandOf kept readOf first resultIn kindOf statusText replyBytes repliedOf fileChecked fileOf partAsked dataOf finishOf obeyOf settleDone allowedOf scannedFeed feedOf guarded allowOf doneOf marksOf
+unfolding carry₀ scratch₀ reply₀ computing
 computed = record {
   oneTooSmall-closes = record { count = 3; before = refl; after = refl; wrong = refl };
   lastOnly-closes = record { count = 1; before = refl; after = refl; wrong = refl };
@@ -150,7 +125,8 @@ computed = record {
 cut-closer-lost : CutsAlike closerLost → ⊥
 cut-closer-lost alike =
     let w = start carry₀ in
-    let same = alike carry₀ carry₀ (calls closerLost w whole) (calls closerLost w parted) (all-lent closerLost w whole) (all-lent closerLost w parted)
+    let lent = all-lent closerLost w in
+    let same = alike carry₀ carry₀ (calls closerLost w whole) (calls closerLost w parted) (lent whole) (lent parted)
     (computed .same-bytes) (computed .same-calls) in
     let z : _≡_ {A = ℕ} 1 0 = sym (computed .one-report) ∙ ap length (same .0) ∙ computed .no-report in
     omega arith
@@ -163,7 +139,8 @@ refused-consumes every =
 
 feed-stalls : EveryCall stalling → ⊥
 feed-stalls every =
-    let z : 1 ≤ 0 = every freshReceiver empty-sized (65 ∷ []) carry₀ scratch₀ reply₀ [] Failure.Eio .feeds .progress (computed .stalling-told) (omega arith) in
+    let feeds = every freshReceiver empty-sized (65 ∷ []) carry₀ scratch₀ reply₀ [] Failure.Eio .feeds in
+    let z : 1 ≤ 0 = feeds .progress (computed .stalling-told) (omega arith) in
     omega arith
 
 pub teeth : Teeth
