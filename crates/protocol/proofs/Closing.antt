@@ -69,7 +69,8 @@ not-done : FileState.Started ≡ FileState.Done → ⊥
 not-done e = let z : _≡_ {A = ℕ} 0 1 = cc in omega arith
 
 -- what a record is done as
-done-as : (k : Key) (c quiet : ℕ) (s : Session) (f : FileRecord) → isDoneAs k c quiet s f ≡ true → (k ≡ keyOf s f) × (c ≡ f .count) × (quiet ≡ s .quiet)
+done-as : (k : Key) (c quiet : ℕ) (s : Session) (f : FileRecord) → isDoneAs k c quiet s f ≡ true
+    → (k ≡ keyOf s f) × (c ≡ f .count) × (quiet ≡ s .quiet)
 done-as k c quiet s f e =
     let ids : Bool = both (equals (fileIdOf f) (k .file)) (both (eqb (f .count) c) (eqb (s .quiet) quiet)) in
     let a = both-test (isDone (f .state)) (both (equals (idOf s) (k .id)) ids) e in
@@ -95,7 +96,8 @@ module _ (ss : List Session) (o : Owed) (i j n : ℕ) (inside : i < length ss) (
   same-file = getD-set-same (sessionIn ss i .files) j file noFile within
 
   -- one record more is done, with the ids that it had
-  closes-more : isDone (fileAt (sessionIn ss i) j .state) ≡ false → Closes (table ss o) closedTable (keyAt (table ss o) i j) n (sessionIn ss i .quiet)
+  closes-more : isDone (fileAt (sessionIn ss i) j .state) ≡ false
+      → Closes (table ss o) closedTable (keyAt (table ss o) i j) n (sessionIn ss i .quiet)
   closes-more e =
       let s = sessionIn ss i in
       put-more (keyOf s (fileAt s j)) n (s .quiet) (table ss o) i j file Owed.Nothing inside within (rw e)
@@ -106,13 +108,16 @@ module _ (ss : List Session) (o : Owed) (i j n : ℕ) (inside : i < length ss) (
       → (k ≡ keyAt (table ss o) i j) × (c ≡ n) × (quiet ≡ sessionIn ss i .quiet)
   only-closes k c quiet more = go (isDoneAs k c quiet (sessionIn ss i) file) refl
     where
-      go : (b : Bool) → isDoneAs k c quiet (sessionIn ss i) file ≡ b → (k ≡ keyAt (table ss o) i j) × (c ≡ n) × (quiet ≡ sessionIn ss i .quiet)
+      go : (b : Bool) → isDoneAs k c quiet (sessionIn ss i) file ≡ b
+          → (k ≡ keyAt (table ss o) i j) × (c ≡ n) × (quiet ≡ sessionIn ss i .quiet)
       go true e = done-as k c quiet (sessionIn ss i) file e
       go false e = absurd (omega (arith, each-le k c quiet (table ss o) closedTable still))
         where
           still : (i′ j′ : ℕ) → isDoneAs k c quiet (sessionAt closedTable i′) (fileAt (sessionAt closedTable i′) j′) ≡ true
               → isDoneAs k c quiet (sessionIn ss i′) (fileAt (sessionIn ss i′) j′) ≡ true
-          still i′ j′ h = by (only-there (table ss o) i j file Owed.Nothing i′ j′ (counts-done k c quiet (sessionAt closedTable i′) (fileAt (sessionAt closedTable i′) j′) h))
+          still i′ j′ h =
+              let s = sessionAt closedTable i′ in
+              by (only-there (table ss o) i j file Owed.Nothing i′ j′ (counts-done k c quiet s (fileAt s j′) h))
             where
               by : WasDone (sessionIn ss i′) (sessionAt closedTable i′) j′ ⊎ ((i′ ≡ i) × (j′ ≡ j) × (file .state ≡ FileState.Done))
                   → isDoneAs k c quiet (sessionIn ss i′) (fileAt (sessionIn ss i′) j′) ≡ true
@@ -198,27 +203,29 @@ module _ (g : Framing) (ss : List Session) (carry : List ℕ) (h : List Event) (
         }
 
   -- ---- whatever is owed
-  pub turned : ReplyLaw → (o : Owed) → WorldOK (world g ss o carry h) → (k : Key) (s quiet : ℕ) → Closes (table ss o) (settleDone (table ss o) o .table) k s quiet
+  pub turned : ReplyLaw → (o : Owed) → WorldOK (world g ss o carry h) → (k : Key) (s quiet : ℕ)
+      → Closes (table ss o) (settleDone (table ss o) o .table) k s quiet
       → DirectoryAsked k (marksOf h) ⊎ ClosedWhole (world g ss o carry h) reply k s quiet
   unfolding settleDone
-  turned law Owed.Nothing ok k s quiet c = absurd (none-closes (table ss Owed.Nothing) (settleDone (table ss Owed.Nothing) Owed.Nothing .table) k s quiet (none-same (table ss Owed.Nothing) Owed.Nothing) c)
+  turned law Owed.Nothing ok k s quiet c =
+      let t = table ss Owed.Nothing in absurd (none-closes t (settleDone t Owed.Nothing .table) k s quiet (none-same t Owed.Nothing) c)
   turned law (Owed.OpenFile i j) ok k s quiet c =
-      let o = Owed.OpenFile i j in
-      absurd (none-closes (table ss o) (settleDone (table ss o) o .table) k s quiet (none-file (table ss (Owed.OpenFile i j)) i j _ Owed.Nothing not-done) c)
+      let o = Owed.OpenFile i j in let t = table ss o in
+      absurd (none-closes t (settleDone t o .table) k s quiet (none-file t i j _ Owed.Nothing not-done) c)
   turned law (Owed.OpenDirectory i j) ok k s quiet c =
       let a = asking (ok .table) refl in
       let e = only-closes ss (Owed.OpenDirectory i j) i j 0 (a .inside) (a .about .at .within) k s quiet c in
       rw (e .0) (inl (directory-turns i j ok))
   turned law (Owed.Write i j n) ok k s quiet c =
-      let o = Owed.Write i j n in
-      absurd (none-closes (table ss o) (settleDone (table ss o) o .table) k s quiet (none-file (table ss (Owed.Write i j n)) i j _ Owed.Nothing not-done) c)
+      let o = Owed.Write i j n in let t = table ss o in
+      absurd (none-closes t (settleDone t o .table) k s quiet (none-file t i j _ Owed.Nothing not-done) c)
   turned law (Owed.WriteLast i j n) ok k s quiet c =
       let a = asking (ok .table) refl in
       let e = only-closes ss (Owed.WriteLast i j n) i j _ (a .inside) (a .about .at .within) k s quiet c in
       rw (e .0, e .1, e .2) (inr (whole i j n ok law))
   turned law (Owed.Commit i) ok k s quiet c =
-      let o = Owed.Commit i in
-      absurd (none-closes (table ss o) (settleDone (table ss o) o .table) k s quiet (none-free (table ss (Owed.Commit i)) i _ Owed.Nothing free-files) c)
+      let o = Owed.Commit i in let t = table ss o in
+      absurd (none-closes t (settleDone t o .table) k s quiet (none-free t i _ Owed.Nothing free-files) c)
 
   -- a last part asked last and answered is the one that is owed
   pub closed : (o : Owed) → WorldOK (world g ss o carry h) → (d : Command) (p : List ℕ) → lastAsk (marksOf h) ≡ Question.asks d (Heard.writesLast p)

@@ -42,7 +42,10 @@ done-state FileState.Failed e = no-way (sym e)
 -- a record that is done was so before, with the same ids, count and quiet
 abbrev pub WasDone : Session → Session → ℕ → Type 0
 WasDone s s′ j =
-    (fileAt s j .state ≡ FileState.Done) × (keyOf s (fileAt s j) ≡ keyOf s′ (fileAt s′ j)) × (fileAt s j .count ≡ fileAt s′ j .count) × (s .quiet ≡ s′ .quiet)
+    (fileAt s j .state ≡ FileState.Done)
+    × (keyOf s (fileAt s j) ≡ keyOf s′ (fileAt s′ j))
+    × (fileAt s j .count ≡ fileAt s′ j .count)
+    × (s .quiet ≡ s′ .quiet)
 
 abbrev pub NoneDone : Table → Table → Type 0
 NoneDone t t′ = (i j : ℕ) → stateAt t′ i j ≡ FileState.Done → WasDone (sessionAt t i) (sessionAt t′ i) j
@@ -58,7 +61,8 @@ module _ {A : Type 0} (d : A) where
       let first : h y ≤ g x = le 0 in let rest : total h ys ≤ total g xs = total-le g h z xs ys (λ i. le (suc i)) in omega arith
 
   -- of one more at one place
-  total-more : (g : A → ℕ) (xs : List A) (i : ℕ) (x : A) → i < length xs → g x ≡ suc (g (getD xs i d)) → total g (set xs i x) ≡ suc (total g xs)
+  total-more : (g : A → ℕ) (xs : List A) (i : ℕ) (x : A) → i < length xs → g x ≡ suc (g (getD xs i d))
+      → total g (set xs i x) ≡ suc (total g xs)
   total-more g [] i x l e = absurd (omega arith)
   total-more g (y ∷ xs) zero x l e = omega arith
   total-more g (y ∷ xs) (suc i) x l e =
@@ -94,10 +98,12 @@ module _ (k : Key) (n quiet : ℕ) where
   each-le t t′ h =
       total-le noSession (doneIn k n quiet) (doneIn k n quiet) no-session (t .sessions) (t′ .sessions)
       (λ i. let s = sessionAt t i in let s′ = sessionAt t′ i in
-      total-le noFile (λ (f : FileRecord). pick (counts s f) 1 0) (λ (f : FileRecord). pick (counts s′ f) 1 0) (no-file s) (s .files) (s′ .files)
+      let one : Session → FileRecord → ℕ = λ x f. pick (counts x f) 1 0 in
+      total-le noFile (one s) (one s′) (no-file s) (s .files) (s′ .files)
       (λ j. one-le (counts s′ (fileAt s′ j)) (counts s (fileAt s j)) (h i j)))
 
-  pub was-le : (t t′ : Table) (i j : ℕ) → WasDone (sessionAt t i) (sessionAt t′ i) j → counts (sessionAt t′ i) (fileAt (sessionAt t′ i) j) ≡ true
+  pub was-le : (t t′ : Table) (i j : ℕ) → WasDone (sessionAt t i) (sessionAt t′ i) j
+      → counts (sessionAt t′ i) (fileAt (sessionAt t′ i) j) ≡ true
       → counts (sessionAt t i) (fileAt (sessionAt t i) j) ≡ true
   was-le t t′ i j w e = was-counted (sessionAt t i) (sessionAt t′ i) j (counts-done (sessionAt t′ i) (fileAt (sessionAt t′ i) j) e) w e
 
@@ -106,12 +112,14 @@ module _ (k : Key) (n quiet : ℕ) where
       each-le t t′ (λ i j e. was-le t t′ i j (none i j (counts-done (sessionAt t′ i) (fileAt (sessionAt t′ i) j) e)) e)
 
   -- ---- one more than before, where a record is put that counts and the old one did not
-  pub put-more : (t : Table) (i j : ℕ) (f : FileRecord) (o : Owed) → let s = sessionAt t i in i < length (t .sessions) → j < length (s .files)
+  pub put-more : (t : Table) (i j : ℕ) (f : FileRecord) (o : Owed) → let s = sessionAt t i in
+      i < length (t .sessions) → j < length (s .files)
       → counts s (fileAt s j) ≡ false → counts s f ≡ true
       → doneAs k n quiet t < doneAs k n quiet (record { sessions = set (t .sessions) i (putFile s j f); owed = o })
   put-more t i j f o inside within a b =
       let s = sessionAt t i in
       let one : FileRecord → ℕ = λ g. pick (counts s g) 1 0 in
       let here : one f ≡ suc (one (fileAt s j)) = rw (a, b) in
-      let more = total-more noSession (doneIn k n quiet) (t .sessions) i (putFile s j f) inside (total-more noFile one (s .files) j f within here) in
+      let more-here = total-more noFile one (s .files) j f within here in
+      let more = total-more noSession (doneIn k n quiet) (t .sessions) i (putFile s j f) inside more-here in
       rw more (omega arith)

@@ -97,7 +97,8 @@ fedBy k s c n =
 
 -- "nothing consumed, all memory as before"
 abbrev pub feedRefused : Receiver → ℕ → Fed
-feedRefused r n = record { receiver = r; consumed = 0; report = Report.Nothing; told = Told.Refused n; command = noCommand; «reply_len» = 0 }
+feedRefused r n =
+    record { receiver = r; consumed = 0; report = Report.Nothing; told = Told.Refused n; command = noCommand; «reply_len» = 0 }
 
 -- after the scan k, which left the carry
 unfoldable pub scannedFeed : Table → List ℕ → Outcome Scanned → List ℕ → List ℕ → Feeding
@@ -108,7 +109,8 @@ scannedFeed t piece k scratch reply =
 
 -- "carry under 8,192, scratch under 6,144 or reply buffer under 124 bytes"
 abbrev pub isShort : List ℕ → List ℕ → List ℕ → Bool
-isShort carry scratch reply = either (ltb (length carry) textLimit) (either (ltb (length scratch) scratchRoom) (ltb (length reply) replyRoom))
+isShort carry scratch reply =
+    either (ltb (length carry) textLimit) (either (ltb (length scratch) scratchRoom) (ltb (length reply) replyRoom))
 
 -- 9 first, then 10: "feed while an answer is owed"
 unfoldable pub feedOf : Receiver → List ℕ → List ℕ → List ℕ → List ℕ → Feeding

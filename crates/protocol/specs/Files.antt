@@ -117,7 +117,8 @@ fileOf t i c text scratch =
 -- "record failed", with its status
 abbrev pub failedFile : Table → ℕ → ℕ → Command → List ℕ → Status → Stepped
 failedFile t i j c text w =
-    fileStatus (putFileAt t i j (moved (fileAt (sessionAt t i) j) FileState.Failed (fileAt (sessionAt t i) j .count))) (sessionAt t i) c text w
+    let f = fileAt (sessionAt t i) j in
+    fileStatus (putFileAt t i j (moved f FileState.Failed (f .count))) (sessionAt t i) c text w
 
 -- a write asked, of the last part or not
 abbrev pub writeOwed : Bool → ℕ → ℕ → ℕ → Owed

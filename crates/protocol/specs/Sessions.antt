@@ -3,7 +3,7 @@ use Prim.Native.Nat.{ℕ}
 use mathlib.Core.List.{List}
 use lib.ListN.{length, replicate}
 use Rattle.command.specs.declared.Command.{Command}
-use Rattle.protocol.specs.Table.{freeFile, padded, sessionAt, findSession, first, isAbsent, putSession, dropAt}
+use Rattle.protocol.specs.Table.{fileRoom, freeFile, padded, sessionAt, findSession, first, isAbsent, putSession, dropAt}
 use Rattle.protocol.specs.Actions.{kindOf}
 use Rattle.protocol.specs.Replies.{noReply, sessionReply}
 use Rattle.protocol.specs.Files.{idIn, stepped, ignored, fileOf, dataOf, finishOf}
@@ -30,7 +30,8 @@ absentStatus t c text w =
 
 abbrev pub askedSession : Command → List ℕ → Session
 askedSession c text =
-    record { state = SessionState.Asked; quiet = c .quiet; id = padded (idIn c text); «id_len» = length (idIn c text); files = replicate 32 freeFile }
+    let id = idIn c text in
+    record { state = SessionState.Asked; quiet = c .quiet; id = padded id; «id_len» = length id; files = replicate fileRoom freeFile }
 
 -- "four present: EBUSY; else asked, console told"
 abbrev pub sendRoom : Table → Command → List ℕ → Found → Stepped
