@@ -37,7 +37,13 @@ reply-parts id file size word =
     let sz = unlessEmpty (ascii "sz") (sizeText size) st in
     let fs = unlessEmpty (ascii "fid") file sz in
     let closing : List ℕ = 0x1B ∷ 0x5C ∷ [] in
-    rw (join-led, led-field (ascii "id") id fs closing, led-field (ascii "fid") file sz closing, led-field (ascii "sz") (sizeText size) st closing, append-nil (Base64.textOf word))
+    rw (
+      join-led,
+      led-field (ascii "id") id fs closing,
+      led-field (ascii "fid") file sz closing,
+      led-field (ascii "sz") (sizeText size) st closing,
+      append-nil (Base64.textOf word),
+    )
 
 -- how long they are
 pub parts-length : (id file size word : List ℕ)
@@ -49,9 +55,12 @@ parts-length id file size word = simp length-append (omega arith)
 
 -- ---- by the reply: due and not held back, not due, held back
 pub sent : (r : Reply) → r .due ≡ true → isHeld (r .status) (r .quiet) ≡ false
-    → replyBytes r ≡ joined (partsOf (take (r .«id_len») (r .id)) (take (r .«file_id_len») (r .«file_id»)) (sizeText (r .size)) (Base64.textOf (statusWord (r .status))))
+    → replyBytes r
+    ≡ joined (partsOf (take (r .«id_len») (r .id)) (take (r .«file_id_len») (r .«file_id»))
+    (sizeText (r .size)) (Base64.textOf (statusWord (r .status))))
 unfolding replyBytes
-sent r d h = rw (d, h) (reply-parts (take (r .«id_len») (r .id)) (take (r .«file_id_len») (r .«file_id»)) (r .size) (statusWord (r .status)))
+sent r d h =
+    rw (d, h) (reply-parts (take (r .«id_len») (r .id)) (take (r .«file_id_len») (r .«file_id»)) (r .size) (statusWord (r .status)))
 
 pub not-due : (r : Reply) → r .due ≡ false → replyBytes r ≡ []
 unfolding replyBytes

@@ -3,3 +3,4 @@ pub mod Joined
 pub mod KeyLaws
 pub mod TextLaws
 pub mod Again
+pub mod Locals

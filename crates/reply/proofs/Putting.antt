@@ -38,7 +38,9 @@ put-length : (o : Outcome ℕ) (p : List ℕ) → length (put o p .buffer) ≡ l
 unfolding put
 put-length o p = go (leb (o .answer + length p) (length (o .buffer)))
   where
-    go : (t : Bool) → length (pick t (outcome (o .answer + length p) (sets (o .buffer) (o .answer) p)) (outcome (o .answer) (o .buffer)) .buffer) ≡ length (o .buffer)
+    go : (t : Bool)
+        → length (pick t (outcome (o .answer + length p) (sets (o .buffer) (o .answer) p)) (outcome (o .answer) (o .buffer)) .buffer)
+        ≡ length (o .buffer)
     go true = length-sets (o .buffer) (o .answer) p
     go false = refl
 

@@ -41,7 +41,8 @@ unfolding writeOf writable
 digits n l h = go (negativeZero n) (outOfRange n)
   where
     go : (z r : Bool)
-        → toEnd (pick z (outcome Written.NegativeZero l) (pick r (outcome Written.OutOfRange l) (storedAt (Written.End (0 + length (textOf n))) Written.NoRoom (textOf n) l 0)))
+        → toEnd (pick z (outcome Written.NegativeZero l) (pick r (outcome Written.OutOfRange l)
+        (storedAt (Written.End (0 + length (textOf n))) Written.NoRoom (textOf n) l 0)))
         ≡ pick (both (not z) (not r)) (textOf n) []
     go true r = refl
     go false true = refl

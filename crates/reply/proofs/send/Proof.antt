@@ -23,7 +23,9 @@ is-held-requires c κs = search needs
 returns-2 : tie.Need-returns-2
 unfolding repliedOf
 returns-2 c =
-    (rw (held (c .before .before .before .before .args .t1) (sym (c .before .is-held .ensures) ∙ c .if2 .taken)) (written-none _), every-status)
+    let told = c .before in
+    let start = told .before .before .before in
+    (rw (held (start .args .t1) (sym (told .is-held .ensures) ∙ c .if2 .taken)) (written-none _), every-status)
 
 size-text-requires : tie.Need-size-text-requires
 size-text-requires c κs = search needs
@@ -85,7 +87,14 @@ returns-3 c =
     let one = two .before .before in
     let a = one .before .before .args in (
       c .before .before .put-fields .ensures
-          ∙ rw (c1 .first .ensures, c2 .first2 .ensures, c3 .first3 .ensures, sz .size-text .ensures, c4 .first4 .ensures, st .status-text .ensures)
+          ∙ rw (
+            c1 .first .ensures,
+            c2 .first2 .ensures,
+            c3 .first3 .ensures,
+            sz .size-text .ensures,
+            c4 .first4 .ensures,
+            st .status-text .ensures,
+          )
           (ap (λ (bs : List ℕ). written bs (a .buffer .now))
           (sym (sent (a .t1) (not-false _ (one .if1 .left)) (sym (two .before .is-held .ensures) ∙ two .if2 .left)))),
       every-status,

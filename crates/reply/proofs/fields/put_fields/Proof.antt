@@ -1,5 +1,6 @@
-use Prim.Native.Nat.{_+_, _≤_}
+use Prim.Native.Nat.{ℕ, _+_, _≤_}
 use mathlib.Core.Path.{_≡_, _∙_, ap}
+use mathlib.Core.List.{List}
 use native.Mathlib.Omega.{arith}
 use lib.ListN.{length}
 use Rattle.octets.specs.Ascii.{ascii}
@@ -29,6 +30,12 @@ slice-aggregate-key-for-3 c = search needs
 key-for-requires-3 : tie.Need-key-for-requires-3
 key-for-requires-3 c κs = search needs
 
+-- the parts of the reply, by what the function is called with
+abbrev parts : tie.Start → List (List ℕ)
+parts start =
+    let a = start .args in
+    partsOf (a .id .now) (a .file .now) (a .size .now) (a .word .now)
+
 -- how long the keys are at most
 keys : (c : tie.After-closing) →
     let c3 = c .before .before in
@@ -50,8 +57,9 @@ total : (c : tie.After-closing) →
     let c3 = c .before .before in
     let c2 = c3 .before .before in
     let c1 = c2 .before .before in
-    let a = c1 .before .before .before .before .before .before .before .before .args in
-    length (joined (partsOf (a .id .now) (a .file .now) (a .size .now) (a .word .now)))
+    let start = c1 .before .before .before .before .before .before .before .before in
+    let a = start .args in
+    length (joined (parts start))
     ≡ 16 + length (c1 .key-for .result .now) + length (a .id .now) + length (c2 .key-for2 .result .now) + length (a .file .now)
     + length (c3 .key-for3 .result .now) + length (a .size .now) + 4 + length (a .word .now) + 2
 total c =
@@ -59,7 +67,8 @@ total c =
     let c2 = c3 .before .before in
     let c1 = c2 .before .before in
     let a = c1 .before .before .before .before .before .before .before .before .args in
-    parts-length (a .id .now) (a .file .now) (a .size .now) (a .word .now) ∙ rw (c1 .key-for .ensures, c2 .key-for2 .ensures, c3 .key-for3 .ensures)
+    parts-length (a .id .now) (a .file .now) (a .size .now) (a .word .now)
+    ∙ rw (c1 .key-for .ensures, c2 .key-for2 .ensures, c3 .key-for3 .ensures)
 
 add-n : tie.Need-add-n
 add-n c = search needs
@@ -90,9 +99,10 @@ add-n-9 c = let k = keys c in omega arith
 
 returns : tie.Need-returns
 returns c =
-    let a = c .before .before .before .before .before .before .before .before .before .before .before .before .before .before .before .args in
-    written-short (joined (partsOf (a .id .now) (a .file .now) (a .size .now) (a .word .now))) (a .buffer .now)
-    (omega (arith, total (c .before), c .if1 .taken))
+    let counted = c .before in
+    let c1 = counted .before .before .before .before .before .before in
+    let start = c1 .before .before .before .before .before .before .before .before in
+    written-short (joined (parts start)) (start .args .buffer .now) (omega (arith, total counted, c .if1 .taken))
 
 put-parts-requires : tie.Need-put-parts-requires
 put-parts-requires c κs = search needs
@@ -102,13 +112,15 @@ same-length c = search needs
 
 returns-2 : tie.Need-returns-2
 returns-2 c =
-    let e = c .before .before .before .before .before .before .before .before in
-    let c3 = e .before .before in
+    let put = c .before .before in
+    let fits = put .before .before .before .before .before in
+    let counted = fits .before in
+    let c3 = counted .before .before in
     let c2 = c3 .before .before in
     let c1 = c2 .before .before in
-    let a = c1 .before .before .before .before .before .before .before .before .args in
-    c .before .before .put-parts .ensures ∙ rw (c1 .key-for .ensures, c2 .key-for2 .ensures, c3 .key-for3 .ensures)
-    (put-all-fits (partsOf (a .id .now) (a .file .now) (a .size .now) (a .word .now)) (a .buffer .now) (omega (arith, total e, c .before .before .before .before .before .before .before .if1 .left)))
+    let start = c1 .before .before .before .before .before .before .before .before in
+    put .put-parts .ensures ∙ rw (c1 .key-for .ensures, c2 .key-for2 .ensures, c3 .key-for3 .ensures)
+    (put-all-fits (parts start) (start .args .buffer .now) (omega (arith, total counted, fits .if1 .left)))
 
 pub put-fields-spec : {M : Type 1} → statement M
 put-fields-spec =

@@ -20,8 +20,11 @@ end-of-requires c κs = search needs
 
 returns-2 : tie.Need-returns-2
 returns-2 c =
-    let size = c .before .before .before .before .before .args .size in
-    rw (c .end-of .ensures) (ap toEnd (c .before .before .write .ensures .0) ∙ digits (count size) _ (digits-fit size) ∙ rw (ne-eqb size 0 (c .before .before .before .before .if1 .left)))
+    let written = c .before .before in
+    let known = written .before .before in
+    let size = known .before .args .size in
+    rw (c .end-of .ensures)
+    (ap toEnd (written .write .ensures .0) ∙ digits (count size) _ (digits-fit size) ∙ rw (ne-eqb size 0 (known .if1 .left)))
 
 pub size-text-spec : {M : Type 1} → statement M
 size-text-spec =

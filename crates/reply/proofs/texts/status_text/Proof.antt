@@ -24,8 +24,9 @@ place-after-requires c κs = search needs
 
 returns : tie.Need-returns
 returns c =
-    let w = c .before .before .before .before .before .before .before .before .word-of in
-    let t = c .before .before .before .before .first in
+    let cut = c .before .before .before .before in
+    let t = cut .first in
+    let w = cut .before .before .before .before .word-of in
     let k : length (w .result .0) ≡ 8 = simp length-map at (w .ok .1 .1 .0 .1 .0 .1) in
     rw (c .place-after .ensures) (encoded (t .result .now) _ _ (c .before .before .encode .ensures .0)
     (omega (arith, length-text (t .result .now), ap length (t .ensures), length-take (w .result .1) (w .result .0)))

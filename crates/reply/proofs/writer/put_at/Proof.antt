@@ -14,8 +14,9 @@ same-length c = search needs
 
 returns : tie.Need-returns
 returns c =
-    let a = c .before .before .before .before .before .before .before .args in
-    rw (c .place-after .ensures) (put-copied (a .part .now) (a .buf .now) (a .at) _ (c .before .before .before .copy-at .ensures))
+    let stored = c .before .before .before in
+    let a = stored .before .before .before .before .args in
+    rw (c .place-after .ensures) (put-copied (a .part .now) (a .buf .now) (a .at) _ (stored .copy-at .ensures))
 
 pub put-at-spec : {M : Type 1} → statement M
 put-at-spec = tie.close (tie.spec copy-at-requires place-after-requires same-length returns)
