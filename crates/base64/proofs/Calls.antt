@@ -37,7 +37,11 @@ encode-decode x out into at to b h k =
     let d = bytes-text x b in
     rw (← n, encode-room x out at (omega arith)) (
       refl,
-      rw (part-stored (textOf x) out at (omega arith), decode-room (textOf x) into to (paddingOf x) (valid-text x b) (omega (arith, ap length d)), d),
+      rw (
+        part-stored (textOf x) out at (omega arith),
+        decode-room (textOf x) into to (paddingOf x) (valid-text x b) (omega (arith, ap length d)),
+        d,
+      ),
     )
 
 -- a text that decodes is valid, and its bytes had room
@@ -58,4 +62,10 @@ pub decode-encode : DecodedEncodes
 decode-encode t out into at to n e h =
     let d = decoded t out at n e in
     let b = text-bytes t (d .0) (d .1) in
-    rw (decode-room t out at (d .0) (d .1) (d .3), d .2, part-stored (bytesOf t) out at (d .3), encode-room (bytesOf t) into to (omega (arith, ap length b)), b)
+    rw (
+      decode-room t out at (d .0) (d .1) (d .3),
+      d .2,
+      part-stored (bytesOf t) out at (d .3),
+      encode-room (bytesOf t) into to (omega (arith, ap length b)),
+      b,
+    )

@@ -115,12 +115,14 @@ scan-groups (a ∷ b ∷ c ∷ d ∷ r) p k l e =
     let s = early (valueOf a) b c d r k (f .1) in
     third (f .0) (s .0) (step _ c _ k (s .1)) (scan-groups r (valueOf d) k (omega arith))
   where
-    fourth : Letter a → Letter b → Letter c → Step (valueOf c) d r k → (scan (valueOf d) r ≡ Valid k → Groups r k) → Groups (a ∷ b ∷ c ∷ d ∷ r) k
+    fourth : Letter a → Letter b → Letter c → Step (valueOf c) d r k
+        → (scan (valueOf d) r ≡ Valid k → Groups r k) → Groups (a ∷ b ∷ c ∷ d ∷ r) k
     fourth ha hb hc (inl s) ih = full ha hb hc (s .0) (ih (s .1))
     fourth ha hb hc (inr (q, inl s)) ih = rw (q, s .0, s .2) (pad1 ha hb hc (s .1))
     fourth ha hb hc (inr (q, inr s)) ih = absurd (omega (arith, ap length (s .0)))
 
-    third : Letter a → Letter b → Step (valueOf b) c (d ∷ r) k → (scan (valueOf d) r ≡ Valid k → Groups r k) → Groups (a ∷ b ∷ c ∷ d ∷ r) k
+    third : Letter a → Letter b → Step (valueOf b) c (d ∷ r) k
+        → (scan (valueOf d) r ≡ Valid k → Groups r k) → Groups (a ∷ b ∷ c ∷ d ∷ r) k
     third ha hb (inl s) ih = fourth ha hb (s .0) (step _ d r k (s .1)) ih
     third ha hb (inr (q, inl s)) ih = absurd (omega (arith, ap length (s .0)))
     third ha hb (inr (q, inr s)) ih = rw (q, s .0, s .2) (pad2 ha hb (s .1))

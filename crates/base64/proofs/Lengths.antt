@@ -45,7 +45,8 @@ bytes-below (a ∷ b ∷ c ∷ []) = tt
 bytes-below (a ∷ b ∷ c ∷ d ∷ r) = go (eqb c pad) (eqb d pad) (bytes-below r)
   where
     go : (x y : Bool) → Bytes (bytesOf r)
-        → Bytes (byte1 (valueOf a) (valueOf b) ∷ pick x (bytesOf r) (byte2 (valueOf b) (valueOf c) ∷ pick y (bytesOf r) (byte3 (valueOf c) (valueOf d) ∷ bytesOf r)))
+        → Bytes (byte1 (valueOf a) (valueOf b)
+        ∷ pick x (bytesOf r) (byte2 (valueOf b) (valueOf c) ∷ pick y (bytesOf r) (byte3 (valueOf c) (valueOf d) ∷ bytesOf r)))
     go true y h = (omega arith, h)
     go false true h = (omega arith, (omega arith, h))
     go false false h = (omega arith, (omega arith, (omega arith, h)))

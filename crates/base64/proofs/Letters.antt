@@ -32,7 +32,16 @@ letter-tested c = pick (eqb (valueOf c) 64) true (both (ltb (valueOf c) 64) (eqb
 value-past : (c : ℕ) → 123 ≤ c → valueOf c ≡ 64
 unfolding valueOf
 value-past c h =
-    rw (le-leb 65 c (omega arith), lt-leb c 90 (omega arith), le-leb 97 c (omega arith), lt-leb c 122 h, le-leb 48 c (omega arith), lt-leb c 57 (omega arith), ne-eqb c 43 (λ e. omega arith), ne-eqb c 47 (λ e. omega arith))
+    rw (
+      le-leb 65 c (omega arith),
+      lt-leb c 90 (omega arith),
+      le-leb 97 c (omega arith),
+      lt-leb c 122 h,
+      le-leb 48 c (omega arith),
+      lt-leb c 57 (omega arith),
+      ne-eqb c 43 (λ e. omega arith),
+      ne-eqb c 47 (λ e. omega arith),
+    )
 
 tested : (c : ℕ) → (valueOf c ≡ 64 → ⊥) → (Letter c) × (letterOf (valueOf c) ≡ c)
 tested c n = go (ltb c 123) refl

@@ -23,13 +23,15 @@ text-groups : (x : List ℕ) → Bytes x → Groups (textOf x) (paddingOf x)
 unfolding textOf
 text-groups [] h = none
 text-groups (a ∷ []) h =
-    pad2 (letter-of (a / 4) (omega arith)) (letter-of (a % 4 * 16 + 0 / 16) (omega arith)) (omega (arith, value-letter (a % 4 * 16 + 0 / 16) (omega arith)))
+    pad2 (letter-of (a / 4) (omega arith)) (letter-of (a % 4 * 16 + 0 / 16) (omega arith))
+    (omega (arith, value-letter (a % 4 * 16 + 0 / 16) (omega arith)))
 text-groups (a ∷ b ∷ []) h =
     pad1 (letter-of (a / 4) (omega arith)) (letter-of (a % 4 * 16 + b / 16) (omega arith)) (letter-of (b % 16 * 4 + 0 / 64) (omega arith))
     (omega (arith, value-letter (b % 16 * 4 + 0 / 64) (omega arith)))
 text-groups (a ∷ b ∷ c ∷ r) h =
     let e : paddingOf (a ∷ b ∷ c ∷ r) ≡ paddingOf r = omega arith in
-    rw e (full (letter-of (a / 4) (omega arith)) (letter-of (a % 4 * 16 + b / 16) (omega arith)) (letter-of (b % 16 * 4 + c / 64) (omega arith)) (letter-of (c % 64) (omega arith))
+    rw e (full (letter-of (a / 4) (omega arith)) (letter-of (a % 4 * 16 + b / 16) (omega arith))
+    (letter-of (b % 16 * 4 + c / 64) (omega arith)) (letter-of (c % 64) (omega arith))
     (text-groups r (h .1 .1 .1)))
 
 -- the text of some bytes is valid, with that much padding
@@ -92,7 +94,8 @@ groups-text : {t : List ℕ} {k : ℕ} → Groups t k → textOf (bytesOf t) ≡
 unfolding bytesOf textOf group
 groups-text none = refl
 groups-text (full {a} {b} {c} {d} ha hb hc hd g) =
-    rw (not-pad c hc, not-pad d hd, char1-back a b ha hb, char2-back a b ha hb c hc, char3-back b c hb hc d hd, char4-back c d hc hd, groups-text g)
+    rw (not-pad c hc, not-pad d hd)
+    (rw (char1-back a b ha hb, char2-back a b ha hb c hc, char3-back b c hb hc d hd, char4-back c d hc hd, groups-text g))
 groups-text (pad1 {a} {b} {c} ha hb hc z) = rw (not-pad c hc, char1-back a b ha hb, char2-back a b ha hb c hc, char3-last b c hb hc z)
 groups-text (pad2 {a} {b} ha hb z) = rw (char1-back a b ha hb, char2-last a b ha hb z)
 

@@ -31,7 +31,8 @@ scan-at t i p h = rw (drop-at t i h)
 before-next : (t : List ℕ) (i : ℕ) → valueBefore t (i + 1) ≡ valueOf (getD t i 0)
 before-next t i = let e : (i + 1) - 1 ≡ i = omega arith in rw (ne-eqb (i + 1) 0 (λ q. omega arith), e)
 
-letter-past : (t : List ℕ) (i : ℕ) → i < length t → isLetter (getD t i 0) ≡ true → scan (valueBefore t i) (drop i t) ≡ scan (valueBefore t (i + 1)) (drop (i + 1) t)
+letter-past : (t : List ℕ) (i : ℕ) → i < length t → isLetter (getD t i 0) ≡ true
+    → scan (valueBefore t i) (drop i t) ≡ scan (valueBefore t (i + 1)) (drop (i + 1) t)
 letter-past t i h e = scan-at t i (valueBefore t i) h ∙ rw (not-true (eqb (valueOf (getD t i 0)) 64) e, before-next t i)
 
 pub letters-past : (n : ℕ) (t : List ℕ) (i : ℕ) → i + n ≤ length t → every isLetter (take n (drop i t)) ≡ true
@@ -70,7 +71,18 @@ drop-at-4 t i h =
     let e : i + 3 + 1 ≡ i + 4 = omega arith in
     rw (drop-at-3 t i (omega arith), drop-at t (i + 3) (omega arith), e)
 
--- the bytes of a group are one, two or three, by its padding
+-- the bytes of the group at place i
+module _ (t : List ℕ) (i : ℕ) where
+  abbrev pub first-byte : ℕ
+  first-byte = byte1 (valueOf (getD t i 0)) (valueOf (getD t (i + 1) 0))
+
+  abbrev pub second-byte : ℕ
+  second-byte = byte2 (valueOf (getD t (i + 1) 0)) (valueOf (getD t (i + 2) 0))
+
+  abbrev pub third-byte : ℕ
+  third-byte = byte3 (valueOf (getD t (i + 2) 0)) (valueOf (getD t (i + 3) 0))
+
+-- they are one, two or three, by its padding
 module _ (t : List ℕ) (i : ℕ) (h : i + 4 ≤ length t) where
   bytes-at : bytesOf (drop i t) ≡ group (getD t i 0) (getD t (i + 1) 0) (getD t (i + 2) 0) (getD t (i + 3) 0) (bytesOf (drop (i + 4) t))
   unfolding bytesOf
@@ -81,15 +93,14 @@ module _ (t : List ℕ) (i : ℕ) (h : i + 4 ≤ length t) where
   some-byte = omega (arith, ap length bytes-at)
 
   pub one-byte : getD t (i + 2) 0 ≡ pad
-      → bytesOf (drop i t) ≡ byte1 (valueOf (getD t i 0)) (valueOf (getD t (i + 1) 0)) ∷ bytesOf (drop (i + 4) t)
+      → bytesOf (drop i t) ≡ first-byte t i ∷ bytesOf (drop (i + 4) t)
   unfolding group
   one-byte e = bytes-at ∙ rw (eq-eqb _ _ e)
 
   module _ (n : getD t (i + 2) 0 ≡ pad → ⊥) where
     more-bytes : bytesOf (drop i t)
-        ≡ byte1 (valueOf (getD t i 0)) (valueOf (getD t (i + 1) 0))
-        ∷ byte2 (valueOf (getD t (i + 1) 0)) (valueOf (getD t (i + 2) 0))
-        ∷ pick (eqb (getD t (i + 3) 0) pad) (bytesOf (drop (i + 4) t)) (byte3 (valueOf (getD t (i + 2) 0)) (valueOf (getD t (i + 3) 0)) ∷ bytesOf (drop (i + 4) t))
+        ≡ first-byte t i ∷ second-byte t i
+        ∷ pick (eqb (getD t (i + 3) 0) pad) (bytesOf (drop (i + 4) t)) (third-byte t i ∷ bytesOf (drop (i + 4) t))
     unfolding group
     more-bytes = bytes-at ∙ rw (ne-eqb _ _ n)
 
@@ -97,18 +108,11 @@ module _ (t : List ℕ) (i : ℕ) (h : i + 4 ≤ length t) where
     some-bytes = omega (arith, ap length more-bytes)
 
     pub two-bytes : getD t (i + 3) 0 ≡ pad
-        → bytesOf (drop i t)
-        ≡ byte1 (valueOf (getD t i 0)) (valueOf (getD t (i + 1) 0))
-        ∷ byte2 (valueOf (getD t (i + 1) 0)) (valueOf (getD t (i + 2) 0))
-        ∷ bytesOf (drop (i + 4) t)
+        → bytesOf (drop i t) ≡ first-byte t i ∷ second-byte t i ∷ bytesOf (drop (i + 4) t)
     two-bytes e = more-bytes ∙ rw (eq-eqb _ _ e)
 
     pub three-bytes : (getD t (i + 3) 0 ≡ pad → ⊥)
-        → bytesOf (drop i t)
-        ≡ byte1 (valueOf (getD t i 0)) (valueOf (getD t (i + 1) 0))
-        ∷ byte2 (valueOf (getD t (i + 1) 0)) (valueOf (getD t (i + 2) 0))
-        ∷ byte3 (valueOf (getD t (i + 2) 0)) (valueOf (getD t (i + 3) 0))
-        ∷ bytesOf (drop (i + 4) t)
+        → bytesOf (drop i t) ≡ first-byte t i ∷ second-byte t i ∷ third-byte t i ∷ bytesOf (drop (i + 4) t)
     three-bytes e = more-bytes ∙ rw (ne-eqb _ _ e)
 
 -- after the last group there are none

@@ -12,15 +12,25 @@ use Rattle.base64.proofs.decode.Statement.{statement}
 use Rattle.base64.proofs.decode.Tie as tie
 
 -- where `check` answered `Valid`
-valid : (c : tie.After-known-told) → verdictOf (c .before .before .before .before .before .before .args .text .now) ≡ Valid (c .before .padding .given .0 .0)
-valid c = sym (c .before .before .before .check .ensures) ∙ c .before .padding .given .1
+valid : (c : tie.After-known-told) →
+    let told = c .before in
+    let t = told .before .before .before .before .before .args .text .now in
+    verdictOf t ≡ Valid (told .padding .given .0 .0)
+valid c =
+    let told = c .before in
+    sym (told .before .before .check .ensures) ∙ told .padding .given .1
 
-sizes : (c : tie.After-known-told) → let t = c .before .before .before .before .before .before .args .text .now in
-    (length t % 4 ≡ 0) × (length (bytesOf t) + c .before .padding .given .0 .0 ≡ length t / 4 * 3)
+sizes : (c : tie.After-known-told) →
+    let told = c .before in
+    let t = told .before .before .before .before .before .args .text .now in
+    (length t % 4 ≡ 0) × (length (bytesOf t) + told .padding .given .0 .0 ≡ length t / 4 * 3)
 sizes c = length-valid _ _ (valid c)
 
 -- so many bytes are asked for
-size : (c : tie.After-known-told) → let t = c .before .before .before .before .before .before .args .text .now in length (bytesOf t) ≡ length t / 4 * 3 - c .before .padding .given .0 .0
+size : (c : tie.After-known-told) →
+    let told = c .before in
+    let t = told .before .before .before .before .before .args .text .now in
+    length (bytesOf t) ≡ length t / 4 * 3 - told .padding .given .0 .0
 size c = omega (arith, sizes c)
 
 check-requires : tie.Need-check-requires
@@ -47,8 +57,10 @@ returns c =
 
 fill-requires : tie.Need-fill-requires
 fill-requires c κs =
-    let k = c .before .before .before in
-    (valid k, rw (size k) (leb-true _ _ (sym (c .before .before .fits2 .ensures) ∙ not-false _ (c .before .if1 .left))))
+    let e = c .before in
+    let f = e .before in
+    let k = f .before in
+    (valid k, rw (size k) (leb-true _ _ (sym (f .fits2 .ensures) ∙ not-false _ (e .if1 .left))))
 
 enum-known-fault : tie.Need-enum-known-fault
 enum-known-fault c = search needs
@@ -66,7 +78,9 @@ returns-2 c =
 
 returns-3 : tie.Need-returns-3
 unfolding decodeOf
-returns-3 c = (rw (← c .before .before .before .check .ensures, c .before .fault .given .1), decode-encode)
+returns-3 c =
+    let told = c .before in
+    (rw (← told .before .before .check .ensures, told .fault .given .1), decode-encode)
 
 pub decode-spec : {M : Type 1} → statement M
 decode-spec =

@@ -11,8 +11,13 @@ use Rattle.base64.proofs.encode.Statement.{statement}
 use Rattle.base64.proofs.encode.Tie as tie
 
 -- past the test the text fits
-room : (c : tie.Else1) → let a = c .before .before .before .before .args in a .at + length (textOf (a .«data» .now)) ≤ length (a .out .now)
-room c = rw (length-text (c .before .before .before .before .args .«data» .now)) (leb-true _ _ (sym (c .before .fits2 .ensures) ∙ not-false _ (c .if1 .left)))
+room : (c : tie.Else1) →
+    let a = c .before .before .before .before .args in
+    a .at + length (textOf (a .«data» .now)) ≤ length (a .out .now)
+room c =
+    let f = c .before in
+    let d = f .before .before .before .args .«data» .now in
+    rw (length-text d) (leb-true _ _ (sym (f .fits2 .ensures) ∙ not-false _ (c .if1 .left)))
 
 add-n : tie.Need-add-n
 add-n c = search needs
@@ -27,13 +32,17 @@ returns : tie.Need-returns
 unfolding encodeOf
 returns c =
     let f = c .before .fits2 in
-    (rw (length-text (c .before .before .before .before .args .«data» .now), ← f .ensures, not-true (f .result) (c .if1 .taken)), encode-decode)
+    let d = c .before .before .before .before .args .«data» .now in
+    (rw (length-text d, ← f .ensures, not-true (f .result) (c .if1 .taken)), encode-decode)
 
 fill-requires : tie.Need-fill-requires
 fill-requires c κs = room (c .before)
 
 add-t7 : tie.Need-add-t7
-add-t7 c = omega (arith, room (c .before .before .before .before), length-text (c .before .before .before .before .before .before .before .before .args .«data» .now))
+add-t7 c =
+    let e = c .before .before .before .before in
+    let d = e .before .before .before .before .args .«data» .now in
+    omega (arith, room e, length-text d)
 
 same-length : tie.Need-same-length
 same-length c = search needs

@@ -18,7 +18,11 @@ row-requires-3 c κs = search needs
 
 returns : tie.Need-returns
 unfolding valueOf
-returns c = (c .row3 .ensures .0 ∙ rw (c .before .row2 .ensures .0, c .before .before .row .ensures .0, c .before .before .before .sign .ensures .0), c .row3 .ensures .1)
+returns c =
+    let two = c .before in
+    let one = two .before in
+    let signs = one .before in
+    (c .row3 .ensures .0 ∙ rw (two .row2 .ensures .0, one .row .ensures .0, signs .sign .ensures .0), c .row3 .ensures .1)
 
 pub value-spec : {M : Type 1} → statement M
 value-spec = tie.close (tie.spec sign-requires row-requires row-requires-2 row-requires-3 returns)

@@ -28,7 +28,11 @@ before-requires c κs = c .pass-letters .ensures .0
 
 loop-holds : tie.Need-loop-holds Inv-loop μ-loop
 unfolding verdictOf
-loop-holds c = (c .before .pass-letters .ensures .0, rw (c .before2 .ensures, eq-eqb _ _ (c .before .before .if1 .left)) (c .before .pass-letters .ensures .1))
+loop-holds c =
+    let p = c .before in
+    let even = p .before in
+    let past = p .pass-letters .ensures in
+    (past .0, rw (c .before2 .ensures, eq-eqb _ _ (even .if1 .left)) (past .1))
 
 shared-slice-read-c : tie.Need-shared-slice-read-c Inv-loop μ-loop
 shared-slice-read-c c = omega arith
@@ -44,15 +48,23 @@ ending-requires c κs = omega arith
 
 returns-2 : tie.Need-returns-2 Inv-loop μ-loop
 returns-2 c =
-    let l = c .before .before .before .before .before .before .loop in
+    let sign = c .before in
+    let other = sign .before in
+    let v = other .before in
+    let l = v .before .before .before .loop in
     c .ending .ensures
-    ∙ sym (scan-at _ (l .i) (l .p) (omega arith) ∙ rw (← c .before .before .before .value .ensures .0, eq-eqb _ _ (c .before .before .if2 .taken), eq-eqb _ _ (c .before .if3 .taken)))
+    ∙ sym (scan-at _ (l .i) (l .p) (omega arith)
+    ∙ rw (← v .value .ensures .0, eq-eqb _ _ (other .if2 .taken), eq-eqb _ _ (sign .if3 .taken)))
     ∙ l .inv .1
 
 returns-3 : tie.Need-returns-3 Inv-loop μ-loop
 returns-3 c =
-    let l = c .before .before .before .before .before .loop in
-    sym (scan-at _ (l .i) (l .p) (omega arith) ∙ rw (← c .before .before .value .ensures .0, eq-eqb _ _ (c .before .if2 .taken), ne-eqb _ _ (c .if3 .left))) ∙ l .inv .1
+    let other = c .before in
+    let v = other .before in
+    let l = v .before .before .before .loop in
+    sym (scan-at _ (l .i) (l .p) (omega arith)
+    ∙ rw (← v .value .ensures .0, eq-eqb _ _ (other .if2 .taken), ne-eqb _ _ (c .if3 .left)))
+    ∙ l .inv .1
 
 loop-less : tie.Need-loop-less Inv-loop μ-loop
 loop-less c = omega arith

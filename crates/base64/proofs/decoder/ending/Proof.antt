@@ -13,7 +13,9 @@ unused-requires : tie.Need-unused-requires
 unused-requires c κs = search needs
 
 returns : tie.Need-returns
-returns c = let a = c .before .before .before .args in c .unused .ensures ∙ sym (ending-none (a .text .now) (a .i) (a .p) (omega arith))
+returns c =
+    let a = c .before .before .before .args in
+    c .unused .ensures ∙ sym (ending-none (a .text .now) (a .i) (a .p) (omega arith))
 
 shared-slice-read-if3 : tie.Need-shared-slice-read-if3
 shared-slice-read-if3 c = search needs
@@ -23,8 +25,9 @@ unused-requires-2 c κs = search needs
 
 returns-2 : tie.Need-returns-2
 returns-2 c =
-    let a = c .before .before .before .before .before .before .args in
-    c .unused2 .ensures ∙ sym (ending-one (a .text .now) (a .i) (a .p) (omega arith) ∙ rw (eq-eqb _ _ (c .before .if3 .taken)))
+    let padded = c .before in
+    let a = padded .before .before .before .before .before .args in
+    c .unused2 .ensures ∙ sym (ending-one (a .text .now) (a .i) (a .p) (omega arith) ∙ rw (eq-eqb _ _ (padded .if3 .taken)))
 
 returns-3 : tie.Need-returns-3
 returns-3 c =
@@ -32,7 +35,9 @@ returns-3 c =
     sym (ending-one (a .text .now) (a .i) (a .p) (omega arith) ∙ rw (ne-eqb _ _ (c .if3 .left)))
 
 returns-4 : tie.Need-returns-4
-returns-4 c = let a = c .before .before .before .args in sym (ending-more (a .text .now) (a .i) (a .p) (omega arith))
+returns-4 c =
+    let a = c .before .before .before .args in
+    sym (ending-more (a .text .now) (a .i) (a .p) (omega arith))
 
 pub ending-spec : {M : Type 1} → statement M
 ending-spec =

@@ -1,4 +1,4 @@
-use Prim.Native.Nat.{ℕ, _+_, _≤_}
+use Prim.Native.Nat.{ℕ, _+_}
 use mathlib.Core.Path.{_≡_, refl, ap}
 use mathlib.Core.List.{List}
 use native.Mathlib.Omega.{arith}
@@ -6,25 +6,24 @@ use lib.ListN.{length, getD, drop, set, length-set}
 use lib.Seq.{sets}
 use borrow.Author.Needs.{needs}
 use Rattle.octets.proofs.Stores.{put1, put2, put3}
-use Rattle.base64.specs.Alphabet.{pad, valueOf}
-use Rattle.base64.specs.Decode.{byte1, byte2, byte3, bytesOf}
+use Rattle.base64.specs.Alphabet.{pad}
+use Rattle.base64.specs.Decode.{bytesOf}
+use Rattle.base64.proofs.Turns.{first-byte, second-byte, third-byte}
 use Rattle.base64.proofs.Turns.{some-byte, some-bytes, one-byte, two-bytes, three-bytes, no-bytes}
 use Rattle.base64.proofs.decoder.last.Statement.{statement}
 use Rattle.base64.proofs.decoder.last.Tie as tie
 
 -- one, two or three bytes, by the padding
 module _ (l : List ℕ) (o : ℕ) (t : List ℕ) (i : ℕ) (h : i + 4 ≡ length t) where
-  stored1 : getD t (i + 2) 0 ≡ pad → set l o (byte1 (valueOf (getD t i 0)) (valueOf (getD t (i + 1) 0))) ≡ sets l o (bytesOf (drop i t))
+  stored1 : getD t (i + 2) 0 ≡ pad → set l o (first-byte t i) ≡ sets l o (bytesOf (drop i t))
   stored1 e = rw (no-bytes t (i + 4) (omega arith)) at (put1 l o (one-byte t i (omega arith) e) refl)
 
   stored2 : (getD t (i + 2) 0 ≡ pad → ⊥) → getD t (i + 3) 0 ≡ pad
-      → set (set l o (byte1 (valueOf (getD t i 0)) (valueOf (getD t (i + 1) 0)))) (o + 1) (byte2 (valueOf (getD t (i + 1) 0)) (valueOf (getD t (i + 2) 0)))
-      ≡ sets l o (bytesOf (drop i t))
+      → set (set l o (first-byte t i)) (o + 1) (second-byte t i) ≡ sets l o (bytesOf (drop i t))
   stored2 n e = rw (no-bytes t (i + 4) (omega arith)) at (put2 l o (two-bytes t i (omega arith) n e) refl)
 
   stored3 : (getD t (i + 2) 0 ≡ pad → ⊥) → (getD t (i + 3) 0 ≡ pad → ⊥)
-      → set (set (set l o (byte1 (valueOf (getD t i 0)) (valueOf (getD t (i + 1) 0)))) (o + 1) (byte2 (valueOf (getD t (i + 1) 0)) (valueOf (getD t (i + 2) 0)))) (o + 2) (byte3 (valueOf (getD t (i + 2) 0)) (valueOf (getD t (i + 3) 0)))
-      ≡ sets l o (bytesOf (drop i t))
+      → set (set (set l o (first-byte t i)) (o + 1) (second-byte t i)) (o + 2) (third-byte t i) ≡ sets l o (bytesOf (drop i t))
   stored3 n e = rw (no-bytes t (i + 4) (omega arith)) at (put3 l o (three-bytes t i (omega arith) n e) refl)
 
 shared-slice-read-value : tie.Need-shared-slice-read-value
@@ -59,7 +58,10 @@ byte1-requires c κs = search needs
 
 slice-write-out : tie.Need-slice-write-out
 slice-write-out c =
-    let a = c .before .before .before .before .before .before .before .before .before .args in
+    let v2 = c .before .before .before in
+    let v1 = v2 .before .before in
+    let start = v1 .before .before .before .before in
+    let a = start .args in
     omega (arith, some-byte (a .text .now) (a .i) (omega arith))
 
 same-length : tie.Need-same-length
@@ -67,8 +69,13 @@ same-length c = search needs
 
 returns : tie.Need-returns
 returns c =
-    let a = c .before .before .before .before .before .before .before .before .before .before .args in
-    rw (c .before .byte1 .ensures, c .before .before .before .before .before .before .value .ensures .0, c .before .before .before .before .value2 .ensures .0) (stored1 (a .out .now) (a .o) (a .text .now) (a .i) (omega arith) (c .if1 .taken))
+    let b1 = c .before in
+    let v2 = b1 .before .before .before in
+    let v1 = v2 .before .before in
+    let start = v1 .before .before .before .before in
+    let a = start .args in
+    rw (b1 .byte1 .ensures, v1 .value .ensures .0, v2 .value2 .ensures .0)
+    (stored1 (a .out .now) (a .o) (a .text .now) (a .i) (start .pre .0) (c .if1 .taken))
 
 value-requires-3 : tie.Need-value-requires-3
 value-requires-3 c κs = search needs
@@ -81,16 +88,28 @@ add-out c = search needs
 
 slice-write-out-2 : tie.Need-slice-write-out-2
 slice-write-out-2 c =
-    let a = c .before .before .before .before .before .before .before .before .before .before .before .before .args in
-    simp length-set (omega (arith, some-bytes (a .text .now) (a .i) (omega arith) (c .before .before .if1 .left)))
+    let e1 = c .before .before in
+    let v2 = e1 .before .before .before .before in
+    let v1 = v2 .before .before in
+    let start = v1 .before .before .before .before in
+    let a = start .args in
+    simp length-set (omega (arith, some-bytes (a .text .now) (a .i) (omega arith) (e1 .if1 .left)))
 
 same-length-2 : tie.Need-same-length-2
 same-length-2 c = search needs
 
 returns-2 : tie.Need-returns-2
 returns-2 c =
-    let a = c .before .before .before .before .before .before .before .before .before .before .before .before .before .args in
-    rw (c .before .byte2 .ensures, c .before .before .value3 .ensures .0, c .before .before .before .before .byte1 .ensures, c .before .before .before .before .before .before .before .before .before .value .ensures .0, c .before .before .before .before .before .before .before .value2 .ensures .0) (stored2 (a .out .now) (a .o) (a .text .now) (a .i) (omega arith) (c .before .before .before .if1 .left) (c .if2 .taken))
+    let b2 = c .before in
+    let v3 = b2 .before in
+    let e1 = v3 .before in
+    let b1 = e1 .before in
+    let v2 = b1 .before .before .before in
+    let v1 = v2 .before .before in
+    let start = v1 .before .before .before .before in
+    let a = start .args in
+    rw (b2 .byte2 .ensures, v3 .value3 .ensures .0, b1 .byte1 .ensures, v1 .value .ensures .0, v2 .value2 .ensures .0)
+    (stored2 (a .out .now) (a .o) (a .text .now) (a .i) (start .pre .0) (e1 .if1 .left) (c .if2 .taken))
 
 value-requires-4 : tie.Need-value-requires-4
 value-requires-4 c κs = search needs
@@ -103,16 +122,40 @@ add-out-2 c = search needs
 
 slice-write-out-3 : tie.Need-slice-write-out-3
 slice-write-out-3 c =
-    let a = c .before .before .before .before .before .before .before .before .before .before .before .before .before .before .before .args in
-    simp length-set (omega (arith, ap length (three-bytes (a .text .now) (a .i) (omega arith) (c .before .before .before .before .before .if1 .left) (c .before .before .if2 .left))))
+    let e2 = c .before .before in
+    let e1 = e2 .before .before .before in
+    let v2 = e1 .before .before .before .before in
+    let v1 = v2 .before .before in
+    let start = v1 .before .before .before .before in
+    let a = start .args in
+    simp length-set
+    (omega (arith, ap length (three-bytes (a .text .now) (a .i) (omega arith) (e1 .if1 .left) (e2 .if2 .left))))
 
 same-length-3 : tie.Need-same-length-3
 same-length-3 c = search needs
 
 returns-3 : tie.Need-returns-3
 returns-3 c =
-    let a = c .before .before .before .before .before .before .before .before .before .before .before .before .before .before .before .args in
-    rw (c .byte3 .ensures, c .before .value4 .ensures .0, c .before .before .before .byte2 .ensures, c .before .before .before .before .value3 .ensures .0, c .before .before .before .before .before .before .byte1 .ensures, c .before .before .before .before .before .before .before .before .before .before .before .value .ensures .0, c .before .before .before .before .before .before .before .before .before .value2 .ensures .0) (stored3 (a .out .now) (a .o) (a .text .now) (a .i) (omega arith) (c .before .before .before .before .before .if1 .left) (c .before .before .if2 .left))
+    let v4 = c .before in
+    let e2 = v4 .before in
+    let b2 = e2 .before in
+    let v3 = b2 .before in
+    let e1 = v3 .before in
+    let b1 = e1 .before in
+    let v2 = b1 .before .before .before in
+    let v1 = v2 .before .before in
+    let start = v1 .before .before .before .before in
+    let a = start .args in
+    rw (
+      c .byte3 .ensures,
+      v4 .value4 .ensures .0,
+      b2 .byte2 .ensures,
+      v3 .value3 .ensures .0,
+      b1 .byte1 .ensures,
+      v1 .value .ensures .0,
+      v2 .value2 .ensures .0,
+    )
+    (stored3 (a .out .now) (a .o) (a .text .now) (a .i) (start .pre .0) (e1 .if1 .left) (e2 .if2 .left))
 
 pub last-spec : {M : Type 1} → statement M
 last-spec =

@@ -32,13 +32,17 @@ loop-less c = search needs
 
 loop-again : tie.Need-loop-again Inv-loop μ-loop
 loop-again c =
-    let l = c .before .before .before .loop in
-    l .inv ∙ rw (c .value .ensures .0) (every-turn isLetter (c .before .before .before .before .before .args .s .now) (l .k) (l .all) (omega arith))
+    let turn = c .before .before .before in
+    let l = turn .loop in
+    let s = turn .before .before .args .s .now in
+    l .inv ∙ rw (c .value .ensures .0) (every-turn isLetter s (l .k) (l .all) (omega arith))
 
 returns : tie.Need-returns Inv-loop μ-loop
 returns c =
-    let l = c .before .loop in
-    sym (l .inv ∙ every-told isLetter (c .before .before .before .args .s .now) (l .k) (l .all) (omega arith))
+    let ended = c .before in
+    let l = ended .loop in
+    let s = ended .before .before .args .s .now in
+    sym (l .inv ∙ every-told isLetter s (l .k) (l .all) (omega arith))
 
 pub letters-spec : {M : Type 1} → statement M
 letters-spec =

@@ -1,4 +1,4 @@
-use Prim.Native.Nat.{_+_, _-_, _≤_}
+use Prim.Native.Nat.{_-_, _≤_}
 use mathlib.Core.Path.{_≡_, refl, sym, _∙_}
 use native.Mathlib.Nat.{add-sub-cancel-left}
 use native.Mathlib.Omega.{arith}
@@ -43,9 +43,15 @@ loop-less c = search needs
 
 loop-again : tie.Need-loop-again Inv-loop μ-loop
 loop-again c =
-    let l = c .before .before .before .before .loop in
-    let t = c .before .before .before .before .before .before .args .text .now in
-    (omega arith, sym (letters-past 64 t (l .i) (omega arith) (rw add-sub-cancel-left at (sym (c .before .letters .ensures) ∙ not-false _ (c .if1 .left)))) ∙ l .inv .1)
+    let told = c .before in
+    let turn = told .before .before .before in
+    let l = turn .loop in
+    let t = turn .before .before .args .text .now in (
+      omega arith,
+      sym (letters-past 64 t (l .i) (omega arith)
+          (rw add-sub-cancel-left at (sym (told .letters .ensures) ∙ not-false _ (c .if1 .left))))
+          ∙ l .inv .1,
+    )
 
 returns : tie.Need-returns Inv-loop μ-loop
 returns c = c .before .loop .inv

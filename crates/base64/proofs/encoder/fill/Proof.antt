@@ -26,6 +26,17 @@ stored : (l : List ℕ) (o : ℕ) {a b c d : ℕ} {r bs x : List ℕ} → bs ≡
     → sets (sets l o (a ∷ b ∷ c ∷ d ∷ [])) (o + 4) r ≡ x
 stored l o e p = simp towards-suc (sym (ap (sets l o) e) ∙ p)
 
+-- a turn takes three bytes, and their four characters have room
+taken : (c : tie.In-loop Inv-loop μ-loop) →
+    let top = c .before in
+    top .loop .i + 3 ≤ length (top .before .before .before .args .«data» .now)
+taken c = omega arith
+
+room : (c : tie.In-loop Inv-loop μ-loop) → let l = c .before .loop in l .o + 4 ≤ length (l .out)
+room c =
+    let top = c .before in
+    omega (arith, ap length (text-group (top .before .before .before .args .«data» .now) (top .loop .i) (taken c)))
+
 loop-holds : tie.Need-loop-holds Inv-loop μ-loop
 loop-holds c = (omega arith, refl, omega arith, refl)
 
@@ -61,28 +72,45 @@ char4-requires c κs = search needs
 
 put-requires : tie.Need-put-requires Inv-loop μ-loop
 put-requires c κs =
-    let l = c .before .before .before .before .before .before .before .before .before .loop in
-    omega (arith, ap length (text-group (c .before .before .before .before .before .before .before .before .before .before .before .before .args .«data» .now) (l .i) (omega arith)))
+    let first = c .before .before .before in
+    let turn = first .before .before .before .before .before in
+    omega (arith, room turn)
 
 add-i : tie.Need-add-i Inv-loop μ-loop
 add-i c = omega arith
 
 add-o : tie.Need-add-o Inv-loop μ-loop
 add-o c =
-    let l = c .before .before .before .before .before .before .before .before .before .before .before .before .loop in
-    omega (arith, ap length (text-group (c .before .before .before .before .before .before .before .before .before .before .before .before .before .before .before .args .«data» .now) (l .i) (omega arith)))
+    let put = c .before .before in
+    let first = put .before .before .before .before in
+    let turn = first .before .before .before .before .before in
+    omega (arith, room turn)
 
 loop-less : tie.Need-loop-less Inv-loop μ-loop
 loop-less c = omega arith
 
 loop-again : tie.Need-loop-again Inv-loop μ-loop
 loop-again c =
-    let l = c .before .before .before .before .before .before .before .before .before .before .before .before .loop in
-    let e = text-group (c .before .before .before .before .before .before .before .before .before .before .before .before .before .before .before .args .«data» .now) (l .i) (omega arith) in (
+    let put = c .before .before in
+    let fourth = put .before in
+    let third = fourth .before in
+    let second = third .before in
+    let first = second .before in
+    let turn = first .before .before .before .before .before in
+    let top = turn .before in
+    let l = top .loop in
+    let e = text-group (top .before .before .before .args .«data» .now) (l .i) (taken turn) in (
       omega arith,
       omega arith,
       omega (arith, ap length e),
-      rw (c .before .before .put .ensures, c .before .before .before .char4 .ensures, c .before .before .before .before .char3 .ensures, c .before .before .before .before .before .char2 .ensures, c .before .before .before .before .before .before .char1 .ensures) (stored (l .out) (l .o) e (l .inv .3)),
+      rw (
+        put .put .ensures,
+        fourth .char4 .ensures,
+        third .char3 .ensures,
+        second .char2 .ensures,
+        first .char1 .ensures,
+      )
+          (stored (l .out) (l .o) e (l .inv .3)),
     )
 
 tail-requires : tie.Need-tail-requires Inv-loop μ-loop
@@ -92,7 +120,9 @@ same-length : tie.Need-same-length Inv-loop μ-loop
 same-length c = omega arith
 
 returns : tie.Need-returns Inv-loop μ-loop
-returns c = c .before .before .tail .ensures ∙ c .before .before .before .before .before .loop .inv .3
+returns c =
+    let last = c .before .before in
+    last .tail .ensures ∙ last .before .before .before .loop .inv .3
 
 pub fill-spec : {M : Type 1} → statement M
 fill-spec =

@@ -1,10 +1,18 @@
-use mathlib.Core.Path.{ap}
+use Prim.Native.Nat.{_+_}
+use mathlib.Core.Path.{_≡_, ap}
 use native.Mathlib.Omega.{arith}
 use lib.ListN.{length}
 use Rattle.base64.proofs.Turns.{text-none, text-one, text-two}
 use borrow.Author.Needs.{needs}
 use Rattle.base64.proofs.encoder.tail.Statement.{statement}
 use Rattle.base64.proofs.encoder.tail.Tie as tie
+
+-- where one byte is left, and where two are
+one-left : (c : tie.Then2) → let a = c .before .before .before .before .before .args in a .i + 1 ≡ length (a .«data» .now)
+one-left c = omega arith
+
+two-left : (c : tie.Else2) → let a = c .before .before .before .before .before .args in a .i + 2 ≡ length (a .«data» .now)
+two-left c = omega arith
 
 sub-left : tie.Need-sub-left
 sub-left c = search needs
@@ -22,15 +30,22 @@ char2-requires : tie.Need-char2-requires
 char2-requires c κs = search needs
 
 put-requires : tie.Need-put-requires
-put-requires c κs = let a = c .before .before .before .before .before .before .before .before .args in omega (arith, ap length (text-one (a .«data» .now) (a .i) (omega arith)))
+put-requires c κs =
+    let one = c .before .before .before in
+    let a = one .before .before .before .before .before .args in
+    omega (arith, ap length (text-one (a .«data» .now) (a .i) (one-left one)))
 
 same-length : tie.Need-same-length
 same-length c = search needs
 
 returns-2 : tie.Need-returns-2
 returns-2 c =
-    let a = c .before .before .before .before .before .before .before .before .before .before .before .args in
-    rw (text-one (a .«data» .now) (a .i) (omega arith), c .before .before .put .ensures) (rw (c .before .before .before .before .char1 .ensures, c .before .before .before .char2 .ensures))
+    let put = c .before .before in
+    let second = put .before in
+    let first = second .before in
+    let one = first .before .before in
+    let a = one .before .before .before .before .before .args in
+    rw (text-one (a .«data» .now) (a .i) (one-left one), put .put .ensures) (rw (first .char1 .ensures, second .char2 .ensures))
 
 add-b : tie.Need-add-b
 add-b c = search needs
@@ -48,15 +63,24 @@ char3-requires : tie.Need-char3-requires
 char3-requires c κs = search needs
 
 put-requires-2 : tie.Need-put-requires-2
-put-requires-2 c κs = let a = c .before .before .before .before .before .before .before .before .before .before .args in omega (arith, ap length (text-two (a .«data» .now) (a .i) (omega arith)))
+put-requires-2 c κs =
+    let two = c .before .before .before .before .before in
+    let a = two .before .before .before .before .before .args in
+    omega (arith, ap length (text-two (a .«data» .now) (a .i) (two-left two)))
 
 same-length-2 : tie.Need-same-length-2
 same-length-2 c = search needs
 
 returns-3 : tie.Need-returns-3
 returns-3 c =
-    let a = c .before .before .before .before .before .before .before .before .before .before .before .before .before .args in
-    rw (text-two (a .«data» .now) (a .i) (omega arith), c .before .before .put2 .ensures) (rw (c .before .before .before .before .before .char12 .ensures, c .before .before .before .before .char22 .ensures, c .before .before .before .char3 .ensures))
+    let put = c .before .before in
+    let third = put .before in
+    let second = third .before in
+    let first = second .before in
+    let two = first .before .before .before in
+    let a = two .before .before .before .before .before .args in
+    rw (text-two (a .«data» .now) (a .i) (two-left two), put .put2 .ensures)
+    (rw (first .char12 .ensures, second .char22 .ensures, third .char3 .ensures))
 
 pub tail-spec : {M : Type 1} → statement M
 tail-spec =
