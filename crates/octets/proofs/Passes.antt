@@ -28,7 +28,8 @@ lacks-cons b x ys = by (eqb x b)
 
 -- ---- a block, tested byte by byte
 module _ (b : ℕ) (s : List ℕ) (k : ℕ) where
-  pub clear-turn : (h : Bool) → k < length s → pick h false (lacks b (drop k s)) ≡ pick (h || eqb (getD s k 0) b) false (lacks b (drop (k + 1) s))
+  pub clear-turn : (h : Bool) → k < length s
+      → pick h false (lacks b (drop k s)) ≡ pick (h || eqb (getD s k 0) b) false (lacks b (drop (k + 1) s))
   clear-turn true l = refl
   clear-turn false l = rw (drop-at s k l) (lacks-cons b (getD s k 0) (drop (k + 1) s))
 

@@ -38,7 +38,8 @@ sets-last (x ∷ xs) l i a =
 
 -- a string copied over the front of the part from a place on, which a slice lends, is stored at that place
 pub sets-part : (src dst : List ℕ) (at : ℕ) → at + length src ≤ length dst
-    → take at dst ++ ((take (length src) src ++ drop (length src) (take (length dst - at) (drop at dst))) ++ drop (length dst - at) (drop at dst))
+    → take at dst
+    ++ ((take (length src) src ++ drop (length src) (take (length dst - at) (drop at dst))) ++ drop (length dst - at) (drop at dst))
     ≡ sets dst at src
 sets-part src dst at h =
     let over : drop (length dst - at) (drop at dst) ≡ [] = drop-end (drop at dst) (length dst - at) (omega (arith, length-drop at dst)) in
@@ -48,7 +49,8 @@ sets-part src dst at h =
 -- the part in which a string was stored is that string
 pub part-stored : (bs l : List ℕ) (at : ℕ) → at + length bs ≤ length l → take (length bs) (drop at (sets l at bs)) ≡ bs
 part-stored bs l at h =
-    rw (sets-eq bs l at h, append-assoc, drop-seam (take at l) (bs ++ drop (at + length bs) l) at (length-take-le at l (omega arith))) (take-append-seam bs _)
+    let n : length (take at l) ≡ at = length-take-le at l (omega arith) in
+    rw (sets-eq bs l at h, append-assoc, drop-seam (take at l) (bs ++ drop (at + length bs) l) at n) (take-append-seam bs _)
 
 -- a store changes no part before its place
 pub part-kept : (b l : List ℕ) (o p n : ℕ) → p + n ≤ o → take n (drop p (sets l o b)) ≡ take n (drop p l)

@@ -12,7 +12,7 @@ use Rattle.octets.proofs.copy_at.Statement.{statement}
 use Rattle.octets.proofs.copy_at.Tie as tie
 
 -- past the test the bytes fit
-room : (c : tie.Else1) → c .before .before .before .before .args .at + length (c .before .before .before .before .args .src .now) ≤ length (c .before .before .before .before .args .dst .now)
+room : (c : tie.Else1) → let a = c .before .before .before .before .args in a .at + length (a .src .now) ≤ length (a .dst .now)
 room c = leb-true _ _ (sym (c .before .fits2 .ensures) ∙ not-false _ (c .if1 .left))
 
 fits-requires : tie.Need-fits-requires
@@ -20,7 +20,9 @@ fits-requires c κs = search needs
 
 returns : tie.Need-returns
 unfolding copyAt
-returns c = rw (← c .before .fits2 .ensures, not-true (c .before .fits2 .result) (c .if1 .taken))
+returns c =
+    let f = c .before .fits2 in
+    rw (← f .ensures, not-true (f .result) (c .if1 .taken))
 
 sub-copy : tie.Need-sub-copy
 sub-copy c = omega (arith, room c)
@@ -42,8 +44,13 @@ same-length c = search needs
 
 returns-2 : tie.Need-returns-2
 unfolding copyAt
-returns-2 c = rw (← c .before .before .before .before .before .fits2 .ensures, not-false (c .before .before .before .before .before .fits2 .result) (c .before .before .before .before .if1 .left), c .before .before .copy .ensures .1)
-    (ap (outcome (End _)) (sets-part (c .before .before .before .before .before .before .before .before .args .src .now) (c .before .before .before .before .before .before .before .before .args .dst .now) (c .before .before .before .before .before .before .before .before .args .at) (room (c .before .before .before .before))))
+returns-2 c =
+    let copied = c .before .before in
+    let e = copied .before .before in
+    let f = e .before .fits2 in
+    let a = e .before .before .before .before .args in
+    rw (← f .ensures, not-false (f .result) (e .if1 .left), copied .copy .ensures .1)
+    (ap (outcome (End _)) (sets-part (a .src .now) (a .dst .now) (a .at) (room e)))
 
 pub copy-at-spec : {M : Type 1} → statement M
 copy-at-spec =

@@ -1,8 +1,6 @@
-use Prim.Native.Nat.{_+_}
-use mathlib.Core.Path.{_≡_, refl, sym, _∙_, ap}
+use mathlib.Core.Path.{_∙_}
 use native.Mathlib.Omega.{arith}
 use native.Mathlib.Nat.{add-zero}
-use lib.ListN.{length, drop}
 use lib.Seq.{take-length}
 use Rattle.bytes.specs.Bytes.{indexOf, slice}
 use Rattle.octets.proofs.Lists.{drop-end}
@@ -12,7 +10,7 @@ use Rattle.octets.proofs.find.Tie as tie
 
 returns : tie.Need-returns
 unfolding indexOf
-returns c = rw (drop-end (c .before .before .args .s .now) (c .before .before .args .from) (omega arith), add-zero)
+returns c = let a = c .before .before .args in rw (drop-end (a .s .now) (a .from) (omega arith), add-zero)
 
 pass-requires : tie.Need-pass-requires
 pass-requires c κs = search needs
@@ -22,7 +20,10 @@ find-requires c κs = search needs
 
 returns-2 : tie.Need-returns-2
 unfolding slice
-returns-2 c = c .find .ensures .0 ∙ rw (take-length (c .before .before .before .before .args .s .now)) (c .before .pass .ensures .1)
+returns-2 c =
+    let passed = c .before in
+    let s = passed .before .before .before .args .s .now in
+    c .find .ensures .0 ∙ rw (take-length s) (passed .pass .ensures .1)
 
 pub find-spec : {M : Type 1} → statement M
 find-spec = tie.close (tie.spec returns pass-requires find-requires returns-2)

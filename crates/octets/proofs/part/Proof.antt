@@ -9,7 +9,7 @@ use Rattle.octets.proofs.part.Statement.{statement}
 use Rattle.octets.proofs.part.Tie as tie
 
 -- past the test the part lies in the slice
-room : (c : tie.Then1) → c .before .before .before .args .start + c .before .before .before .args .n ≤ length (c .before .before .before .args .s .now)
+room : (c : tie.Then1) → let a = c .before .before .before .args in a .start + a .n ≤ length (a .s .now)
 room c = leb-true _ _ (sym (c .before .fits2 .ensures) ∙ c .if1 .taken)
 
 fits-requires : tie.Need-fits-requires
@@ -33,13 +33,17 @@ slice-aggregate-result c = search needs
 returns : tie.Need-returns
 unfolding partOf
 returns c =
-    let a = c .before .before .before .before .args in
+    let within = c .before in
+    let f = within .before in
+    let a = f .before .before .args in
     let e : a .start + a .n - a .start ≡ a .n = omega arith in
-    rw (← c .before .before .fits2 .ensures, c .before .if1 .taken, e)
+    rw (← f .fits2 .ensures, within .if1 .taken, e)
 
 returns-2 : tie.Need-returns-2
 unfolding partOf
-returns-2 c = rw (← c .before .before .fits2 .ensures, c .before .if1 .left)
+returns-2 c =
+    let outside = c .before in
+    rw (← outside .before .fits2 .ensures, outside .if1 .left)
 
 pub part-spec : {M : Type 1} → statement M
 part-spec =

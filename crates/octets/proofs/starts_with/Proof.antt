@@ -1,4 +1,4 @@
-use Prim.Native.Nat.{_+_, _-_, _≤_, _<_}
+use Prim.Native.Nat.{_-_, _≤_}
 use mathlib.Core.Path.{_≡_, refl, sym, _∙_}
 use native.Mathlib.Omega.{arith}
 use lib.ListN.{length, drop}
@@ -27,7 +27,11 @@ shared-slice-read-if2-2 : tie.Need-shared-slice-read-if2-2 Inv-loop μ-loop
 shared-slice-read-if2-2 c = omega arith
 
 returns-2 : tie.Need-returns-2 Inv-loop μ-loop
-returns-2 c = sym (starts-at (c .before .before .before .before .before .before .args .s .now) (c .before .before .before .before .before .before .args .prefix .now) (c .before .before .before .before .loop .i) (omega arith) (omega arith) ∙ rw (ne-eqb _ _ (c .if2 .taken))) ∙ c .before .before .before .before .loop .inv .2
+returns-2 c =
+    let turn = c .before .before .before .before in
+    let l = turn .loop in
+    let a = turn .before .before .args in
+    sym (starts-at (a .s .now) (a .prefix .now) (l .i) (omega arith) (omega arith) ∙ rw (ne-eqb _ _ (c .if2 .taken))) ∙ l .inv .2
 
 add-i : tie.Need-add-i Inv-loop μ-loop
 add-i c = omega arith
@@ -36,10 +40,20 @@ loop-less : tie.Need-loop-less Inv-loop μ-loop
 loop-less c = omega arith
 
 loop-again : tie.Need-loop-again Inv-loop μ-loop
-loop-again c = (omega arith, omega arith, sym (starts-at (c .before .before .before .before .before .before .args .s .now) (c .before .before .before .before .before .before .args .prefix .now) (c .before .before .before .before .loop .i) (omega arith) (omega arith) ∙ rw (eq-eqb _ _ (c .if2 .left))) ∙ c .before .before .before .before .loop .inv .2)
+loop-again c =
+    let turn = c .before .before .before .before in
+    let l = turn .loop in
+    let a = turn .before .before .args in (
+      omega arith,
+      omega arith,
+      sym (starts-at (a .s .now) (a .prefix .now) (l .i) (omega arith) (omega arith) ∙ rw (eq-eqb _ _ (c .if2 .left))) ∙ l .inv .2,
+    )
 
 returns-3 : tie.Need-returns-3 Inv-loop μ-loop
-returns-3 c = sym (starts-end _ (c .before .before .before .args .prefix .now) (c .before .loop .i) (omega arith)) ∙ c .before .loop .inv .2
+returns-3 c =
+    let ended = c .before in
+    let prefix = ended .before .before .args .prefix .now in
+    sym (starts-end _ prefix (ended .loop .i) (omega arith)) ∙ ended .loop .inv .2
 
 pub starts-with-spec : {M : Type 1} → statement M
 starts-with-spec =

@@ -28,10 +28,17 @@ loop-less : tie.Need-loop-less Inv-loop μ-loop
 loop-less c = search needs
 
 loop-again : tie.Need-loop-again Inv-loop μ-loop
-loop-again c = c .before .before .loop .inv ∙ clear-turn (c .before .before .before .args .b) (c .before .before .before .args .s .now) (c .before .before .loop .k) (c .before .before .loop .hit) (c .before .loop-test .taken)
+loop-again c =
+    let turn = c .before in
+    let l = turn .before .loop in
+    let a = turn .before .before .args in
+    l .inv ∙ clear-turn (a .b) (a .s .now) (l .k) (l .hit) (turn .loop-test .taken)
 
 returns : tie.Need-returns Inv-loop μ-loop
-returns c = sym (c .before .loop .inv ∙ clear-end (c .before .before .args .b) (c .before .before .args .s .now) (c .before .loop .k) (c .before .loop .hit) (c .loop-test .left))
+returns c =
+    let l = c .before .loop in
+    let a = c .before .before .args in
+    sym (l .inv ∙ clear-end (a .b) (a .s .now) (l .k) (l .hit) (c .loop-test .left))
 
 pub clear-spec : {M : Type 1} → statement M
 clear-spec =

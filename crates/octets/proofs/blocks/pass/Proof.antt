@@ -40,7 +40,14 @@ loop-less : tie.Need-loop-less Inv-loop μ-loop
 loop-less c = search needs
 
 loop-again : tie.Need-loop-again Inv-loop μ-loop
-loop-again c = (omega arith, block-past (c .before .before .before .before .before .before .args .b) 128 (c .before .before .before .before .before .before .args .s .now) (c .before .before .before .before .loop .i) (omega arith) (sym (c .before .clear .ensures) ∙ not-false _ (c .if1 .left)) ∙ c .before .before .before .before .loop .inv .1)
+loop-again c =
+    let told = c .before in
+    let turn = told .before .before .before in
+    let l = turn .loop in
+    let a = turn .before .before .args in (
+      omega arith,
+      block-past (a .b) 128 (a .s .now) (l .i) (omega arith) (sym (told .clear .ensures) ∙ not-false _ (c .if1 .left)) ∙ l .inv .1,
+    )
 
 returns : tie.Need-returns Inv-loop μ-loop
 returns c = c .before .loop .inv
