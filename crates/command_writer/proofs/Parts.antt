@@ -33,8 +33,11 @@ module _ (b : ℕ) (s : List ℕ) (from end : ℕ) (e : end ≡ from + indexOf b
   part-none (suc i) h l q = rw (split-end b (drop from s) (omega (arith, length-drop from s)))
 
   -- with b the others are those of what stands after it
-  pub part-after : (i : ℕ) → 0 < i → from ≤ length s → (end ≡ length s → ⊥) → getD (split b (drop (end + 1) s)) (i - 1) [] ≡ getD (split b (drop from s)) i []
+  pub part-after : (i : ℕ) → 0 < i → from ≤ length s → (end ≡ length s → ⊥)
+      → getD (split b (drop (end + 1) s)) (i - 1) [] ≡ getD (split b (drop from s)) i []
   part-after zero h l q = absurd (omega arith)
   part-after (suc i) h l q =
+      let rest = drop from s in
+      let there : indexOf b (drop from s) < length (drop from s) = omega (arith, index-le b (drop from s), length-drop from s) in
       let n : end + 1 ≡ from + (indexOf b (drop from s) + 1) = omega arith in
-      rw (split-at b (drop from s) (omega (arith, index-le b (drop from s), length-drop from s)), sub-one, n, ← drop-drop (indexOf b (drop from s) + 1) from s)
+      rw (split-at b rest there, sub-one, n, ← drop-drop (indexOf b rest + 1) from s)

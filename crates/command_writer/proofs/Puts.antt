@@ -52,7 +52,8 @@ numberTold DecimalWritten.OutOfRange end = Written.Refused Refusal.BadValue
 numberTold DecimalWritten.NoRoom end = Written.Length end
 
 pub put-number : (n : Number) (out after : List ℕ) (at end : ℕ) (w : Decimal.Written) → outcome w after ≡ writeOf n out at
-    → spare end ≡ spare (at + length (textOf n)) → PutOr (pick (writable n) Checked.fine (Checked.fault 6)) (textOf n) out at (numberTold w end) after
+    → spare end ≡ spare (at + length (textOf n))
+    → PutOr (pick (writable n) Checked.fine (Checked.fault 6)) (textOf n) out at (numberTold w end) after
 unfolding writeOf writable
 put-number n out after at end w e s = go (negativeZero n) (outOfRange n) (leb (at + length (textOf n)) (length out)) refl e
   where
@@ -62,5 +63,8 @@ put-number n out after at end w e s = go (negativeZero n) (outOfRange n) (leb (a
         → PutOr (pick (both (not z) (not x)) Checked.fine (Checked.fault 6)) (textOf n) out at (numberTold w end) after
     go true x f ef q = rw (ap (λ o. o .answer) q)
     go false true f ef q = rw (ap (λ o. o .answer) q)
-    go false false true ef q = rw (ap (λ o. o .answer) q) (at + length (textOf n), refl, record { ends = refl; stores = λ h k. ap (λ o. o .buffer) q })
-    go false false false ef q = rw (ap (λ o. o .answer) q) (end, refl, record { ends = s; stores = λ h k. absurd (omega (arith, leb-false (at + length (textOf n)) (length out) ef)) })
+    go false false true ef q =
+        rw (ap (λ o. o .answer) q) (at + length (textOf n), refl, record { ends = refl; stores = λ h k. ap (λ o. o .buffer) q })
+    go false false false ef q =
+        let over = leb-false (at + length (textOf n)) (length out) ef in
+        rw (ap (λ o. o .answer) q) (end, refl, record { ends = s; stores = λ h k. absurd (omega (arith, over)) })

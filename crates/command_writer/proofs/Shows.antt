@@ -70,8 +70,10 @@ pub base64-some : (l : List ℕ) (p : Place) → ((i : ℕ) → getD l i 0 < 256
 unfolding shown base64Shown
 base64-some l p b h n =
     let t = take (p .len) (drop (p .start) l) in
+    let within = leb-true (p .start + p .len) (length l) h in
+    let size : length t ≡ p .len = omega (arith, within, length-take (p .len) (drop (p .start) l), length-drop (p .start) l) in
     rw (place-in l p h, all-bytes l (p .start) (p .len) b)
-    (text-some (Base64.textOf t) (λ e. n (omega (arith, length-text t, leb-true (p .start + p .len) (length l) h, length-take (p .len) (drop (p .start) l), length-drop (p .start) l))))
+    (text-some (Base64.textOf t) (λ e. n (omega (arith, length-text t, size))))
 
 -- ---- an integer that is not 0
 pub integer-some : (n : Number) → 0 < n .magnitude → integerShown n ≡ pick (writable n) (Shown.text (textOf n)) (Shown.refused 6)

@@ -49,13 +49,15 @@ module _ (slots : List Slot) (text scratch : List ℕ) where
     module _ (out after : List ℕ) (at : ℕ) where
       -- the field is put, and the others are left
       pub turn-on : (end : ℕ) → FieldPut (keyAt k .name) (shownAt k) out at (Written.Length end) after
-          → (checkedFrom k ≡ checkedFrom (k + 1)) × ((e : ℕ) (a : List ℕ) → Put (piecesFrom (k + 1)) after end e a → Put (piecesFrom k) out at e a)
+          → (checkedFrom k ≡ checkedFrom (k + 1))
+          × ((e : ℕ) (a : List ℕ) → Put (piecesFrom (k + 1)) after end e a → Put (piecesFrom k) out at e a)
       turn-on end p =
           let f = put-fine (before (shownAt k) Checked.fine) (piece (keyAt k .name) (shownAt k)) out after at end p in
           (checked-at ∙ before-is (shownAt k) (checkedFrom (k + 1)) ∙ rw (f .0), λ e a q. rw pieces-at (put-then (f .1) q))
 
       -- or the field is the first at fault
-      pub turn-off : (r : Refusal) → FieldPut (keyAt k .name) (shownAt k) out at (Written.Refused r) after → checkedFrom k ≡ Checked.fault (refusalNumber r)
+      pub turn-off : (r : Refusal) → FieldPut (keyAt k .name) (shownAt k) out at (Written.Refused r) after
+          → checkedFrom k ≡ Checked.fault (refusalNumber r)
       turn-off r p =
           checked-at ∙ before-is (shownAt k) (checkedFrom (k + 1))
           ∙ rw (put-fault (before (shownAt k) Checked.fine) (piece (keyAt k .name) (shownAt k)) out after at r p)

@@ -30,22 +30,29 @@ either-false true b e = let z : _≡_ {A = ℕ} 0 1 = cc in absurd (omega arith)
 either-false false b e = (refl, e)
 
 -- ---- an action and an id
--- a place's bytes are as many as it says, if it is of its kind
-place-length : (l : List ℕ) (p : Place) → before (shown (Kind.safe true) (bytesAt l p)) Checked.fine ≡ Checked.fine → length (bytesIn (bytesAt l p)) ≡ p .len
-unfolding shown bytesAt
-place-length l p e = go (leb (p .start + p .len) (length l)) refl e
-  where
-    go : (t : Bool) → leb (p .start + p .len) (length l) ≡ t
-        → before (shown (Kind.safe true) (pick t (Value.bytes (take (p .len) (drop (p .start) l))) Value.outside)) Checked.fine ≡ Checked.fine
-        → length (bytesIn (pick t (Value.bytes (take (p .len) (drop (p .start) l))) Value.outside)) ≡ p .len
-    go true et f = omega (arith, leb-true (p .start + p .len) (length l) et, length-take (p .len) (drop (p .start) l), length-drop (p .start) l)
-    go false et f = let z : _≡_ {A = ℕ} 0 1 = cc in absurd (omega arith)
+module _ (l : List ℕ) (p : Place) where
+  -- what stands at a place, by whether it lies within
+  abbrev placed : Bool → Value
+  placed t = pick t (Value.bytes (take (p .len) (drop (p .start) l))) Value.outside
+
+  -- a place's bytes are as many as it says, if it is of its kind
+  place-length : before (shown (Kind.safe true) (bytesAt l p)) Checked.fine ≡ Checked.fine → length (bytesIn (bytesAt l p)) ≡ p .len
+  unfolding shown bytesAt
+  place-length e = go (leb (p .start + p .len) (length l)) refl e
+    where
+      go : (t : Bool) → leb (p .start + p .len) (length l) ≡ t → before (shown (Kind.safe true) (placed t)) Checked.fine ≡ Checked.fine
+          → length (bytesIn (placed t)) ≡ p .len
+      go true et f =
+          let within = leb-true (p .start + p .len) (length l) et in
+          omega (arith, within, length-take (p .len) (drop (p .start) l), length-drop (p .start) l)
+      go false et f = let z : _≡_ {A = ℕ} 0 1 = cc in absurd (omega arith)
 
 word-there : (first : ℕ) (ws : List (List ℕ)) (n : Number) → eqb (n .magnitude) 0 ≡ false → wordShown first ws n ≡ Shown.leftOut → ⊥
 unfolding wordShown
 word-there first ws n h e = go (n .negative) (ltb (n .magnitude - first) (length ws)) (rw h at e)
   where
-    go : (s t : Bool) → pick s (Shown.refused 6) (pick t (Shown.text (getD ws (n .magnitude - first) [])) (Shown.refused 6)) ≡ Shown.leftOut → ⊥
+    go : (s t : Bool)
+        → pick s (Shown.refused 6) (pick t (Shown.text (getD ws (n .magnitude - first) [])) (Shown.refused 6)) ≡ Shown.leftOut → ⊥
     go true t q = let z : _≡_ {A = ℕ} 0 1 = cc in omega arith
     go false true q = let z : _≡_ {A = ℕ} 0 1 = cc in omega arith
     go false false q = let z : _≡_ {A = ℕ} 0 1 = cc in omega arith

@@ -20,8 +20,12 @@ enum-known-n : tie.Need-enum-known-n
 enum-known-n c = search needs
 
 write-measured-requires : tie.Need-write-measured-requires
-write-measured-requires c κs = let a = c .before .before .before .before .before .before .before .before .before .before .args in
-    let f = put-fine (checkedOf keys (valuesOf (a .command) (a .text .now) (a .scratch .now))) _ _ _ 0 (c .before .before .n .given .0 .0) (rw (c .before .before .n .given .1) at (c .before .before .before .before .before .put-fields .ensures)) in
+write-measured-requires c κs =
+    let n = c .before .before in
+    let put = n .before .before .before in
+    let a = put .before .before .before .before .before .args in
+    let checked = checkedOf keys (valuesOf (a .command) (a .text .now) (a .scratch .now)) in
+    let f = put-fine checked _ _ _ 0 (n .n .given .0 .0) (rw (n .n .given .1) at (put .put-fields .ensures)) in
     (f .0, omega (arith, f .1 .ends))
 
 enum-known-refusal : tie.Need-enum-known-refusal
@@ -38,11 +42,14 @@ returns : tie.Need-returns
 returns c = (c .before .before .write-measured .ensures, claims)
 
 returns-2 : tie.Need-returns-2
-returns-2 c = let a = c .before .before .before .before .before .before .before .before .before .args in (
-  refused-fault (a .command) (a .text .now) (a .scratch .now) (a .out .now) _
-      (put-fault (checkedOf keys (valuesOf (a .command) (a .text .now) (a .scratch .now))) _ _ _ 0 (c .before .refusal .given .0 .0) (rw (c .before .refusal .given .1) at (c .before .before .before .before .put-fields .ensures))),
-  claims,
-)
+returns-2 c =
+    let refused = c .before in
+    let put = refused .before .before .before in
+    let a = put .before .before .before .before .before .args in
+    let checked = checkedOf keys (valuesOf (a .command) (a .text .now) (a .scratch .now)) in
+    let told = rw (refused .refusal .given .1) at (put .put-fields .ensures) in
+    let fault = put-fault checked _ _ _ 0 (refused .refusal .given .0 .0) told in
+    (refused-fault (a .command) (a .text .now) (a .scratch .now) (a .out .now) _ fault, claims)
 
 pub write-spec : {M : Type 1} → statement M
 write-spec =

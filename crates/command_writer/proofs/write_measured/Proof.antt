@@ -11,13 +11,22 @@ no-room-requires : tie.Need-no-room-requires
 no-room-requires c κs = search needs
 
 returns : tie.Need-returns
-returns c = let a = c .before .before .before .before .before .before .args in
-    refused-missing (a .command) (a .text .now) (a .scratch .now) (a .out .now) (c .before .before .before .before .before .before .pre .0) (sym (c .before .before .lacks .ensures) ∙ c .if1 .taken)
+returns c =
+    let lacks = c .before .before in
+    let entry = lacks .before .before .before .before in
+    let a = entry .args in
+    let missing = sym (lacks .lacks .ensures) ∙ c .if1 .taken in
+    refused-missing (a .command) (a .text .now) (a .scratch .now) (a .out .now) (entry .pre .0) missing
 
 returns-2 : tie.Need-returns-2
-returns-2 c = let a = c .before .before .before .before .before .before .before .args in
-    refused-room (a .command) (a .text .now) (a .scratch .now) (a .out .now) (c .before .before .before .before .before .before .before .pre .0) (sym (c .before .before .before .lacks .ensures) ∙ c .before .if1 .left) (a .n) (c .before .before .before .before .before .before .before .pre .1)
-    (sym (c .before .before .no-room .ensures) ∙ c .if2 .taken)
+returns-2 c =
+    let room = c .before .before in
+    let lacks = room .before in
+    let entry = lacks .before .before .before .before in
+    let a = entry .args in
+    let there = sym (lacks .lacks .ensures) ∙ c .before .if1 .left in
+    let short = sym (room .no-room .ensures) ∙ c .if2 .taken in
+    refused-room (a .command) (a .text .now) (a .scratch .now) (a .out .now) (entry .pre .0) there (a .n) (entry .pre .1) short
 
 put-fields-requires : tie.Need-put-fields-requires
 put-fields-requires c κs = search needs
@@ -26,9 +35,18 @@ same-length : tie.Need-same-length
 same-length c = search needs
 
 returns-3 : tie.Need-returns-3
-returns-3 c = let a = c .before .before .before .before .before .before .before .before .before .before .before .args in
-    written (a .command) (a .text .now) (a .scratch .now) (a .out .now) (c .before .before .before .before .before .before .before .before .before .before .before .pre .0) (sym (c .before .before .before .before .before .before .before .lacks .ensures) ∙ c .before .before .before .before .before .if1 .left) (a .n) (c .before .before .before .before .before .before .before .before .before .before .before .pre .1)
-    (sym (c .before .before .before .before .before .before .no-room .ensures) ∙ c .before .before .before .before .if2 .left) (c .before .before .put-fields .result) _ (rw (c .before .before .before .before .before .before .before .before .before .before .before .pre .0) at (c .before .before .put-fields .ensures))
+returns-3 c =
+    let put = c .before .before in
+    let fits = put .before .before in
+    let has = fits .before in
+    let room = has .before in
+    let lacks = room .before in
+    let entry = lacks .before .before .before .before in
+    let a = entry .args in
+    let there = sym (lacks .lacks .ensures) ∙ has .if1 .left in
+    let wide = sym (room .no-room .ensures) ∙ fits .if2 .left in
+    let all = written (a .command) (a .text .now) (a .scratch .now) (a .out .now) (entry .pre .0) there (a .n) (entry .pre .1) wide in
+    all (put .put-fields .result) _ (rw (entry .pre .0) at (put .put-fields .ensures))
 
 pub write-measured-spec : {M : Type 1} → statement M
 write-measured-spec =

@@ -11,11 +11,14 @@ use borrow.Author.Needs.{needs}
 use Rattle.command_writer.proofs.fields.put_field.Statement.{statement}
 use Rattle.command_writer.proofs.fields.put_field.Tie as tie
 
-row : (c : tie.After-kind-at) {d : Kind} → c .kind-at .result ≡ d → Row (keyAt (c .before .before .before .before .before .before .args .k)) (c .before .part .result .now) d
+row : (c : tie.After-kind-at) {d : Kind} → c .kind-at .result ≡ d
+    → let part = c .before in let a = part .before .before .before .before .before .args in
+    Row (keyAt (a .k)) (part .part .result .now) d
 unfolding split onto join
 row c e =
-    let k = c .before .before .before .before .before .before .args .k in
-    let z : c .before .part .result .now ≡ getD (map rowOf keys) k [] = c .before .part .ensures in
+    let part = c .before in
+    let k = part .before .before .before .before .before .args .k in
+    let z : part .part .result .now ≡ getD (map rowOf keys) k [] = part .part .ensures in
     row-is k (z ∙ List·getD-map rowOf keys k (key "" integer)) (sym (c .kind-at .ensures) ∙ e)
 
 slice-aggregate-part : tie.Need-slice-aggregate-part
@@ -31,7 +34,7 @@ enum-known-first : tie.Need-enum-known-first
 enum-known-first c = search needs
 
 word-requires : tie.Need-word-requires
-word-requires c κs = row (c .before .before .before .before) (c .before .before .first .given .1) .2
+word-requires c κs = let first = c .before .before in row (first .before .before) (first .first .given .1) .2
 
 enum-known-short : tie.Need-enum-known-short
 enum-known-short c = search needs
@@ -56,26 +59,38 @@ same-length c = search needs
 
 returns : tie.Need-returns
 unfolding shown
-returns c = let r = row (c .before .before .before .before .before .before .before) (c .before .before .before .before .before .first .given .1) in rw (r .0, r .1) (c .before .before .word .ensures)
+returns c =
+    let word = c .before .before in
+    let first = word .before .before .before in
+    let r = row (first .before .before) (first .first .given .1) in rw (r .0, r .1) (word .word .ensures)
 
 same-length-2 : tie.Need-same-length-2
 same-length-2 c = search needs
 
 returns-2 : tie.Need-returns-2
-returns-2 c = let r = row (c .before .before .before .before .before .before .before) (c .before .before .before .before .before .short .given .1) in rw (r .0, r .1) (c .before .before .safe .ensures)
+returns-2 c =
+    let safe = c .before .before in
+    let short = safe .before .before .before in
+    let r = row (short .before .before) (short .short .given .1) in rw (r .0, r .1) (safe .safe .ensures)
 
 same-length-3 : tie.Need-same-length-3
 same-length-3 c = search needs
 
 returns-3 : tie.Need-returns-3
 unfolding shown
-returns-3 c = let r = row (c .before .before .before .before .before .before) (c .before .before .before .before .enum-told .given .1) in rw (r .0, r .1) (c .before .before .integer .ensures)
+returns-3 c =
+    let integer = c .before .before in
+    let told = integer .before .before in
+    let r = row (told .before .before) (told .enum-told .given .1) in rw (r .0, r .1) (integer .integer .ensures)
 
 same-length-4 : tie.Need-same-length-4
 same-length-4 c = search needs
 
 returns-4 : tie.Need-returns-4
-returns-4 c = let r = row (c .before .before .before .before .before .before) (c .before .before .before .before .enum-told2 .given .1) in rw (r .0, r .1) (c .before .before .base64 .ensures)
+returns-4 c =
+    let base64 = c .before .before in
+    let told = base64 .before .before in
+    let r = row (told .before .before) (told .enum-told2 .given .1) in rw (r .0, r .1) (base64 .base64 .ensures)
 
 pub put-field-spec : {M : Type 1} → statement M
 put-field-spec =

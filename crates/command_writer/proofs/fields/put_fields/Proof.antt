@@ -18,7 +18,8 @@ Inv-loop text scratch out₀ slots at₀ k₀ out at k =
     (k ≤ 15)
     × (length out ≡ length out₀)
     × (checkedFrom slots text scratch k ≡ checkedFrom slots text scratch 0)
-    × ((end : ℕ) (after : List ℕ) → Put (piecesFrom slots text scratch k) out at end after → Put (piecesFrom slots text scratch 0) out₀ at₀ end after)
+    × ((end : ℕ) (after : List ℕ) → Put (piecesFrom slots text scratch k) out at end after
+    → Put (piecesFrom slots text scratch 0) out₀ at₀ end after)
 
 abbrev μ-loop : tie.MeasureT-loop
 μ-loop text scratch out₀ slots at₀ k₀ out at k = 15 - k
@@ -55,13 +56,17 @@ same-length c = search needs
 
 returns : tie.Need-returns Inv-loop μ-loop
 returns c =
-    let s = c .before .before .before .before .before .before .before .before .before .before .before .before .before .before .before .slots in
-    let f = c .before .before .before .before .before .put-field in
-    let e = c .before .refusal in
-    let a = c .before .before .before .before .before .before .before .before .before .before .before .before .before .before .before .before .before .before .before .args in
-    let l = c .before .before .before .before .before .before .before .before .before .loop in
+    let refused = c .before in
+    let put = refused .before .before .before .before in
+    let loop = put .before .before .before .before in
+    let slots = loop .before .before .before .before .before .before in
+    let a = slots .before .before .before .before .args in
+    let s = slots .slots in
+    let l = loop .loop in
     let n = slots-length (a .command) (s .result) (s .ensures) in
-    let t = turn-off (s .result) (a .text .now) (a .scratch .now) (l .k) (omega arith) (omega arith) (l .out) (f .last .1 .1 .1 .1 .0) (l .at) (e .given .0 .0) (rw (e .given .1) at (f .ensures)) in
+    let off = turn-off (s .result) (a .text .now) (a .scratch .now) (l .k) (omega arith) (omega arith) in
+    let field = rw (refused .refusal .given .1) at (put .put-field .ensures) in
+    let t = off (l .out) (put .put-field .last .1 .1 .1 .1 .0) (l .at) (refused .refusal .given .0 .0) field in
     rw (values-all (a .command) (s .result) (s .ensures) (a .text .now) (a .scratch .now), sym (l .inv .2) ∙ t)
 
 add-k : tie.Need-add-k Inv-loop μ-loop
@@ -72,13 +77,17 @@ loop-less c = omega arith
 
 loop-again : tie.Need-loop-again Inv-loop μ-loop
 loop-again c =
-    let s = c .before .before .before .before .before .before .before .before .before .before .before .before .before .before .before .slots in
-    let f = c .before .before .before .before .before .put-field in
-    let a = c .before .before .before .before .before .before .before .before .before .before .before .before .before .before .before .before .before .before .before .args in
-    let e = c .before .end in
-    let l = c .before .before .before .before .before .before .before .before .before .loop in
+    let on = c .before in
+    let put = on .before .before .before .before in
+    let loop = put .before .before .before .before in
+    let slots = loop .before .before .before .before .before .before in
+    let a = slots .before .before .before .before .args in
+    let s = slots .slots in
+    let l = loop .loop in
     let n = slots-length (a .command) (s .result) (s .ensures) in
-    let t = turn-on (s .result) (a .text .now) (a .scratch .now) (l .k) (omega arith) (omega arith) (l .out) (f .last .1 .1 .1 .1 .0) (l .at) (e .given .0 .0) (rw (e .given .1) at (f .ensures)) in
+    let turn = turn-on (s .result) (a .text .now) (a .scratch .now) (l .k) (omega arith) (omega arith) in
+    let field = rw (on .end .given .1) at (put .put-field .ensures) in
+    let t = turn (l .out) (put .put-field .last .1 .1 .1 .1 .0) (l .at) (on .end .given .0 .0) field in
     (omega arith, omega arith, sym (t .0) ∙ l .inv .2, λ end after p. l .inv .3 end after (t .1 end after p))
 
 same-length-2 : tie.Need-same-length-2 Inv-loop μ-loop
@@ -87,12 +96,17 @@ same-length-2 c = search needs
 returns-2 : tie.Need-returns-2 Inv-loop μ-loop
 unfolding checkedOf pieces
 returns-2 c =
-    let s = c .before .before .before .before .before .before .before .slots in
-    let a = c .before .before .before .before .before .before .before .before .before .before .before .args in
-    let l = c .before .loop in
+    let loop = c .before in
+    let put = loop .before .before .before in
+    let slots = put .before .before .before in
+    let a = slots .before .before .before .before .args in
+    let s = slots .slots in
+    let l = loop .loop in
     let e : l .k ≡ 15 = omega arith in
     let i = rw e at (l .inv) in
-    rw (values-all (a .command) (s .result) (s .ensures) (a .text .now) (a .scratch .now), sym (i .2)) (l .at, refl, put-then (c .before .before .before .before .put .ensures) (i .3 (l .at) (l .out) (put-none (l .out) (l .at))))
+    let all = i .3 (l .at) (l .out) (put-none (l .out) (l .at)) in
+    rw (values-all (a .command) (s .result) (s .ensures) (a .text .now) (a .scratch .now), sym (i .2))
+    (l .at, refl, put-then (put .put .ensures) all)
 
 pub put-fields-spec : {M : Type 1} → statement M
 put-fields-spec =

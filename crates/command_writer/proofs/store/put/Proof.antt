@@ -16,8 +16,9 @@ same-length c = search needs
 returns : tie.Need-returns
 unfolding copyAt
 returns c =
-    let a = c .before .before .before .before .before .before .before .args in
-    put-stored _ _ (a .s .now) (a .out .now) (a .at) (c .end-of .result) (c .before .before .before .copy-at .ensures) (c .end-of .ensures)
+    let copy = c .before .before .before in
+    let a = copy .before .before .before .before .args in
+    put-stored _ _ (a .s .now) (a .out .now) (a .at) (c .end-of .result) (copy .copy-at .ensures) (c .end-of .ensures)
 
 pub put-spec : {M : Type 1} → statement M
 put-spec = tie.close (tie.spec copy-at-requires end-of-requires same-length returns)

@@ -23,8 +23,10 @@ same-length c = search needs
 returns : tie.Need-returns
 unfolding encodeOf
 returns c =
-    let a = c .before .before .before .before .before .before .before .args in
-    put-stored _ _ (textOf (a .bytes .now)) (a .out .now) (a .at) (c .end-of .result) (c .before .before .before .encode .ensures .0) (rw (length-text (a .bytes .now)) (c .end-of .ensures))
+    let encode = c .before .before .before in
+    let a = encode .before .before .before .before .args in
+    put-stored _ _ (textOf (a .bytes .now)) (a .out .now) (a .at) (c .end-of .result) (encode .encode .ensures .0)
+    (rw (length-text (a .bytes .now)) (c .end-of .ensures))
 
 pub put-base64-spec : {M : Type 1} → statement M
 put-base64-spec =

@@ -25,7 +25,12 @@ same-length : tie.Need-same-length
 same-length c = search needs
 
 returns : tie.Need-returns
-returns c = rw (← c .before .before .before .before .before .before .before .before .before .part .ensures) (put-then (c .before .before .before .before .before .before .before .before .before .before .before .before .put .ensures) (put-then (c .before .before .before .before .before .before .before .put2 .ensures) (c .before .before .put3 .ensures)))
+returns c =
+    let put3 = c .before .before in
+    let put2 = put3 .before .before .before .before .before in
+    let part = put2 .before .before in
+    let put = part .before .before .before in
+    rw (← part .part .ensures) (put-then (put .put .ensures) (put-then (put2 .put2 .ensures) (put3 .put3 .ensures)))
 
 pub put-key-spec : {M : Type 1} → statement M
 put-key-spec =

@@ -34,32 +34,43 @@ same-length c = search needs
 
 returns : tie.Need-returns
 returns c =
-    let a = c .before .before .before .before .before .before .before .before .args in
-    put-number (a .n) (a .out .now) _ (a .at) (a .at + length (textOf (a .n))) (End (c .before .end .given .0 .0)) (rw (c .before .end .given .1) at (c .before .before .before .before .before .write .ensures .0)) refl
+    let end = c .before in
+    let write = end .before .before .before .before in
+    let a = write .before .before .before .args in
+    let told = rw (end .end .given .1) at (write .write .ensures .0) in
+    put-number (a .n) (a .out .now) _ (a .at) (a .at + length (textOf (a .n))) (End (end .end .given .0 .0)) told refl
 
 same-length-2 : tie.Need-same-length-2
 same-length-2 c = search needs
 
 returns-2 : tie.Need-returns-2
 returns-2 c =
-    let a = c .before .before .before .before .before .before .before .args in
-    put-number (a .n) (a .out .now) _ (a .at) (a .at + length (textOf (a .n))) NegativeZero (rw (c .enum-told .given .1) at (c .before .before .before .before .write .ensures .0)) refl
+    let write = c .before .before .before .before in
+    let a = write .before .before .before .args in
+    let told = rw (c .enum-told .given .1) at (write .write .ensures .0) in
+    put-number (a .n) (a .out .now) _ (a .at) (a .at + length (textOf (a .n))) NegativeZero told refl
 
 same-length-3 : tie.Need-same-length-3
 same-length-3 c = search needs
 
 returns-3 : tie.Need-returns-3
 returns-3 c =
-    let a = c .before .before .before .before .before .before .before .args in
-    put-number (a .n) (a .out .now) _ (a .at) (a .at + length (textOf (a .n))) OutOfRange (rw (c .enum-told2 .given .1) at (c .before .before .before .before .write .ensures .0)) refl
+    let write = c .before .before .before .before in
+    let a = write .before .before .before .args in
+    let told = rw (c .enum-told2 .given .1) at (write .write .ensures .0) in
+    put-number (a .n) (a .out .now) _ (a .at) (a .at + length (textOf (a .n))) OutOfRange told refl
 
 same-length-4 : tie.Need-same-length-4
 same-length-4 c = search needs
 
 returns-4 : tie.Need-returns-4
 returns-4 c =
-    let a = c .before .before .before .before .before .before .before .before .before .args in
-    put-number (a .n) (a .out .now) _ (a .at) (c .end-of .result) NoRoom (rw (c .before .before .enum-told3 .given .1) at (c .before .before .before .before .before .before .write .ensures .0)) (rw (← c .before .text-length .ensures) (c .end-of .ensures))
+    let measured = c .before in
+    let full = measured .before in
+    let write = full .before .before .before .before in
+    let a = write .before .before .before .args in
+    let told = rw (full .enum-told3 .given .1) at (write .write .ensures .0) in
+    put-number (a .n) (a .out .now) _ (a .at) (c .end-of .result) NoRoom told (rw (← measured .text-length .ensures) (c .end-of .ensures))
 
 pub put-number-spec : {M : Type 1} → statement M
 put-number-spec =

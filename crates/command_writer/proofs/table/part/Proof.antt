@@ -15,6 +15,13 @@ Inv-loop s b i from₀ left₀ from left = (from ≤ length s) × (getD (split b
 abbrev μ-loop : tie.MeasureT-loop
 μ-loop s b i from₀ left₀ from left = left
 
+-- what is found from the loop's place on stands within
+within : (c : tie.After-find Inv-loop μ-loop) → c .find .result ≤ length (c .before .before .before .args .s .now)
+within c =
+    let loop = c .before in
+    let a = loop .before .before .args in
+    part-end (a .b) (a .s .now) (loop .loop .from) (c .find .result) (c .find .ensures) (loop .loop .inv .0)
+
 loop-holds : tie.Need-loop-holds Inv-loop μ-loop
 loop-holds c = (omega arith, refl)
 
@@ -28,21 +35,30 @@ part-result-start : tie.Need-part-result-start Inv-loop μ-loop
 part-result-start c = omega arith
 
 part-result-end : tie.Need-part-result-end Inv-loop μ-loop
-part-result-end c = part-end (c .before .before .before .before .args .b) (c .before .before .before .before .args .s .now) (c .before .before .loop .from) (c .before .find .result) (c .before .find .ensures) (c .before .before .loop .inv .0)
+part-result-end c = within (c .before)
 
 returns : tie.Need-returns Inv-loop μ-loop
-returns c = sym (part-first (c .before .before .before .before .before .args .b) (c .before .before .before .before .before .args .s .now) (c .before .before .before .loop .from) (c .before .before .find .result) (c .before .before .find .ensures)) ∙ rw (c .before .if1 .taken) at (c .before .before .before .loop .inv .1)
+returns c =
+    let find = c .before .before in
+    let l = find .before .loop in
+    let a = find .before .before .before .args in
+    let first = part-first (a .b) (a .s .now) (l .from) (find .find .result) (find .find .ensures) in
+    sym first ∙ rw (c .before .if1 .taken) at (l .inv .1)
 
 slice-aggregate-result : tie.Need-slice-aggregate-result Inv-loop μ-loop
 slice-aggregate-result c = search needs
 
 returns-2 : tie.Need-returns-2 Inv-loop μ-loop
 returns-2 c =
-    let l = c .before .before .before .before .loop in
-    sym (part-none (c .before .before .before .before .before .before .args .b) (c .before .before .before .before .before .before .args .s .now) (l .from) (c .before .before .before .find .result) (c .before .before .before .find .ensures) (l .left) (omega arith) (l .inv .0) (c .before .if2 .taken)) ∙ l .inv .1
+    let last = c .before in
+    let find = last .before .before in
+    let l = find .before .loop in
+    let a = find .before .before .before .args in
+    let none = part-none (a .b) (a .s .now) (l .from) (find .find .result) (find .find .ensures) in
+    sym (none (l .left) (omega arith) (l .inv .0) (last .if2 .taken)) ∙ l .inv .1
 
 add-from : tie.Need-add-from Inv-loop μ-loop
-add-from c = omega (arith, part-end (c .before .before .before .before .before .args .b) (c .before .before .before .before .before .args .s .now) (c .before .before .before .loop .from) (c .before .before .find .result) (c .before .before .find .ensures) (c .before .before .before .loop .inv .0))
+add-from c = omega (arith, within (c .before .before))
 
 sub-left : tie.Need-sub-left Inv-loop μ-loop
 sub-left c = omega arith
@@ -52,11 +68,11 @@ loop-less c = omega arith
 
 loop-again : tie.Need-loop-again Inv-loop μ-loop
 loop-again c =
-    let a = c .before .before .before .before .before .args in
-    let l = c .before .before .before .loop in (
-      omega (arith, part-end (a .b) (a .s .now) (l .from) (c .before .before .find .result) (c .before .before .find .ensures) (l .inv .0)),
-      part-after (a .b) (a .s .now) (l .from) (c .before .before .find .result) (c .before .before .find .ensures) (l .left) (omega arith) (l .inv .0) (c .if2 .left) ∙ l .inv .1,
-    )
+    let find = c .before .before in
+    let l = find .before .loop in
+    let a = find .before .before .before .args in
+    let after = part-after (a .b) (a .s .now) (l .from) (find .find .result) (find .find .ensures) in
+    (omega (arith, within find), after (l .left) (omega arith) (l .inv .0) (c .if2 .left) ∙ l .inv .1)
 
 pub part-spec : {M : Type 1} → statement M
 part-spec =

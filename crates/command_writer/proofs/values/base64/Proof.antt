@@ -16,7 +16,8 @@ use Rattle.command_writer.proofs.values.base64.Statement.{statement}
 use Rattle.command_writer.proofs.values.base64.Tie as tie
 
 -- past the first test the place lies within
-inside : (c : tie.Else1) → let a = c .before .before .before .before .before .args in leb (a .place .start + a .place .len) (length (a .scratch .now)) ≡ true
+inside : (c : tie.Else1) → let a = c .before .before .before .before .before .args in
+    leb (a .place .start + a .place .len) (length (a .scratch .now)) ≡ true
 inside c = sym (c .before .fits2 .ensures) ∙ not-false (c .before .fits2 .result) (c .if1 .left)
 
 fits-requires : tie.Need-fits-requires
@@ -24,13 +25,17 @@ fits-requires c κs = search needs
 
 returns : tie.Need-returns
 unfolding shown
-returns c = let a = c .before .before .before .before .before .args in rw (place-out (a .scratch .now) (a .place) (sym (c .before .fits2 .ensures) ∙ not-true (c .before .fits2 .result) (c .if1 .taken)))
+returns c =
+    let fits = c .before in
+    let a = fits .before .before .before .before .args in
+    rw (place-out (a .scratch .now) (a .place) (sym (fits .fits2 .ensures) ∙ not-true (fits .fits2 .result) (c .if1 .taken)))
 
 returns-2 : tie.Need-returns-2
 unfolding shown base64Shown every textOf
 returns-2 c =
-    let a = c .before .before .before .before .before .before .before .args in
-    rw (place-in (a .scratch .now) (a .place) (inside (c .before .before)), c .if2 .taken) (a .at, refl, put-none (a .out .now) (a .at))
+    let within = c .before .before in
+    let a = within .before .before .before .before .before .args in
+    rw (place-in (a .scratch .now) (a .place) (inside within), c .if2 .taken) (a .at, refl, put-none (a .out .now) (a .at))
 
 put-key-requires : tie.Need-put-key-requires
 put-key-requires c κs = search needs
@@ -46,9 +51,17 @@ same-length c = search needs
 
 returns-3 : tie.Need-returns-3
 returns-3 c =
-    let a = c .before .before .before .before .before .before .before .before .before .before .before .before .before .before .before .before .args in
-    rw (base64-some (a .scratch .now) (a .place) (λ i. omega (arith, c .before .before .before .before .before .before .before .before .before .before .before .before .before .before .shared-slice-known2 .given i)) (inside (c .before .before .before .before .before .before .before .before .before .before .before)) (c .before .before .before .before .before .before .before .before .before .if2 .left), ← c .before .before .before .before .bytes-at .ensures)
-    (c .before .before .put-base64 .result, refl, field-put (nameIn (a .row .now)) (textOf (c .before .before .before .before .bytes-at .result .now)) (c .before .before .before .before .before .before .before .put-key .ensures) (c .before .before .put-base64 .ensures))
+    let put = c .before .before in
+    let bytes = put .before .before in
+    let key = bytes .before .before .before in
+    let some = key .before .before in
+    let within = some .before .before in
+    let known = within .before .before .before in
+    let a = known .before .before .args in
+    let byte = known .shared-slice-known2 .given in
+    let shows = base64-some (a .scratch .now) (a .place) (λ i. omega (arith, byte i)) (inside within) (some .if2 .left) in
+    let field = field-put (nameIn (a .row .now)) (textOf (bytes .bytes-at .result .now)) (key .put-key .ensures) in
+    rw (shows, ← bytes .bytes-at .ensures) (put .put-base64 .result, refl, field (put .put-base64 .ensures))
 
 pub base64-spec : {M : Type 1} → statement M
 base64-spec =

@@ -18,7 +18,9 @@ part-result-end : tie.Need-part-result-end
 part-result-end c = search needs
 
 returns : tie.Need-returns
-returns c = let a = c .before .before .args in let e : a .place .start + a .place .len - a .place .start ≡ a .place .len = omega arith in rw e
+returns c =
+    let p = c .before .before .args .place in
+    let e : p .start + p .len - p .start ≡ p .len = omega arith in rw e
 
 pub bytes-at-spec : {M : Type 1} → statement M
 bytes-at-spec = tie.close (tie.spec add-end sub-result part-result-start part-result-end returns)

@@ -21,8 +21,11 @@ same-length c = search needs
 
 returns : tie.Need-returns
 returns c =
-    let a = c .before .before .before .before .before .before .before .before .before .before .before .before .args in
-    rw (integer-some (a .n) (omega arith)) (field-or (nameIn (a .row .now)) (textOf (a .n)) _ _ (writable (a .n)) (c .before .before .before .before .before .before .put-key .ensures) (c .before .before .put-number .ensures))
+    let put = c .before .before in
+    let key = put .before .before .before .before in
+    let a = key .before .before .before .before .before .before .args in
+    let field = field-or (nameIn (a .row .now)) (textOf (a .n)) _ _ (writable (a .n)) (key .put-key .ensures) (put .put-number .ensures) in
+    rw (integer-some (a .n) (omega arith)) field
 
 returns-2 : tie.Need-returns-2
 unfolding integerShown writable

@@ -16,23 +16,33 @@ use Rattle.command_writer.proofs.values.safe.Statement.{statement}
 use Rattle.command_writer.proofs.values.safe.Tie as tie
 
 -- past the first test the place lies within
-inside : (c : tie.Else1) → let a = c .before .before .before .before .before .args in leb (a .place .start + a .place .len) (length (a .text .now)) ≡ true
+inside : (c : tie.Else1) → let a = c .before .before .before .before .before .args in
+    leb (a .place .start + a .place .len) (length (a .text .now)) ≡ true
 inside c = sym (c .before .fits2 .ensures) ∙ not-false (c .before .fits2 .result) (c .if1 .left)
 
 -- past the second its bytes are safe
-shown-here : (c : tie.Else2) → let a = c .before .before .before .before .before .before .before .before .args in let s = c .before .before .bytes-at .result .now in
+shown-here : (c : tie.Else2)
+    → let bytes = c .before .before in let a = bytes .before .before .before .before .before .before .args in
+    let s = bytes .bytes-at .result .now in
     shown (Kind.safe (a .short)) (bytesAt (a .text .now) (a .place)) ≡ pick (over (a .short) s) (Shown.refused 8) (textOr s)
 unfolding shown safeShown
 shown-here c =
-    let a = c .before .before .before .before .before .before .before .before .args in
-    rw (place-in (a .text .now) (a .place) (inside (c .before .before .before)), ← c .before .before .bytes-at .ensures, ← c .before .all .ensures, not-false (c .before .all .result) (c .if2 .left))
+    let all = c .before in
+    let bytes = all .before in
+    let within = bytes .before in
+    let a = within .before .before .before .before .before .args in
+    let there = place-in (a .text .now) (a .place) (inside within) in
+    rw (there, ← bytes .bytes-at .ensures, ← all .all .ensures, not-false (all .all .result) (c .if2 .left))
 
 fits-requires : tie.Need-fits-requires
 fits-requires c κs = search needs
 
 returns : tie.Need-returns
 unfolding shown
-returns c = let a = c .before .before .before .before .before .args in rw (place-out (a .text .now) (a .place) (sym (c .before .fits2 .ensures) ∙ not-true (c .before .fits2 .result) (c .if1 .taken)))
+returns c =
+    let fits = c .before in
+    let a = fits .before .before .before .before .args in
+    rw (place-out (a .text .now) (a .place) (sym (fits .fits2 .ensures) ∙ not-true (fits .fits2 .result) (c .if1 .taken)))
 
 bytes-at-requires : tie.Need-bytes-at-requires
 bytes-at-requires c κs = leb-true _ _ (inside c)
@@ -43,19 +53,28 @@ all-requires c κs = search needs
 returns-2 : tie.Need-returns-2
 unfolding shown safeShown
 returns-2 c =
-    let a = c .before .before .before .before .before .before .before .before .args in
-    rw (place-in (a .text .now) (a .place) (inside (c .before .before .before)), ← c .before .before .bytes-at .ensures, ← c .before .all .ensures, not-true (c .before .all .result) (c .if2 .taken))
+    let all = c .before in
+    let bytes = all .before in
+    let within = bytes .before in
+    let a = within .before .before .before .before .before .args in
+    let there = place-in (a .text .now) (a .place) (inside within) in
+    rw (there, ← bytes .bytes-at .ensures, ← all .all .ensures, not-true (all .all .result) (c .if2 .taken))
 
 over-requires : tie.Need-over-requires
 over-requires c κs = search needs
 
 returns-3 : tie.Need-returns-3
-returns-3 c = rw (shown-here (c .before .before), ← c .before .over .ensures, c .if3 .taken)
+returns-3 c = let over = c .before in rw (shown-here (over .before), ← over .over .ensures, c .if3 .taken)
 
 returns-4 : tie.Need-returns-4
 returns-4 c =
-    let a = c .before .before .before .before .before .before .before .before .before .before .before .args in
-    rw (shown-here (c .before .before .before), ← c .before .before .over .ensures, c .before .if3 .left, text-none (c .before .before .before .before .before .bytes-at .result .now) (c .if4 .taken)) (a .at, refl, put-none (a .out .now) (a .at))
+    let short = c .before in
+    let over = short .before in
+    let here = over .before in
+    let bytes = here .before .before in
+    let a = bytes .before .before .before .before .before .before .args in
+    rw (shown-here here, ← over .over .ensures, short .if3 .left, text-none (bytes .bytes-at .result .now) (c .if4 .taken))
+    (a .at, refl, put-none (a .out .now) (a .at))
 
 put-key-requires : tie.Need-put-key-requires
 put-key-requires c κs = search needs
@@ -68,10 +87,17 @@ same-length c = search needs
 
 returns-5 : tie.Need-returns-5
 returns-5 c =
-    let a = c .before .before .before .before .before .before .before .before .before .before .before .before .before .before .before .before .before .before .before .args in
-    let s = c .before .before .before .before .before .before .before .before .before .before .before .before .before .bytes-at .result .now in
-    rw (shown-here (c .before .before .before .before .before .before .before .before .before .before .before), ← c .before .before .before .before .before .before .before .before .before .before .over .ensures, c .before .before .before .before .before .before .before .before .before .if3 .left, text-some s (c .before .before .before .before .before .before .before .before .if4 .left))
-    (c .before .before .put .result, refl, field-put (nameIn (a .row .now)) s (c .before .before .before .before .before .before .put-key .ensures) (c .before .before .put .ensures))
+    let put = c .before .before in
+    let key = put .before .before .before .before in
+    let some = key .before .before in
+    let short = some .before in
+    let over = short .before in
+    let here = over .before in
+    let bytes = here .before .before in
+    let a = bytes .before .before .before .before .before .before .args in
+    let s = bytes .bytes-at .result .now in
+    rw (shown-here here, ← over .over .ensures, short .if3 .left, text-some s (some .if4 .left))
+    (put .put .result, refl, field-put (nameIn (a .row .now)) s (key .put-key .ensures) (put .put .ensures))
 
 pub safe-spec : {M : Type 1} → statement M
 safe-spec =

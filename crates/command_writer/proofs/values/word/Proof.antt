@@ -25,7 +25,11 @@ sub-i c = search needs
 
 returns-3 : tie.Need-returns-3
 unfolding wordShown
-returns-3 c = rw (c .before .before .before .before .if1 .left, ne-eqb _ _ (c .before .before .if2 .left), c .before .before .before .before .before .before .before .pre .1, le-ltb _ _ (c .if3 .taken))
+returns-3 c =
+    let some = c .before .before in
+    let positive = some .before .before in
+    let entry = positive .before .before .before in
+    rw (positive .if1 .left, ne-eqb _ _ (some .if2 .left), entry .pre .1, le-ltb _ _ (c .if3 .taken))
 
 put-key-requires : tie.Need-put-key-requires
 put-key-requires c κs = search needs
@@ -45,8 +49,18 @@ same-length c = search needs
 returns-4 : tie.Need-returns-4
 unfolding wordShown
 returns-4 c =
-    let a = c .before .before .before .before .before .before .before .before .before .before .before .before .before .before .before .before .args in
-    rw (c .before .before .before .before .before .before .before .before .before .before .before .before .before .if1 .left, ne-eqb _ _ (c .before .before .before .before .before .before .before .before .before .before .before .if2 .left), c .before .before .before .before .before .before .before .before .before .before .before .before .before .before .before .before .pre .1, lt-ltb _ _ (c .before .before .before .before .before .before .before .before .before .if3 .left), word-at (split 32 (a .row .now)) (a .n .magnitude - a .first), ← c .before .before .before .before .part .ensures) (c .before .before .put .result, refl, field-put (nameIn (a .row .now)) (c .before .before .before .before .part .result .now) (c .before .before .before .before .before .before .before .put-key .ensures) (c .before .before .put .ensures))
+    let put = c .before .before in
+    let part = put .before .before in
+    let key = part .before .before .before in
+    let listed = key .before .before in
+    let some = listed .before .before in
+    let positive = some .before .before in
+    let entry = positive .before .before .before in
+    let a = entry .args in
+    let word = word-at (split 32 (a .row .now)) (a .n .magnitude - a .first) in
+    let field = field-put (nameIn (a .row .now)) (part .part .result .now) (key .put-key .ensures) (put .put .ensures) in
+    rw (positive .if1 .left, ne-eqb _ _ (some .if2 .left), entry .pre .1, lt-ltb _ _ (listed .if3 .left), word, ← part .part .ensures)
+    (put .put .result, refl, field)
 
 pub word-spec : {M : Type 1} → statement M
 word-spec =
