@@ -1,12 +1,24 @@
-use Prim.Native.Nat.{_+_}
-use mathlib.Core.Path.{refl}
+use Prim.Native.Nat.{ℕ, _+_}
+use mathlib.Core.Path.{_≡_, refl}
 use lib.ListN.{length}
-use Rattle.decimal.specs.Write.{textOf}
-use Rattle.decimal.specs.declared.Written.the-variants.{End, NegativeZero, OutOfRange, NoRoom}
-use Rattle.command_writer.proofs.Puts.{put-number}
+use Rattle.octets.specs.Choice.{pick}
+use Rattle.decimal.specs.Write.{textOf, writable}
+use Rattle.decimal.specs.declared.Written.{Written}
+use Rattle.command.specs.Write.{Checked}
+use Rattle.command_writer.specs.Stores.{spare, PutOr}
+use Rattle.command_writer.proofs.Puts.{numberTold, put-number}
 use borrow.Author.Needs.{needs}
 use Rattle.command_writer.proofs.store.put_number.Statement.{statement}
 use Rattle.command_writer.proofs.store.put_number.Tie as tie
+
+-- whatever `write` answered, the number is put or refused
+told : (c : tie.After-write) (w : Written) (end : ℕ) → c .write .result ≡ w
+    → let a = c .before .before .before .args in spare end ≡ spare (a .at + length (textOf (a .n)))
+    → let checked = pick (writable (a .n)) Checked.fine (Checked.fault 6) in
+    PutOr checked (textOf (a .n)) (a .out .now) (a .at) (numberTold w end) (c .write .last .1 .0)
+told c w end e s =
+    let a = c .before .before .before .args in
+    put-number (a .n) (a .out .now) _ (a .at) end w (rw e at (c .write .ensures .0)) s
 
 write-requires : tie.Need-write-requires
 write-requires c κs = search needs
@@ -33,32 +45,19 @@ same-length : tie.Need-same-length
 same-length c = search needs
 
 returns : tie.Need-returns
-returns c =
-    let end = c .before in
-    let write = end .before .before .before .before in
-    let a = write .before .before .before .args in
-    let told = rw (end .end .given .1) at (write .write .ensures .0) in
-    put-number (a .n) (a .out .now) _ (a .at) (a .at + length (textOf (a .n))) (End (end .end .given .0 .0)) told refl
+returns c = let end = c .before in told (end .before .before .before .before) _ _ (end .end .given .1) refl
 
 same-length-2 : tie.Need-same-length-2
 same-length-2 c = search needs
 
 returns-2 : tie.Need-returns-2
-returns-2 c =
-    let write = c .before .before .before .before in
-    let a = write .before .before .before .args in
-    let told = rw (c .enum-told .given .1) at (write .write .ensures .0) in
-    put-number (a .n) (a .out .now) _ (a .at) (a .at + length (textOf (a .n))) NegativeZero told refl
+returns-2 c = told (c .before .before .before .before) _ _ (c .enum-told .given .1) refl
 
 same-length-3 : tie.Need-same-length-3
 same-length-3 c = search needs
 
 returns-3 : tie.Need-returns-3
-returns-3 c =
-    let write = c .before .before .before .before in
-    let a = write .before .before .before .args in
-    let told = rw (c .enum-told2 .given .1) at (write .write .ensures .0) in
-    put-number (a .n) (a .out .now) _ (a .at) (a .at + length (textOf (a .n))) OutOfRange told refl
+returns-3 c = told (c .before .before .before .before) _ _ (c .enum-told2 .given .1) refl
 
 same-length-4 : tie.Need-same-length-4
 same-length-4 c = search needs
@@ -68,9 +67,7 @@ returns-4 c =
     let measured = c .before in
     let full = measured .before in
     let write = full .before .before .before .before in
-    let a = write .before .before .before .args in
-    let told = rw (full .enum-told3 .given .1) at (write .write .ensures .0) in
-    put-number (a .n) (a .out .now) _ (a .at) (c .end-of .result) NoRoom told (rw (← measured .text-length .ensures) (c .end-of .ensures))
+    told write _ (c .end-of .result) (full .enum-told3 .given .1) (rw (← measured .text-length .ensures) (c .end-of .ensures))
 
 pub put-number-spec : {M : Type 1} → statement M
 put-number-spec =

@@ -1,6 +1,7 @@
-use Prim.Native.Nat.{_+_}
+use Prim.Native.Nat.{ℕ, _+_}
 use mathlib.Core.Path.{_≡_, refl, sym, _∙_}
 use mathlib.Core.Bool.{true}
+use mathlib.Core.List.{List}
 use lib.ListN.{length}
 use lib.Dec.{leb}
 use borrow.Author.Tests.{leb-true, not-true, not-false}
@@ -20,19 +21,27 @@ inside : (c : tie.Else1) → let a = c .before .before .before .before .before .
     leb (a .place .start + a .place .len) (length (a .text .now)) ≡ true
 inside c = sym (c .before .fits2 .ensures) ∙ not-false (c .before .fits2 .result) (c .if1 .left)
 
--- past the second its bytes are safe
-shown-here : (c : tie.Else2)
-    → let bytes = c .before .before in let a = bytes .before .before .before .before .before .before .args in
-    let s = bytes .bytes-at .result .now in
-    shown (Kind.safe (a .short)) (bytesAt (a .text .now) (a .place)) ≡ pick (over (a .short) s) (Shown.refused 8) (textOr s)
+-- the arguments, and the bytes at the place
+abbrev start : tie.After-bytes-at → tie.Start
+start c = c .before .before .before .before .before .before
+
+abbrev bytes : tie.After-bytes-at → List ℕ
+bytes c = c .bytes-at .result .now
+
+-- within, it is shown as its bytes are
+shown-by : (c : tie.After-all) → let b = c .before in let a = start b .args in
+    shown (Kind.safe (a .short)) (bytesAt (a .text .now) (a .place))
+    ≡ pick (c .all .result) (pick (over (a .short) (bytes b)) (Shown.refused 8) (textOr (bytes b))) (Shown.refused 6)
 unfolding shown safeShown
-shown-here c =
-    let all = c .before in
-    let bytes = all .before in
-    let within = bytes .before in
-    let a = within .before .before .before .before .before .args in
-    let there = place-in (a .text .now) (a .place) (inside within) in
-    rw (there, ← bytes .bytes-at .ensures, ← all .all .ensures, not-false (all .all .result) (c .if2 .left))
+shown-by c =
+    let b = c .before in
+    let a = start b .args in
+    rw (place-in (a .text .now) (a .place) (inside (b .before)), ← b .bytes-at .ensures, ← c .all .ensures)
+
+-- past the second test its bytes are safe
+shown-here : (c : tie.Else2) → let b = c .before .before in let a = start b .args in
+    shown (Kind.safe (a .short)) (bytesAt (a .text .now) (a .place)) ≡ pick (over (a .short) (bytes b)) (Shown.refused 8) (textOr (bytes b))
+shown-here c = let all = c .before in shown-by all ∙ rw (not-false (all .all .result) (c .if2 .left))
 
 fits-requires : tie.Need-fits-requires
 fits-requires c κs = search needs
@@ -51,14 +60,7 @@ all-requires : tie.Need-all-requires
 all-requires c κs = search needs
 
 returns-2 : tie.Need-returns-2
-unfolding shown safeShown
-returns-2 c =
-    let all = c .before in
-    let bytes = all .before in
-    let within = bytes .before in
-    let a = within .before .before .before .before .before .args in
-    let there = place-in (a .text .now) (a .place) (inside within) in
-    rw (there, ← bytes .bytes-at .ensures, ← all .all .ensures, not-true (all .all .result) (c .if2 .taken))
+returns-2 c = let all = c .before in rw (shown-by all, not-true (all .all .result) (c .if2 .taken))
 
 over-requires : tie.Need-over-requires
 over-requires c κs = search needs
@@ -71,9 +73,9 @@ returns-4 c =
     let short = c .before in
     let over = short .before in
     let here = over .before in
-    let bytes = here .before .before in
-    let a = bytes .before .before .before .before .before .before .args in
-    rw (shown-here here, ← over .over .ensures, short .if3 .left, text-none (bytes .bytes-at .result .now) (c .if4 .taken))
+    let b = here .before .before in
+    let a = start b .args in
+    rw (shown-here here, ← over .over .ensures, short .if3 .left, text-none (bytes b) (c .if4 .taken))
     (a .at, refl, put-none (a .out .now) (a .at))
 
 put-key-requires : tie.Need-put-key-requires
@@ -93,11 +95,10 @@ returns-5 c =
     let short = some .before in
     let over = short .before in
     let here = over .before in
-    let bytes = here .before .before in
-    let a = bytes .before .before .before .before .before .before .args in
-    let s = bytes .bytes-at .result .now in
-    rw (shown-here here, ← over .over .ensures, short .if3 .left, text-some s (some .if4 .left))
-    (put .put .result, refl, field-put (nameIn (a .row .now)) s (key .put-key .ensures) (put .put .ensures))
+    let b = here .before .before in
+    let a = start b .args in
+    rw (shown-here here, ← over .over .ensures, short .if3 .left, text-some (bytes b) (some .if4 .left))
+    (put .put .result, refl, field-put (nameIn (a .row .now)) (bytes b) (key .put-key .ensures) (put .put .ensures))
 
 pub safe-spec : {M : Type 1} → statement M
 safe-spec =
