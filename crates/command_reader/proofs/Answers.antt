@@ -56,7 +56,8 @@ decodedAs used (Decoded.Invalid f) = Kept.Refused Refusal.BadValue
 decodedAs used Decoded.NoRoom = Kept.Refused Refusal.ShortBuffer
 
 -- where there is room, that is what is kept
-pub decoded-kept : (v scratch : List ℕ) (used : ℕ) (o : Outcome Decoded) → 4 * used + 3 * length v ≤ 4 * length scratch → o ≡ decodeOf v scratch used
+pub decoded-kept : (v scratch : List ℕ) (used : ℕ) (o : Outcome Decoded) → 4 * used + 3 * length v ≤ 4 * length scratch
+    → o ≡ decodeOf v scratch used
     → (at : ℕ) → Keeps Kind.base64 at v scratch used (decodedAs used (o .answer)) (o .buffer)
 unfolding decodeOf valueRead
 decoded-kept v scratch used o h e at n slots =

@@ -29,8 +29,9 @@ bytes-length (a ∷ b ∷ c ∷ []) = omega arith
 bytes-length (a ∷ b ∷ c ∷ d ∷ r) = go (eqb c pad) (eqb d pad) (bytes-length r)
   where
     go : (x y : Bool) → 4 * length (bytesOf r) ≤ 3 * length r
-        → 4 * length (byte1 (valueOf a) (valueOf b) ∷ pick x (bytesOf r) (byte2 (valueOf b) (valueOf c) ∷ pick y (bytesOf r) (byte3 (valueOf c) (valueOf d) ∷ bytesOf r)))
-        ≤ 3 * length (a ∷ b ∷ c ∷ d ∷ r)
+        → let last = pick y (bytesOf r) (byte3 (valueOf c) (valueOf d) ∷ bytesOf r) in
+        let more = pick x (bytesOf r) (byte2 (valueOf b) (valueOf c) ∷ last) in
+        4 * length (byte1 (valueOf a) (valueOf b) ∷ more) ≤ 3 * length (a ∷ b ∷ c ∷ d ∷ r)
     go true y h = omega arith
     go false true h = omega arith
     go false false h = omega arith
@@ -61,7 +62,8 @@ module _ (n at : ℕ) (v : List ℕ) (s : Reader) where
   unfolding kept
   known-within = go (getD (s .slots) n free .stood)
     where
-      go : (b : Bool) → Within (4 * s .used + 3 * length v) (pick b (Turn.off 5 s) (keptBy (kindAt keys n) n at s (valueRead (kindAt keys n) v)))
+      go : (b : Bool) → let t = keptBy (kindAt keys n) n at s (valueRead (kindAt keys n) v) in
+          Within (4 * s .used + 3 * length v) (pick b (Turn.off 5 s) t)
       go true = tt
       go false = value-within (kindAt keys n)
 
@@ -77,7 +79,10 @@ field-within at f s = go (both (ltb (equalsSign f) (length f)) (isKey (keyOf f))
     longer (Turn.on r) h = omega (arith, length-drop (equalsSign f + 1) f)
     longer (Turn.off r q) h = tt
 
-    go : (a b : Bool) → Within m (pick a (pick b (kept (numberOf keys (keyOf f)) (at + (equalsSign f + 1)) (Fields.valueOf f) s) (Turn.on s)) (Turn.off 4 s))
-    go true true = longer (kept (numberOf keys (keyOf f)) (at + (equalsSign f + 1)) (Fields.valueOf f) s) (known-within (numberOf keys (keyOf f)) (at + (equalsSign f + 1)) (Fields.valueOf f) s)
+    t : Turn Reader
+    t = kept (numberOf keys (keyOf f)) (at + (equalsSign f + 1)) (Fields.valueOf f) s
+
+    go : (a b : Bool) → Within m (pick a (pick b t (Turn.on s)) (Turn.off 4 s))
+    go true true = longer t (known-within (numberOf keys (keyOf f)) (at + (equalsSign f + 1)) (Fields.valueOf f) s)
     go true false = omega arith
     go false b = tt

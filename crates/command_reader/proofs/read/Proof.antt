@@ -30,7 +30,12 @@ all-requires c κs = search needs
 
 returns-3 : tie.Need-returns-3
 unfolding readOf textRead
-returns-3 c = (rw (le-ltb _ _ (c .before .before .before .if1 .left), le-ltb _ _ (c .before .before .if2 .left), ← c .before .all .ensures, not-true (c .before .all .result) (c .if3 .taken)), claims)
+returns-3 c =
+    let all = c .before in
+    let short = all .before in
+    let room = short .before in
+    let bad = not-true (all .all .result) (c .if3 .taken) in
+    (rw (le-ltb _ _ (room .if1 .left), le-ltb _ _ (short .if2 .left), ← all .all .ensures, bad), claims)
 
 slice-aggregate-starts-with : tie.Need-slice-aggregate-starts-with
 slice-aggregate-starts-with c = search needs
@@ -41,14 +46,29 @@ starts-with-requires c κs = search needs
 returns-4 : tie.Need-returns-4
 unfolding readOf textRead
 returns-4 c =
-    let k = c .before .before .before in
-    let l = k .before .before in
-    (rw (le-ltb _ _ (l .before .if1 .left), le-ltb _ _ (l .if2 .left), ← k .before .all .ensures, not-false (k .before .all .result) (k .if3 .left), ← c .before .starts-with .ensures, not-true (c .before .starts-with .result) (c .if4 .taken)), claims)
+    let starts = c .before in
+    let clean = starts .before .before in
+    let all = clean .before in
+    let short = all .before in
+    let room = short .before in (
+      rw (
+        le-ltb _ _ (room .if1 .left),
+        le-ltb _ _ (short .if2 .left),
+        ← all .all .ensures,
+        not-false (all .all .result) (clean .if3 .left),
+        ← starts .starts-with .ensures,
+        not-true (starts .starts-with .result) (c .if4 .taken),
+      ),
+      claims,
+    )
 
 read-fields-requires : tie.Need-read-fields-requires
 read-fields-requires c κs =
-    let a = c .before .before .before .before .before .before .before .before .before .before .args in
-    omega (arith, simp length-append at (ap length (starts-sound (a .text .now) (ascii "5113;") (sym (c .before .before .starts-with .ensures) ∙ not-false _ (c .before .if4 .left)))))
+    let marked = c .before in
+    let starts = marked .before in
+    let a = starts .before .before .before .before .before .before .before .before .args in
+    let mark = sym (starts .starts-with .ensures) ∙ not-false (starts .starts-with .result) (marked .if4 .left) in
+    omega (arith, simp length-append at (ap length (starts-sound (a .text .now) (ascii "5113;") mark)))
 
 same-length : tie.Need-same-length
 same-length c = search needs
@@ -56,11 +76,22 @@ same-length c = search needs
 returns-5 : tie.Need-returns-5
 unfolding readOf textRead
 returns-5 c =
-    let m = c .before .before .before .before in
-    let k = m .before .before .before in
-    let l = k .before .before in (
-      rw (le-ltb _ _ (l .before .if1 .left), le-ltb _ _ (l .if2 .left), ← k .before .all .ensures, not-false (k .before .all .result) (k .if3 .left), ← m .before .starts-with .ensures, not-false (m .before .starts-with .result) (m .if4 .left))
-          (c .before .before .read-fields .ensures),
+    let read = c .before .before in
+    let marked = read .before .before in
+    let starts = marked .before in
+    let clean = starts .before .before in
+    let all = clean .before in
+    let short = all .before in
+    let room = short .before in (
+      rw (
+        le-ltb _ _ (room .if1 .left),
+        le-ltb _ _ (short .if2 .left),
+        ← all .all .ensures,
+        not-false (all .all .result) (clean .if3 .left),
+        ← starts .starts-with .ensures,
+        not-false (starts .starts-with .result) (marked .if4 .left),
+      )
+          (read .read-fields .ensures),
       claims,
     )
 

@@ -23,16 +23,20 @@ part s = take (s .args .end - s .args .at) (drop (s .args .at) (s .args .text .n
 abbrev reader : tie.Start → Reader
 reader s = readerOf (s .args .state) (s .args .scratch .now)
 
+abbrev start : tie.After-find → tie.Start
+start c = c .before .before .before .before
+
 -- it has a key, and so its `=`
-key : (c : tie.Else1) → let f = part (c .before .before .before .before .before .before) in
-    both (ltb (c .before .before .find .result) (length f)) (isKey (take (c .before .before .find .result) f)) ≡ true
+key : (c : tie.Else1) → let find = c .before .before in let f = part (start find) in
+    both (ltb (find .find .result) (length f)) (isKey (take (find .find .result) f)) ≡ true
 key c = sym (c .before .has-key .ensures) ∙ not-false _ (c .if1 .left)
 
-inside : (c : tie.Else1) → let s = c .before .before .before .before .before .before in
-    (c .before .before .find .result < length (part s)) × (length (part s) ≤ s .args .end - s .args .at)
+inside : (c : tie.Else1) → let find = c .before .before in let s = start find in
+    (find .find .result < length (part s)) × (length (part s) ≤ s .args .end - s .args .at)
 inside c =
-    let s = c .before .before .before .before .before .before in
-    (ltb-true _ _ (both-test _ _ (key c) .0), omega (arith, length-take (s .args .end - s .args .at) (drop (s .args .at) (s .args .text .now))))
+    let s = start (c .before .before) in
+    let cut = length-take (s .args .end - s .args .at) (drop (s .args .at) (s .args .text .now)) in
+    (ltb-true _ _ (both-test _ _ (key c) .0), omega (arith, cut))
 
 sub-f : tie.Need-sub-f
 sub-f c = search needs
@@ -51,9 +55,11 @@ has-key-requires c κs = search needs
 
 returns : tie.Need-returns
 returns c =
-    let s = c .before .before .before .before .before .before in
-    let g = c .before .before .find in
-    sym (field-bad (s .args .at) (part s) (reader s) (g .result) (g .ensures) (sym (c .before .has-key .ensures) ∙ not-true _ (c .if1 .taken)))
+    let has = c .before in
+    let find = has .before in
+    let s = start find in
+    let none = sym (has .has-key .ensures) ∙ not-true (has .has-key .result) (c .if1 .taken) in
+    sym (field-bad (s .args .at) (part s) (reader s) (find .find .result) (find .find .ensures) none)
 
 slice-aggregate-place-in : tie.Need-slice-aggregate-place-in
 slice-aggregate-place-in c = search needs
@@ -61,17 +67,20 @@ slice-aggregate-place-in c = search needs
 slice-aggregate-place-in-2 : tie.Need-slice-aggregate-place-in-2
 slice-aggregate-place-in-2 c =
     let k = c .before .before in
-    omega (arith, inside k, length-take (k .before .before .find .result) (part (k .before .before .before .before .before .before)))
+    let find = k .before .before in
+    omega (arith, inside k, length-take (find .find .result) (part (start find)))
 
 place-in-requires : tie.Need-place-in-requires
 place-in-requires c κs = search needs
 
 returns-2 : tie.Need-returns-2
 returns-2 c =
-    let k = c .before .before .before .before in
-    let s = k .before .before .before .before .before .before in
-    let g = k .before .before .find in
-    sym (field-unknown (s .args .at) (part s) (reader s) (g .result) (g .ensures) (key k) (c .before .place-in .result) (c .before .place-in .ensures) (c .if2 .taken))
+    let place = c .before in
+    let k = place .before .before .before in
+    let find = k .before .before in
+    let s = start find in
+    let unknown = field-unknown (s .args .at) (part s) (reader s) (find .find .result) (find .find .ensures) (key k) in
+    sym (unknown (place .place-in .result) (place .place-in .ensures) (c .if2 .taken))
 
 add-from : tie.Need-add-from
 add-from c = omega (arith, inside (c .before .before .before .before))
@@ -96,12 +105,14 @@ same-length c = search needs
 
 returns-3 : tie.Need-returns-3
 returns-3 c =
-    let n = c .before .before .before .before .before .before in
-    let k = n .before .before .before in
-    let s = k .before .before .before .before .before .before in
-    let g = k .before .before .find in
-    rw (field-known (s .args .at) (part s) (reader s) (g .result) (g .ensures) (key k) (n .place-in .result) (n .place-in .ensures) (c .before .before .before .before .before .if2 .left))
-    (c .before .before .known .ensures)
+    let known = c .before .before in
+    let listed = known .before .before .before in
+    let place = listed .before in
+    let k = place .before .before .before in
+    let find = k .before .before in
+    let s = start find in
+    let here = field-known (s .args .at) (part s) (reader s) (find .find .result) (find .find .ensures) (key k) in
+    rw (here (place .place-in .result) (place .place-in .ensures) (listed .if2 .left)) (known .known .ensures)
 
 pub field-spec : {M : Type 1} → statement M
 field-spec =

@@ -11,17 +11,21 @@ use Rattle.command_reader.proofs.fields.known.Statement.{statement}
 use Rattle.command_reader.proofs.fields.known.Tie as tie
 
 -- what is kept is what `keep` answered
-told : (c : tie.After-keep) → let a = c .before .before .before .before .before .before .before .args in
-    keptIn (a .n) (readerOf (a .t1) (a .scratch .now)) (c .keep .last .1 .1 .1 .0) (c .keep .result) ≡ kept (a .n) (a .at) (a .v .now) (readerOf (a .t1) (a .scratch .now))
+told : (c : tie.After-keep) → let kind = c .before .before in let a = kind .before .before .before .before .before .args in
+    let reader = readerOf (a .t1) (a .scratch .now) in
+    keptIn (a .n) reader (c .keep .last .1 .1 .1 .0) (c .keep .result) ≡ kept (a .n) (a .at) (a .v .now) reader
 unfolding kept
 told c =
-    let a = c .before .before .before .before .before .before .before .args in
-    rw (c .before .before .before .if1 .left, ← c .before .before .kind-of .ensures) (c .keep .ensures (a .n) (a .t1 .slots))
+    let kind = c .before .before in
+    let a = kind .before .before .before .before .before .args in
+    rw (kind .before .if1 .left, ← kind .kind-of .ensures) (c .keep .ensures (a .n) (a .t1 .slots))
 
-room : (c : tie.After-keep) → let a = c .before .before .before .before .before .before .before .args in
-    Within (4 * a .t1 .used + 3 * length (a .v .now)) (keptIn (a .n) (readerOf (a .t1) (a .scratch .now)) (c .keep .last .1 .1 .1 .0) (c .keep .result))
+room : (c : tie.After-keep) → let kind = c .before .before in let a = kind .before .before .before .before .before .args in
+    let reader = readerOf (a .t1) (a .scratch .now) in
+    Within (4 * a .t1 .used + 3 * length (a .v .now)) (keptIn (a .n) reader (c .keep .last .1 .1 .1 .0) (c .keep .result))
 room c =
-    let a = c .before .before .before .before .before .before .before .args in
+    let kind = c .before .before in
+    let a = kind .before .before .before .before .before .args in
     rw (told c) (known-within (a .n) (a .at) (a .v .now) (readerOf (a .t1) (a .scratch .now)))
 
 mul-slot : tie.Need-mul-slot
@@ -50,7 +54,8 @@ array-set-from-slots : tie.Need-array-set-from-slots
 array-set-from-slots c = search needs
 
 add-total : tie.Need-add-total
-add-total c = omega (arith, rw (c .before .before .filled .given .1) at (room (c .before .before .before .before .before .before)))
+add-total c =
+    omega (arith, let filled = c .before .before in rw (filled .filled .given .1) at (room (filled .before .before .before .before)))
 
 enum-known-r : tie.Need-enum-known-r
 enum-known-r c = search needs
@@ -59,13 +64,13 @@ same-length : tie.Need-same-length
 same-length c = search needs
 
 returns-2 : tie.Need-returns-2
-returns-2 c = rw (c .before .before .filled .given .1) at (told (c .before .before .before .before .before .before))
+returns-2 c = let filled = c .before .before in rw (filled .filled .given .1) at (told (filled .before .before .before .before))
 
 same-length-2 : tie.Need-same-length-2
 same-length-2 c = search needs
 
 returns-3 : tie.Need-returns-3
-returns-3 c = rw (c .before .r .given .1) at (told (c .before .before .before .before .before))
+returns-3 c = let refused = c .before in rw (refused .r .given .1) at (told (refused .before .before .before .before))
 
 pub known-spec : {M : Type 1} → statement M
 known-spec =

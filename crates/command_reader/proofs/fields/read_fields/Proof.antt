@@ -26,6 +26,9 @@ abbrev μ-loop : tie.MeasureT-loop
 abbrev text : tie.After-find Inv-loop μ-loop → List ℕ
 text c = c .before .before .before .before .before .args .text .now
 
+abbrev scratch : tie.After-find Inv-loop μ-loop → List ℕ
+scratch c = c .before .before .before .before .before .args .scratch .now
+
 abbrev part : tie.After-find Inv-loop μ-loop → List ℕ
 part c = take (c .find .result - c .before .loop .at) (drop (c .before .loop .at) (text c))
 
@@ -35,14 +38,16 @@ within c = cut-within 59 (text c) (c .before .loop .at) (c .find .result) (c .be
 first : (c : tie.After-find Inv-loop μ-loop) → (more : List (List ℕ)) × (split 59 (drop (c .before .loop .at) (text c)) ≡ part c ∷ more)
 first c = cut-first 59 (text c) (c .before .loop .at) (c .find .result) (c .before .loop .inv .0) (c .find .ensures)
 
-last : (c : tie.After-find Inv-loop μ-loop) → c .find .result ≡ length (text c) → split 59 (drop (c .before .loop .at) (text c)) ≡ part c ∷ []
+last : (c : tie.After-find Inv-loop μ-loop) → c .find .result ≡ length (text c)
+    → split 59 (drop (c .before .loop .at) (text c)) ≡ part c ∷ []
 last c e = cut-last 59 (text c) (c .before .loop .at) (c .find .result) (c .before .loop .inv .0) (c .find .ensures) e
 
 -- what it does to the whole
-turn : (c : tie.After-field Inv-loop μ-loop) (more : List (List ℕ)) → let l = c .before .before .before .loop in
-    split 59 (drop (l .at) (text (c .before .before))) ≡ part (c .before .before) ∷ more
-    → fieldsRead kept 5 (split 59 (drop 5 (text (c .before .before)))) (begun (c .before .before .before .before .before .before .before .args .scratch .now))
-    ≡ andThen (turned (c .field .result) (c .field .last .1 .1 .1 .1 .0)) (λ (s : Reader). fieldsRead kept (l .at + length (part (c .before .before)) + 1) more s)
+turn : (c : tie.After-field Inv-loop μ-loop) (more : List (List ℕ))
+    → let find = c .before .before in let l = find .before .loop in let next = l .at + length (part find) + 1 in
+    split 59 (drop (l .at) (text find)) ≡ part find ∷ more
+    → fieldsRead kept 5 (split 59 (drop 5 (text find))) (begun (scratch find))
+    ≡ andThen (turned (c .field .result) (c .field .last .1 .1 .1 .1 .0)) (λ (s : Reader). fieldsRead kept next more s)
 turn c more e =
     let l = c .before .before .before .loop in
     sym (l .inv .3) ∙ fields-next kept (l .at) (readerOf (l .state) (l .scratch)) e (c .field .ensures)
@@ -51,7 +56,11 @@ fresh-requires : tie.Need-fresh-requires Inv-loop μ-loop
 fresh-requires c κs = search needs
 
 loop-holds : tie.Need-loop-holds Inv-loop μ-loop
-loop-holds c = (omega arith, refl, omega (arith, ap (λ (r : Reader). r .used) (c .fresh .ensures (c .before .before .before .args .scratch .now))), ap (fieldsRead kept 5 (split 59 (drop 5 (c .before .before .before .args .text .now)))) (c .fresh .ensures (c .before .before .before .args .scratch .now)))
+loop-holds c =
+    let a = c .before .before .before .args in
+    let e = c .fresh .ensures (a .scratch .now) in
+    let all = split 59 (drop 5 (a .text .now)) in
+    (omega arith, refl, omega (arith, ap (λ (r : Reader). r .used) e), ap (fieldsRead kept 5 all) e)
 
 find-requires : tie.Need-find-requires Inv-loop μ-loop
 find-requires c κs = search needs
@@ -66,7 +75,10 @@ same-length : tie.Need-same-length Inv-loop μ-loop
 same-length c = search needs
 
 returns : tie.Need-returns Inv-loop μ-loop
-returns c = rw (turn (c .before .before .before .before .before) _ (first (c .before .before .before .before .before .before .before) .1), c .before .fault .given .1)
+returns c =
+    let fault = c .before in
+    let field = fault .before .before .before .before in
+    rw (turn field _ (first (field .before .before) .1), fault .fault .given .1)
 
 enum-told : tie.Need-enum-told Inv-loop μ-loop
 enum-told c = search needs
@@ -79,27 +91,33 @@ same-length-2 c = search needs
 
 returns-2 : tie.Need-returns-2 Inv-loop μ-loop
 unfolding fieldsRead
-returns-2 c = rw (turn (c .before .before .before .before .before .before .before .before) [] (last (c .before .before .before .before .before .before .before .before .before .before) (c .before .before .if1 .taken)), c .before .before .before .before .enum-told .given .1, c .complete .ensures)
+returns-2 c =
+    let end = c .before .before in
+    let on = end .before .before in
+    let field = on .before .before .before .before in
+    rw (turn field [] (last (field .before .before) (end .if1 .taken)), on .enum-told .given .1, c .complete .ensures)
 
 add-at : tie.Need-add-at Inv-loop μ-loop
-add-at c = omega (arith, within (c .before .before .before .before .before .before .before .before))
+add-at c = let field = c .before .before .before .before .before .before in omega (arith, within (field .before .before))
 
 loop-less : tie.Need-loop-less Inv-loop μ-loop
-loop-less c = omega (arith, within (c .before .before .before .before .before .before .before .before))
+loop-less c = let field = c .before .before .before .before .before .before in omega (arith, within (field .before .before))
 
 loop-again : tie.Need-loop-again Inv-loop μ-loop
 loop-again c =
-    let k = c .before .before .before .before .before .before in
-    let g = k .before .before in
-    let l = g .before .loop in
-    let e = c .before .before .enum-told .given .1 in
-    let size = cut-length 59 (text g) (l .at) (g .find .result) (l .inv .0) (g .find .ensures) in
-    let more = cut-more 59 (text g) (l .at) (g .find .result) (l .inv .0) (g .find .ensures) (c .if1 .left) in
-    let next : l .at + length (part g) + 1 ≡ g .find .result + 1 = omega (arith, g .find .ensures) in (
-      omega (arith, within g),
+    let on = c .before .before in
+    let field = on .before .before .before .before in
+    let find = field .before .before in
+    let l = find .before .loop in
+    let g = find .find in
+    let e = on .enum-told .given .1 in
+    let size = cut-length 59 (text find) (l .at) (g .result) (l .inv .0) (g .ensures) in
+    let more = cut-more 59 (text find) (l .at) (g .result) (l .inv .0) (g .ensures) (c .if1 .left) in
+    let next : l .at + length (part find) + 1 ≡ g .result + 1 = omega (arith, g .ensures) in (
+      omega (arith, within find),
       search needs,
-      omega (arith, rw (← k .field .ensures, e) at (field-within (l .at) (part g) (readerOf (l .state) (l .scratch)))),
-      sym (turn k _ more ∙ rw (e, next)),
+      omega (arith, rw (← field .field .ensures, e) at (field-within (l .at) (part find) (readerOf (l .state) (l .scratch)))),
+      sym (turn field _ more ∙ rw (e, next)),
     )
 
 pub read-fields-spec : {M : Type 1} → statement M

@@ -35,10 +35,14 @@ returns : tie.Need-returns
 returns c = rw (← c .before .before .command-of .ensures, c .enum-told .given .1)
 
 returns-2 : tie.Need-returns-2
-returns-2 c = rw (← c .before .before .before .before .command-of .ensures, acts _ (c .before .before .before .match .keys2), eq-eqb _ _ (c .if1 .taken))
+returns-2 c =
+    let acting = c .before .before .before in
+    rw (← acting .before .command-of .ensures, acts _ (acting .match .keys2), eq-eqb _ _ (c .if1 .taken))
 
 returns-3 : tie.Need-returns-3
-returns-3 c = rw (← c .before .before .before .before .command-of .ensures, acts _ (c .before .before .before .match .keys2), ne-eqb _ _ (c .if1 .left))
+returns-3 c =
+    let acting = c .before .before .before in
+    rw (← acting .before .command-of .ensures, acts _ (acting .match .keys2), ne-eqb _ _ (c .if1 .left))
 
 pub complete-spec : {M : Type 1} → statement M
 complete-spec = tie.close (tie.spec command-of-requires enum-told returns returns-2 returns-3)

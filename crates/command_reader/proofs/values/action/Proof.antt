@@ -17,7 +17,10 @@ coded-requires : tie.Need-coded-requires
 coded-requires c κs = search needs
 
 returns : tie.Need-returns
-returns c = λ at scratch used n slots. rw (c .coded .ensures, alias-read _ (sym (c .before .before .equal .ensures) ∙ c .before .if1 .taken))
+returns c =
+    let alias = c .before in
+    let e = sym (alias .before .equal .ensures) ∙ alias .if1 .taken in
+    λ at scratch used n slots. rw (c .coded .ensures, alias-read _ e)
 
 slice-aggregate-word : tie.Need-slice-aggregate-word
 slice-aggregate-word c = search needs
@@ -27,7 +30,10 @@ unfolding split onto
 word-requires c κs = (refl, omega arith)
 
 returns-2 : tie.Need-returns-2
-returns-2 c = λ at. no-alias 1 _ finished _ (c .word .result) at (sym (c .before .before .before .equal .ensures) ∙ c .before .before .if1 .left) (c .word .ensures at)
+returns-2 c =
+    let plain = c .before .before in
+    let e = sym (plain .before .equal .ensures) ∙ plain .if1 .left in
+    λ at. no-alias 1 _ finished _ (c .word .result) at e (c .word .ensures at)
 
 pub action-spec : {M : Type 1} → statement M
 action-spec =

@@ -34,7 +34,10 @@ same-length : tie.Need-same-length
 same-length c = search needs
 
 returns : tie.Need-returns
-returns c = λ at n slots. rw (c .placed .ensures) (told (c .before .before .before .before .before .before) _ (c .before .before .n .given .1) at n slots)
+returns c =
+    let valid = c .before .before in
+    let decode = valid .before .before .before .before in
+    λ at n slots. rw (c .placed .ensures) (told decode _ (valid .n .given .1) at n slots)
 
 same-length-2 : tie.Need-same-length-2
 same-length-2 c = search needs

@@ -20,7 +20,10 @@ enum-told-2 c = search needs
 
 returns : tie.Need-returns
 unfolding valueRead
-returns c = λ at scratch used n slots. rw (c .numbered .ensures, ← c .before .before .before .before .parse .ensures .0, c .before .before .n .given .1)
+returns c =
+    let valid = c .before .before in
+    let parse = valid .before .before in
+    λ at scratch used n slots. rw (c .numbered .ensures, ← parse .parse .ensures .0, valid .n .given .1)
 
 returns-2 : tie.Need-returns-2
 unfolding valueRead

@@ -14,15 +14,25 @@ returns c = λ scratch used n slots. rw (← c .before .all .ensures, not-true (
 
 returns-2 : tie.Need-returns-2
 unfolding valueRead safeRead
-returns-2 c = λ scratch used n slots. rw (← c .before .before .before .all .ensures, not-false (c .before .before .before .all .result) (c .before .before .if1 .left), c .before .if2 .taken, lt-ltb _ _ (c .if3 .taken))
+returns-2 c =
+    let limit = c .before in
+    let safe = limit .before in
+    let all = safe .before in
+    let each = not-false (all .all .result) (safe .if1 .left) in
+    λ scratch used n slots. rw (← all .all .ensures, each, limit .if2 .taken, lt-ltb _ _ (c .if3 .taken))
 
 placed-requires : tie.Need-placed-requires
 placed-requires c κs = search needs
 
 returns-3 : tie.Need-returns-3
 unfolding valueRead safeRead
-returns-3 c = λ scratch used n slots.
-    rw (c .placed .ensures, ← c .before .before .before .all .ensures, not-false (c .before .before .before .all .result) (c .before .before .if1 .left)) (⊎-elim (λ w. rw (w .0 .taken, le-ltb _ _ (w .1 .left))) (λ w. rw (w .left)) (c .before .if2 .came))
+returns-3 c =
+    let limit = c .before in
+    let safe = limit .before in
+    let all = safe .before in
+    let each = not-false (all .all .result) (safe .if1 .left) in
+    λ scratch used n slots. rw (c .placed .ensures, ← all .all .ensures, each)
+    (⊎-elim (λ w. rw (w .0 .taken, le-ltb _ _ (w .1 .left))) (λ w. rw (w .left)) (limit .if2 .came))
 
 pub safe-spec : {M : Type 1} → statement M
 safe-spec = tie.close (tie.spec all-requires returns returns-2 placed-requires returns-3)

@@ -1,5 +1,6 @@
-use Prim.Native.Nat.{_+_, _-_, _≤_}
+use Prim.Native.Nat.{ℕ, _+_, _-_, _≤_}
 use mathlib.Core.Path.{_≡_, sym, _∙_}
+use mathlib.Core.List.{List}
 use native.Mathlib.Omega.{arith}
 use lib.ListN.{length, drop}
 use borrow.Author.Needs.{needs}
@@ -10,14 +11,22 @@ use Rattle.command_reader.proofs.words.place_in.Statement.{statement}
 use Rattle.command_reader.proofs.words.place_in.Tie as tie
 
 abbrev Inv-loop : tie.InvT-loop
-Inv-loop words word n₀ at₀ n at = (at ≤ length words) × (n ≤ at) × (n + placeIn (split 32 (drop at words)) word ≡ placeIn (split 32 words) word)
+Inv-loop words word n₀ at₀ n at =
+    (at ≤ length words) × (n ≤ at) × (n + placeIn (split 32 (drop at words)) word ≡ placeIn (split 32 words) word)
 
 abbrev μ-loop : tie.MeasureT-loop
 μ-loop words word n₀ at₀ n at = length words - at
 
--- the part that a turn looks at ends within the words
-within : (c : tie.After-find Inv-loop μ-loop) → c .find .result ≤ length (c .before .before .before .before .args .words .now)
-within c = cut-within 32 (c .before .before .before .before .args .words .now) (c .before .loop .at) (c .find .result) (c .before .loop .inv .0) (c .find .ensures)
+-- what a turn looks for, and where
+abbrev word : tie.After-find Inv-loop μ-loop → List ℕ
+word c = c .before .before .before .before .args .word .now
+
+abbrev words : tie.After-find Inv-loop μ-loop → List ℕ
+words c = c .before .before .before .before .args .words .now
+
+-- the part that it looks at ends within the words
+within : (c : tie.After-find Inv-loop μ-loop) → c .find .result ≤ length (words c)
+within c = cut-within 32 (words c) (c .before .loop .at) (c .find .result) (c .before .loop .inv .0) (c .find .ensures)
 
 loop-holds : tie.Need-loop-holds Inv-loop μ-loop
 loop-holds c = (omega arith, omega arith, omega arith)
@@ -39,10 +48,11 @@ equal-requires c κs = search needs
 
 returns : tie.Need-returns Inv-loop μ-loop
 returns c =
-    let l = c .before .before .before .before .loop in
-    let g = c .before .before .before .find in
-    let p = cut-first 32 (c .before .before .before .before .before .before .before .args .words .now) (l .at) (g .result) (l .inv .0) (g .ensures) in
-    omega (arith, place-here (c .before .before .before .before .before .before .before .args .word .now) (p .1) (sym (c .before .equal .ensures) ∙ c .if1 .taken))
+    let equal = c .before in
+    let find = equal .before .before in
+    let l = find .before .loop in
+    let p = cut-first 32 (words find) (l .at) (find .find .result) (l .inv .0) (find .find .ensures) in
+    omega (arith, place-here (word find) (p .1) (sym (equal .equal .ensures) ∙ c .if1 .taken))
 
 add-n : tie.Need-add-n Inv-loop μ-loop
 add-n c = omega arith
@@ -50,10 +60,12 @@ add-n c = omega arith
 returns-2 : tie.Need-returns-2 Inv-loop μ-loop
 unfolding placeIn
 returns-2 c =
-    let l = c .before .before .before .before .before .loop in
-    let g = c .before .before .before .before .find in
-    let p = cut-last 32 (c .before .before .before .before .before .before .before .before .args .words .now) (l .at) (g .result) (l .inv .0) (g .ensures) (c .if2 .taken) in
-    omega (arith, place-later (c .before .before .before .before .before .before .before .before .args .word .now) p (sym (c .before .before .equal .ensures) ∙ c .before .if1 .left))
+    let other = c .before in
+    let equal = other .before in
+    let find = equal .before .before in
+    let l = find .before .loop in
+    let p = cut-last 32 (words find) (l .at) (find .find .result) (l .inv .0) (find .find .ensures) (c .if2 .taken) in
+    omega (arith, place-later (word find) p (sym (equal .equal .ensures) ∙ other .if1 .left))
 
 add-at : tie.Need-add-at Inv-loop μ-loop
 add-at c = omega (arith, within (c .before .before .before .before))
@@ -63,11 +75,14 @@ loop-less c = omega (arith, within (c .before .before .before .before))
 
 loop-again : tie.Need-loop-again Inv-loop μ-loop
 loop-again c =
-    let l = c .before .before .before .before .before .loop in
-    let g = c .before .before .before .before .find in
-    let p = cut-more 32 (c .before .before .before .before .before .before .before .before .args .words .now) (l .at) (g .result) (l .inv .0) (g .ensures) (c .if2 .left) in
-    let w = within (c .before .before .before .before) in
-    (omega arith, omega arith, omega (arith, place-later (c .before .before .before .before .before .before .before .before .args .word .now) p (sym (c .before .before .equal .ensures) ∙ c .before .if1 .left)))
+    let other = c .before in
+    let equal = other .before in
+    let find = equal .before .before in
+    let l = find .before .loop in
+    let p = cut-more 32 (words find) (l .at) (find .find .result) (l .inv .0) (find .find .ensures) (c .if2 .left) in
+    let w = within find in
+    let later = place-later (word find) p (sym (equal .equal .ensures) ∙ other .if1 .left) in
+    (omega arith, omega arith, omega (arith, later))
 
 pub place-in-spec : {M : Type 1} → statement M
 place-in-spec =
