@@ -66,7 +66,9 @@ read-fields-requires : tie.Need-read-fields-requires
 read-fields-requires c κs =
     let marked = c .before in
     let starts = marked .before in
-    let a = starts .before .before .before .before .before .before .before .before .args in
+    let clean = starts .before .before in
+    let room = clean .before .before .before in
+    let a = room .before .before .before .args in
     let mark = sym (starts .starts-with .ensures) ∙ not-false (starts .starts-with .result) (marked .if4 .left) in
     omega (arith, simp length-append at (ap length (starts-sound (a .text .now) (ascii "5113;") mark)))
 

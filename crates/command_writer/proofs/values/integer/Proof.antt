@@ -1,7 +1,6 @@
 use mathlib.Core.Path.{_≡_, refl}
 use native.Mathlib.Omega.{arith}
-use Rattle.decimal.specs.Write.{textOf}
-use Rattle.decimal.specs.Write.{writable}
+use Rattle.decimal.specs.Write.{textOf, writable}
 use Rattle.command.specs.Values.{integerShown}
 use Rattle.command_writer.specs.Table.{nameIn}
 use Rattle.command_writer.proofs.Puts.{put-none}
