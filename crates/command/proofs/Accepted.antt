@@ -24,9 +24,12 @@ pub record Accepted (c : List Value) (out : List ℕ) : Type 0 where
   pub short : length (canonical c) ≤ textLimit
   pub room : length (canonical c) ≤ length out
 
-pub accepted-writes : (c : List Value) (out : List ℕ) → Accepted c out → writeOf c out ≡ outcome (Answer.written (length (canonical c))) (sets out 0 (canonical c))
+pub accepted-writes : (c : List Value) (out : List ℕ) → Accepted c out
+    → writeOf c out ≡ outcome (Answer.written (length (canonical c))) (sets out 0 (canonical c))
 unfolding writeOf
-accepted-writes c out a = rw (a .kinds, a .whole, le-ltb textLimit (length (canonical c)) (a .short), le-ltb (length out) (length (canonical c)) (a .room))
+accepted-writes c out a =
+    let l = length (canonical c) in
+    rw (a .kinds, a .whole, le-ltb textLimit l (a .short), le-ltb (length out) l (a .room))
 
 not-written : {r n : ℕ} {A : Type 0} → Answer.refused r ≡ Answer.written n → A
 not-written e = let z : _≡_ {A = ℕ} 0 1 = cc in absurd (omega arith)
@@ -35,9 +38,10 @@ pub writes-accepted : (c : List Value) (out : List ℕ) (n : ℕ) → writeOf c 
 unfolding writeOf
 writes-accepted c out n e = kinds (checkedOf keys c) refl e
   where
-    fits : (x y : Bool) → ltb textLimit (length (canonical c)) ≡ x → ltb (length out) (length (canonical c)) ≡ y → checkedOf keys c ≡ Checked.fine → missing c ≡ false
-        → pick (either x y) (outcome (Answer.refused 9) out) (outcome (Answer.written (length (canonical c))) (sets out 0 (canonical c))) .answer ≡ Answer.written n
-        → Accepted c out
+    fits : (x y : Bool) → ltb textLimit (length (canonical c)) ≡ x → ltb (length out) (length (canonical c)) ≡ y
+        → checkedOf keys c ≡ Checked.fine → missing c ≡ false
+        → let stored = outcome (Answer.written (length (canonical c))) (sets out 0 (canonical c)) in
+        pick (either x y) (outcome (Answer.refused 9) out) stored .answer ≡ Answer.written n → Accepted c out
     fits false false l r k w q = record { kinds = k; whole = w; short = ltb-false _ _ l; room = ltb-false _ _ r }
     fits false true l r k w q = not-written q
     fits true y l r k w q = not-written q

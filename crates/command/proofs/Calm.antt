@@ -101,7 +101,8 @@ letter-calm c h = rw (letter-value c h) at (at 64 letter-tested (unfold calm tex
 pub groups-calm : {t : List ℕ} {k : ℕ} → Groups t k → every calm t ≡ true
 unfolding every calm textByte
 groups-calm none = refl
-groups-calm (full {a} {b} {c} {d} ha hb hc hd g) = rw (letter-calm a ha, letter-calm b hb, letter-calm c hc, letter-calm d hd) (groups-calm g)
+groups-calm (full {a} {b} {c} {d} ha hb hc hd g) =
+    rw (letter-calm a ha, letter-calm b hb, letter-calm c hc, letter-calm d hd) (groups-calm g)
 groups-calm (pad1 {a} {b} {c} ha hb hc z) = rw (letter-calm a ha, letter-calm b hb, letter-calm c hc)
 groups-calm (pad2 {a} {b} ha hb z) = rw (letter-calm a ha, letter-calm b hb)
 

@@ -19,7 +19,8 @@ use Rattle.decimal.specs.Read.{parseOf, magnitudeOf, digitsOf, rangedOf}
 use Rattle.decimal.specs.Write as Decimal
 use Rattle.command.specs.Keys.{placeIn}
 use Rattle.command.specs.Letters.{keyByte, safeByte, textByte}
-use Rattle.command.specs.Values.{Value, count, aliasRead, wordRead, safeRead, valueRead, wordShown, safeShown, integerShown, base64Shown, shown}
+use Rattle.command.specs.Values.{Value, count, aliasRead, wordRead, safeRead, valueRead}
+use Rattle.command.specs.Values.{wordShown, safeShown, integerShown, base64Shown, shown}
 use Rattle.command.specs.Fields.{isKey, fieldRead, fieldsRead, textRead}
 use Rattle.command.specs.Meaning.{Meaning, meaningOf}
 use Rattle.command.specs.Canonical.{fieldsOf, canonical}
@@ -55,11 +56,16 @@ finish =
     ∷ []
 
 loose-read : meaningOf loose ≡ Meaning.command finish
-unfolding meaningOf textRead fieldsRead fieldRead isKey keyByte textByte safeByte every startsWith equals split onto indexOf indexAfter placeIn valueRead wordRead aliasRead safeRead verdictOf scan ending bytesOf group valueOf parseOf magnitudeOf digitsOf rangedOf
+unfolding meaningOf textRead fieldsRead fieldRead isKey keyByte textByte safeByte every startsWith equals split onto
+    indexOf indexAfter placeIn valueRead wordRead aliasRead safeRead verdictOf scan ending bytesOf group valueOf
+    parseOf magnitudeOf digitsOf rangedOf
 loose-read = refl
 
-finish-written : (canonical finish ≡ tight) × (writeOf finish (replicate 33 0) .answer ≡ Answer.written 33) × (writeOf finish (replicate 32 0) .answer ≡ Answer.refused 9)
-unfolding writeOf checkedOf canonical fieldsOf shown wordShown safeShown integerShown base64Shown every safeByte indexOf indexAfter join split onto Base64.textOf letterOf Decimal.writable Decimal.textOf Decimal.fixed Decimal.widthFrom
+finish-written : (canonical finish ≡ tight)
+    × (writeOf finish (replicate 33 0) .answer ≡ Answer.written 33)
+    × (writeOf finish (replicate 32 0) .answer ≡ Answer.refused 9)
+unfolding writeOf checkedOf canonical fieldsOf shown wordShown safeShown integerShown base64Shown every safeByte
+    indexOf indexAfter join split onto Base64.textOf letterOf Decimal.writable Decimal.textOf Decimal.fixed Decimal.widthFrom
 finish-written = (refl, refl, refl)
 
 -- by the theorems
@@ -113,7 +119,8 @@ NoneCanonical [] = Unit {0}
 NoneCanonical (t ∷ ts) = (CanonicalText t → ⊥) × NoneCanonical ts
 
 strange-tested : every (λ (t : List ℕ). not (again (meaningOf t) t)) strange ≡ true
-unfolding again meaningOf textRead fieldsRead fieldRead isKey keyByte textByte safeByte every startsWith equals split onto indexOf indexAfter
+unfolding again meaningOf textRead fieldsRead fieldRead isKey keyByte textByte safeByte every startsWith equals split onto
+    indexOf indexAfter
     placeIn valueRead wordRead aliasRead safeRead verdictOf scan ending bytesOf group valueOf parseOf magnitudeOf digitsOf rangedOf
     canonical fieldsOf shown wordShown safeShown integerShown base64Shown join Base64.textOf letterOf
     Decimal.writable Decimal.textOf Decimal.fixed Decimal.widthFrom

@@ -46,7 +46,8 @@ field-at k n h us ws l at v =
     )
 
 -- the fields so far are then one more
-pub set-next : (us ws : List Field) (n : ℕ) → length us ≡ n → (x : Value) → set (us ++ Field.unseen ∷ ws) n (Field.seen x) ≡ (us ++ Field.seen x ∷ []) ++ ws
+pub set-next : (us ws : List Field) (n : ℕ) → length us ≡ n → (x : Value)
+    → set (us ++ Field.unseen ∷ ws) n (Field.seen x) ≡ (us ++ Field.seen x ∷ []) ++ ws
 set-next us ws n l x = rw (set-at us Field.unseen ws (Field.seen x) n l, append-snoc us (Field.seen x) ws)
 
 pub length-next : (us : List Field) (f : Field) (n : ℕ) → length us ≡ n → length (us ++ f ∷ []) ≡ suc n

@@ -40,7 +40,8 @@ module _ (t scratch : List ℕ) where
   alike-later : {a b : ℕ} {s : Reader} {fs : List Field} → a ≤ b → Alike a s fs → Alike b s fs
   alike-later h r = record { few = omega (arith, r .few); fits = r .fits; size = r .size; each = r .each }
 
-  module _ (enough : scratchRoom ≤ length scratch) (short : length t ≤ textLimit) (n from at : ℕ) (v : List ℕ) (h : from ≤ at) (a : At t at v) where
+  module _ (enough : scratchRoom ≤ length scratch) (short : length t ≤ textLimit)
+      (n from at : ℕ) (v : List ℕ) (h : from ≤ at) (a : At t at v) where
     kept-agree : {s : Reader} {fs : List Field} (g : Got) → Alike from s fs → Reads (kindAt keys n) v g
         → Agree (Alike (at + length v)) (keptBy (kindAt keys n) n at s g) (stored n fs g)
     kept-agree {s} {fs} (Got.got x) r d =
@@ -68,7 +69,8 @@ module _ (t scratch : List ℕ) where
       record {
         later = alike-later;
         steps = λ n from at v short l h a r.
-            once-agree enough short n from at v h a r (kept-agree enough short n from at v h a (valueRead (kindAt keys n) v) r (reads (kindAt keys n) v)) (each-at n l (r .each));
+            (let agree = kept-agree enough short n from at v h a (valueRead (kindAt keys n) v) r (reads (kindAt keys n) v) in
+            once-agree enough short n from at v h a r agree (each-at n l (r .each)));
       }
 
   pub read-agree : scratchRoom ≤ length scratch → Agree (Alike (length t)) (textRead kept t (begun scratch)) (textRead meant t (blank keys))
@@ -92,7 +94,8 @@ complete-means t scratch c h = rw (bytes-length t (c .id) h) (go (either (eqb (a
     go true = refl
     go false = refl
 
-finished-means : {t scratch : List ℕ} {at : ℕ} {x : Turn Reader} {y : Turn (List Field)} → scratchRoom ≤ length scratch → Agree (Alike t scratch at) x y
+finished-means : {t scratch : List ℕ} {at : ℕ} {x : Turn Reader} {y : Turn (List Field)} → scratchRoom ≤ length scratch
+    → Agree (Alike t scratch at) x y
     → meaningIn t (Read.finished x) ≡ Meaning.finished y
 unfolding commandOf
 finished-means {t} enough (on {s} r) =
@@ -110,7 +113,8 @@ pub read-length : (t scratch : List ℕ) → length (readOf t scratch .buffer) �
 unfolding readOf
 read-length t scratch = go (ltb (length scratch) scratchRoom) refl
   where
-    ends : {x : Turn Reader} {y : Turn (List Field)} → Agree (Alike t scratch (length t)) x y → length (Read.finished x .buffer) ≡ length scratch
+    ends : {x : Turn Reader} {y : Turn (List Field)} → Agree (Alike t scratch (length t)) x y
+        → length (Read.finished x .buffer) ≡ length scratch
     ends (on r) = r .size
     ends (off r) = r .size
 

@@ -81,7 +81,8 @@ module _ (t : List ℕ) {S S′ : Type 0} {R : ℕ → S → S′ → Type 0} {s
   field-agree : (from at : ℕ) (f : List ℕ) {s : S} {s′ : S′} → length t ≤ textLimit → from ≤ at → At t at f → R from s s′
       → Agree (R (at + length f)) (fieldRead step at f s) (fieldRead step′ at f s′)
   unfolding fieldRead
-  field-agree from at f {s} {s′} short h a r = go (ltb (equalsSign f) (length f)) refl (isKey (keyOf f)) (ltb (numberOf keys (keyOf f)) (length keys)) refl
+  field-agree from at f {s} {s′} short h a r =
+      go (ltb (equalsSign f) (length f)) refl (isKey (keyOf f)) (ltb (numberOf keys (keyOf f)) (length keys)) refl
     where
       go : (x : Bool) → ltb (equalsSign f) (length f) ≡ x → (y z : Bool) → ltb (numberOf keys (keyOf f)) (length keys) ≡ z
           → Agree (R (at + length f))
@@ -97,7 +98,8 @@ module _ (t : List ℕ) {S S′ : Type 0} {R : ℕ → S → S′ → Type 0} {s
           (related .steps (numberOf keys (keyOf f)) from (at + (equalsSign f + 1)) (valueOf f) short (ltb-true _ _ ez) (omega arith)
           (value-at t at f (equalsSign f + 1) k a) r)
 
-  fields-agree : (from at : ℕ) (fs : List (List ℕ)) {s : S} {s′ : S′} → length t ≤ textLimit → from ≤ at → from ≤ length t → Stand t at fs → R from s s′
+  fields-agree : (from at : ℕ) (fs : List (List ℕ)) {s : S} {s′ : S′} → length t ≤ textLimit → from ≤ at → from ≤ length t
+      → Stand t at fs → R from s s′
       → Agree (R (length t)) (fieldsRead step at fs s) (fieldsRead step′ at fs s′)
   unfolding fieldsRead
   fields-agree from at [] short h l none r = on (related .later l r)

@@ -12,7 +12,8 @@ use Rattle.octets.proofs.Below
 use Rattle.command.specs.Keys.{Alias, Kind, Key, keys, keyAt}
 use Rattle.command.specs.Values.{Value, count}
 use Rattle.command.specs.Meaning.{Field, blank, valueIn, valuesIn}
-use Rattle.command.specs.Slots.{actionCode, actionOf, fileTypeCode, fileTypeOf, transmissionCode, transmissionOf, free, slotsOf, commandOf, valueAt, valuesAt, valuesOf}
+use Rattle.command.specs.Slots.{actionCode, actionOf, fileTypeCode, fileTypeOf, transmissionCode, transmissionOf}
+use Rattle.command.specs.Slots.{free, slotsOf, commandOf, valueAt, valuesAt, valuesOf}
 use Rattle.command.specs.Read.{frees}
 use Rattle.command.specs.declared.Slot.{Slot}
 use Rattle.command.proofs.SimulationValues.{codesEnd, as-word, as-string, as-bytes, Holds, empty, full, holds-value}
@@ -58,7 +59,8 @@ module _ {t scratch : List ℕ} {used : ℕ} {name : List ℕ} where
   string-slot empty = (omega arith, λ q. omega arith)
   string-slot (full at from v a (as-string o) w e) = (a .within, λ q. ltb-false _ _ (rw q at o))
 
-  pub bytes-slot : {s : Slot} {f : Field} → Holds t scratch used (record { name = name; kind = Kind.base64 }) s f → s .place .start + s .place .len ≤ used
+  pub bytes-slot : {s : Slot} {f : Field} → Holds t scratch used (record { name = name; kind = Kind.base64 }) s f
+      → s .place .start + s .place .len ≤ used
   bytes-slot empty = omega arith
   bytes-slot (full at from v a (as-bytes o) w e) = w
 
@@ -83,14 +85,16 @@ module _ (t scratch : List ℕ) where
         → Value.number (count (code (s .number .magnitude))) ≡ valueIn (record { name = name; kind = Kind.word first ws aliases }) f
     coded {s} code end q p e h =
         let w = word-slot (rw q p) h in
-        let b : code (s .number .magnitude) ≡ s .number .magnitude = eqb-true _ _ (Below.at end (λ n. eqb (code n) n) e (s .number .magnitude) (rw q at (w .1))) in
+        let m = s .number .magnitude in
+        let b : code m ≡ m = eqb-true _ _ (Below.at end (λ n. eqb (code n) n) e m (rw q at (w .1))) in
         rw b (ap Value.number (w .0) ∙ gives h)
 
-    command-gives : {ss : List Slot} {fs : List Field} → Each (Holds t scratch used) keys ss fs → Each Gives keys (slotsOf (commandOf ss)) fs
+    command-gives : {ss : List Slot} {fs : List Field} → Each (Holds t scratch used) keys ss fs
+        → Each Gives keys (slotsOf (commandOf ss)) fs
     unfolding slotsOf commandOf split onto
     command-gives
-        (more action (more zip (more kind (more transmission (more id (more fileId (more bypass (more quiet (more modified (more permissions (more size
-        (more name (more status (more parent (more payload none))))))))))))))) =
+        (more action (more zip (more kind (more transmission (more id (more fileId (more bypass (more quiet
+        (more modified (more permissions (more size (more name (more status (more parent (more payload none))))))))))))))) =
         more (coded (λ n. actionCode (actionOf n)) 9 refl (lit< tt) (unfold actionOf in refl) action)
         (more (coded (λ n. 0) 1 refl (lit< tt) refl zip)
         (more (coded (λ n. fileTypeCode (fileTypeOf n)) 4 refl (lit< tt) (unfold fileTypeOf in refl) kind)

@@ -71,9 +71,10 @@ slots-sound enough r acts some =
 not-read : {A : Type 0} {n : ℕ} {c : Command} → Answer.refused n ≡ Answer.read c → A
 not-read e = let z : _≡_ {A = ℕ} 0 1 = cc in absurd (omega arith)
 
-complete-sound : {t scratch : List ℕ} {at : ℕ} {s : Reader} {fs : List Field} (c : Command) → scratchRoom ≤ length scratch → Alike t scratch at s fs
-    → Read.complete (commandOf (s .slots)) ≡ Answer.read c → Sound t scratch c
-complete-sound {t} {scratch} {at} {s} c enough r q = go (eqb (actionCode (commandOf (s .slots) .action)) 0) refl (eqb (commandOf (s .slots) .id .len) 0) refl q
+complete-sound : {t scratch : List ℕ} {at : ℕ} {s : Reader} {fs : List Field} (c : Command) → scratchRoom ≤ length scratch
+    → Alike t scratch at s fs → Read.complete (commandOf (s .slots)) ≡ Answer.read c → Sound t scratch c
+complete-sound {t} {scratch} {at} {s} c enough r q =
+    go (eqb (actionCode (commandOf (s .slots) .action)) 0) refl (eqb (commandOf (s .slots) .id .len) 0) refl q
   where
     go : (a : Bool) → eqb (actionCode (commandOf (s .slots) .action)) 0 ≡ a → (b : Bool) → eqb (commandOf (s .slots) .id .len) 0 ≡ b
         → pick (either a b) (Answer.refused 7) (Answer.read (commandOf (s .slots))) ≡ Answer.read c → Sound t scratch c
@@ -94,7 +95,8 @@ unfolding readOf
 read-sound t scratch c q = go (ltb (length scratch) scratchRoom) refl q
   where
     go : (b : Bool) → ltb (length scratch) scratchRoom ≡ b
-        → pick b (outcome (Answer.refused 9) scratch) (Read.finished (textRead kept t (begun scratch))) .answer ≡ Answer.read c → Sound t scratch c
+        → pick b (outcome (Answer.refused 9) scratch) (Read.finished (textRead kept t (begun scratch))) .answer ≡ Answer.read c
+        → Sound t scratch c
     go true e w = not-read w
     go false e w =
         let enough : scratchRoom ≤ length scratch = ltb-false _ _ e in

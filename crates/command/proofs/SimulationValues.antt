@@ -77,7 +77,8 @@ unfolding valueRead safeRead
 reads (Kind.word first ws aliases) v = word-reads first ws aliases v
 reads (Kind.safe short) v = go (every safeByte v) (over short v) refl
   where
-    go : (a b : Bool) → over short v ≡ b → Reads (Kind.safe short) v (pick a (pick b (Got.refused 8) (Got.got (Value.bytes v))) (Got.refused 6))
+    go : (a b : Bool) → over short v ≡ b
+        → Reads (Kind.safe short) v (pick a (pick b (Got.refused 8) (Got.got (Value.bytes v))) (Got.refused 6))
     go true true e = refused
     go true false e = as-string e
     go false b e = refused
@@ -123,9 +124,9 @@ holds-later {t} {scratch} {used} {k} b (full at from v {x} a r w e) =
     full at from v a r (omega arith) (part-kept b scratch used from (length (storedFor (k .kind) x)) w ∙ e)
 
 -- the value read, its bytes stored after the used ones
-pub holds-new : {t : List ℕ} {at : ℕ} {v : List ℕ} {x : Value} (k : Key) (scratch : List ℕ) (used : ℕ) → At t at v → Reads (k .kind) v (Got.got x)
-    → used + length (storedFor (k .kind) x) ≤ length scratch
-    → Holds t (sets scratch used (storedFor (k .kind) x)) (used + length (storedFor (k .kind) x)) k (slotFor (k .kind) at used x) (Field.seen x)
+pub holds-new : {t : List ℕ} {at : ℕ} {v : List ℕ} {x : Value} (k : Key) (scratch : List ℕ) (used : ℕ) → At t at v
+    → Reads (k .kind) v (Got.got x) → let b = storedFor (k .kind) x in used + length b ≤ length scratch
+    → Holds t (sets scratch used b) (used + length b) k (slotFor (k .kind) at used x) (Field.seen x)
 holds-new {t} {at} {v} {x} k scratch used a r h = full at used v a r (omega arith) (part-stored (storedFor (k .kind) x) scratch used h)
 
 -- ---- what the slot gives

@@ -25,7 +25,8 @@ pub record ReadsAs (ks : List Key) (us : List Field) (c : List Value) (fs : List
   pub values : valuesIn ks after ≡ c
   pub quiet : every (every calm) fs ≡ true
 
-module _ (k : Key) (n : ℕ) (h : Named n k) (ks : List Key) (us : List Field) (l : length us ≡ n) (v : Value) (c : List Value) (fs : List (List ℕ)) where
+module _ (k : Key) (n : ℕ) (h : Named n k) (ks : List Key) (us : List Field) (l : length us ≡ n)
+    (v : Value) (c : List Value) (fs : List (List ℕ)) where
   -- a key that is left out
   none-more : (v ≡ valueIn k Field.unseen) → ReadsAs ks (us ++ Field.unseen ∷ []) c fs → ReadsAs (k ∷ ks) us (v ∷ c) fs
   none-more e r =
@@ -39,10 +40,11 @@ module _ (k : Key) (n : ℕ) (h : Named n k) (ks : List Key) (us : List Field) (
   -- a key that is there
   quiet-field : (t : List ℕ) → every calm t ≡ true → every calm (k .name ++ 61 ∷ t) ≡ true
   quiet-field t e =
-      every-append calm (k .name) (61 ∷ t) (every-map keyByte calm (λ x q. plain-calm x (key-plain x q)) (k .name) (key-letters (k .name) (h .letters)))
-      (unfold every calm textByte in e)
+      let name = every-map keyByte calm (λ x q. plain-calm x (key-plain x q)) (k .name) (key-letters (k .name) (h .letters)) in
+      every-append calm (k .name) (61 ∷ t) name (unfold every calm textByte in e)
 
-  one-more : (t : List ℕ) → Spelled (k .kind) v t → ReadsAs ks (us ++ Field.seen v ∷ []) c fs → ReadsAs (k ∷ ks) us (v ∷ c) ((k .name ++ 61 ∷ t) ∷ fs)
+  one-more : (t : List ℕ) → Spelled (k .kind) v t → ReadsAs ks (us ++ Field.seen v ∷ []) c fs
+      → ReadsAs (k ∷ ks) us (v ∷ c) ((k .name ++ 61 ∷ t) ∷ fs)
   unfolding fieldsRead
   one-more t s r =
       record {
@@ -54,8 +56,8 @@ module _ (k : Key) (n : ℕ) (h : Named n k) (ks : List Key) (us : List Field) (
       }
 
 -- ---- the induction
-pub fields-read : {ks : List Key} {c : List Value} {fs : List (List ℕ)} → Fits ks c fs → (us : List Field) (n : ℕ) → AllNamed n ks → length us ≡ n
-    → ReadsAs ks us c fs
+pub fields-read : {ks : List Key} {c : List Value} {fs : List (List ℕ)} → Fits ks c fs → (us : List Field) (n : ℕ)
+    → AllNamed n ks → length us ≡ n → ReadsAs ks us c fs
 fields-read none us n t l = record { after = []; reads = λ at. (unfold fieldsRead in refl); values = refl; quiet = (unfold every in refl) }
 fields-read (out {k} {ks} {x} {c} {fs} e _ r) us n t l =
     none-more k n (t .0) ks us l x c fs e (fields-read r (us ++ Field.unseen ∷ []) (suc n) (t .1) (length-next us Field.unseen n l))

@@ -19,7 +19,8 @@ use Rattle.decimal.proofs.RoundTrip as decimal
 use Rattle.decimal.proofs.Writes.{writable-is}
 use Rattle.command.specs.Keys.{Alias, Kind, placeIn}
 use Rattle.command.specs.Letters.{safeByte, isByte}
-use Rattle.command.specs.Values.{Value, count, absent, Got, wordRead, over, safeRead, valueRead, Shown, textOr, wordShown, safeShown, integerShown, base64Shown, shown}
+use Rattle.command.specs.Values.{Value, count, absent, Got, wordRead, over, safeRead, valueRead}
+use Rattle.command.specs.Values.{Shown, textOr, wordShown, safeShown, integerShown, base64Shown, shown}
 use Rattle.command.proofs.Every.{every-map, bytes-every, every-bytes}
 use Rattle.command.proofs.Calm.{calm, safe-calm, integer-calm, groups-calm}
 use Rattle.command.proofs.Table.{fit, Words, fit-words}
@@ -139,7 +140,8 @@ absent-shown Kind.base64 = refl
 
 -- ---- written, then read
 -- a word reads as its code
-word-reads : (first : ℕ) (ws : List (List ℕ)) (aliases : List Alias) → Words first ws → (i : ℕ) (v : List ℕ) → i < length ws → getD ws i [] ≡ v
+word-reads : (first : ℕ) (ws : List (List ℕ)) (aliases : List Alias) → Words first ws
+    → (i : ℕ) (v : List ℕ) → i < length ws → getD ws i [] ≡ v
     → wordRead first ws aliases v ≡ Got.got (Value.number (count (first + i)))
 unfolding wordRead
 word-reads first ws aliases f i v h e =
