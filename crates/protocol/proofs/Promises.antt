@@ -119,7 +119,7 @@ module _ (r : Receiver) (h : Sized (r .table)) (piece carry scratch reply : List
   refused-promise : (n : ℕ) → isUnfed (no n .fed .told) ≡ true → Keeps (no n)
   refused-promise n u =
       record {
-        unfed = λ _. (refl, refl, refl, refl, refl);
+        unfed = λ _. (refl, refl, refl, refl, refl, refl);
         progress = λ e _. no-way (sym u ∙ e);
         within = omega arith;
         short = omega arith;

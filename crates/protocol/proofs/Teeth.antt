@@ -13,7 +13,7 @@ use Rattle.protocol.specs.Promises.{EveryCall}
 use Rattle.protocol.specs.Cuts.{allGiven, after, consoleCalls, CutsAlike}
 use Rattle.protocol.specs.WrongMachines.{sendPiece, filePiece, directoryPiece, dataPiece, longerIdPiece, endPiece, cancelPiece}
 use Rattle.protocol.specs.WrongMachines.{oneTooSmall, lastOnly, otherSize, skipping, twice, shorterIds, dataOpens, reopening}
-use Rattle.protocol.specs.WrongMachines.{neverClosing, unasked, deaf, closerLost, hungry, stalling, Teeth}
+use Rattle.protocol.specs.WrongMachines.{neverClosing, unasked, deaf, closerLost, hungry, talking, stalling, Teeth}
 use Rattle.protocol.specs.declared.Owed.the-variants as Owed
 use Rattle.protocol.specs.declared.Receiver.{Receiver}
 use Rattle.protocol.specs.declared.Failure.the-variants as Failure
@@ -89,6 +89,8 @@ record Computed : Type 0 where
   -- a feed of one byte: refused while a commit is owed, and not
   hungry-told : isUnfed (fedWith hungry owing .told) ≡ true
   hungry-consumes : fedWith hungry owing .consumed ≡ 1
+  talking-told : isUnfed (fedWith talking owing .told) ≡ true
+  talking-replies : fedWith talking owing .«reply_len» ≡ 1
   stalling-told : isUnfed (fedWith stalling freshReceiver .told) ≡ false
   -- and ours at the same places: the tests hold
   ours-closes : turnsRight ours ended 4 ≡ true
@@ -115,6 +117,8 @@ computed = record {
   no-report = refl;
   hungry-told = refl;
   hungry-consumes = refl;
+  talking-told = refl;
+  talking-replies = refl;
   stalling-told = refl;
   ours-closes = refl;
   ours-directory = refl;
@@ -135,6 +139,12 @@ refused-consumes : EveryCall hungry → ⊥
 refused-consumes every =
     let kept = every owing empty-sized (65 ∷ []) carry₀ scratch₀ reply₀ [] Failure.Eio .feeds .unfed (computed .hungry-told) in
     let z : _≡_ {A = ℕ} 1 0 = sym (computed .hungry-consumes) ∙ kept .1 in
+    omega arith
+
+refused-replies : EveryCall talking → ⊥
+refused-replies every =
+    let kept = every owing empty-sized (65 ∷ []) carry₀ scratch₀ reply₀ [] Failure.Eio .feeds .unfed (computed .talking-told) in
+    let z : _≡_ {A = ℕ} 1 0 = sym (computed .talking-replies) ∙ kept .2 in
     omega arith
 
 feed-stalls : EveryCall stalling → ⊥
@@ -159,5 +169,6 @@ teeth =
       afterACancel = hands-badly deaf canceled dataPiece (computed .deaf-hands);
       cutCloserLost = cut-closer-lost;
       refusedFeedConsumes = refused-consumes;
+      refusedFeedReplies = refused-replies;
       feedStalls = feed-stalls;
     }

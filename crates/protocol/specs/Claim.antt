@@ -50,7 +50,8 @@ doneIn k n quiet s = total (λ (f : FileRecord). pick (isDoneAs k n quiet s f) 1
 abbrev pub doneAs : Key → ℕ → ℕ → Table → ℕ
 doneAs k n quiet t = total (doneIn k n quiet) (t .sessions)
 
--- "It closes as done, its record turning done": more records with these ids are done with that count than before, in whichever places
+-- "It closes as done, its record turning done": more records with these ids are done with that count than before, in whichever places. So a
+-- done record whose count changes counts as closing anew.
 abbrev pub Closes : Table → Table → Key → ℕ → ℕ → Type 0
 Closes t t′ k n quiet = doneAs k n quiet t < doneAs k n quiet t′
 

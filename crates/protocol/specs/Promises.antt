@@ -32,9 +32,10 @@ Sized t = (i : ℕ) → SizedSession (sessionAt t i)
 
 -- ---- feed
 pub record FeedPromise (r : Receiver) (piece carry scratch reply : List ℕ) (f : Feeding) : Type 0 where
-  -- "consumes nothing and changes no memory"
+  -- "consumes nothing and changes no memory", and sends no reply
   pub unfed : isUnfed (f .fed .told) ≡ true
-      → (f .fed .receiver ≡ r) × (f .fed .consumed ≡ 0) × (f .carry ≡ carry) × (f .scratch ≡ scratch) × (f .reply ≡ reply)
+      → (f .fed .receiver ≡ r) × (f .fed .consumed ≡ 0) × (f .fed .«reply_len» ≡ 0)
+      × (f .carry ≡ carry) × (f .scratch ≡ scratch) × (f .reply ≡ reply)
   -- "consumes through the first thing to report": some bytes, if there are any, so that feeding the rest comes to an end
   pub progress : isUnfed (f .fed .told) ≡ false → 1 ≤ length piece → 1 ≤ f .fed .consumed
   pub within : f .fed .consumed ≤ length piece

@@ -10,7 +10,7 @@ use Rattle.base64.specs.declared.Decoded.the-variants as Decoded
 use Rattle.command.specs.Keys.{keys, numberOf}
 use Rattle.command.specs.Values.{Value, Got}
 use Rattle.command.specs.Meaning.{Meaning, meaningOf}
-use Rattle.command.specs.Read.{readOf}
+use Rattle.command.specs.Read.{scratchRoom, readOf}
 use Rattle.protocol.specs.Table.{absentSession, emptyTable, sessionAt, fileAt, padded, putFile, putSession}
 use Rattle.protocol.specs.Replies.{statusWord, statusText}
 use Rattle.protocol.specs.Answers.{settleDone}
@@ -41,7 +41,7 @@ halfway =
     (record { state = FileState.Started; id = padded (ascii "a"); «id_len» = 1; count = 3 }))
 
 abbrev pub obeyed : List ℕ → Table
-obeyed text = readAct halfway text (readOf text (replicate 6144 0)) .step .table
+obeyed text = readAct halfway text (readOf text (replicate scratchRoom 0)) .step .table
 
 abbrev pub countAfter : Table → ℕ
 countAfter t = fileAt (sessionAt (settleDone t (t .owed) .table) 0) 0 .count

@@ -77,6 +77,23 @@ consuming n f =
       reply = f .reply;
     }
 
+-- a feed that says to have replied with n bytes
+abbrev pub replying : ℕ → Feeding → Feeding
+replying n f =
+    record {
+      fed = record {
+        receiver = f .fed .receiver;
+        consumed = f .fed .consumed;
+        report = f .fed .report;
+        told = f .fed .told;
+        command = f .fed .command;
+        «reply_len» = n;
+      };
+      carry = f .carry;
+      scratch = f .scratch;
+      reply = f .reply;
+    }
+
 -- one piece is taken for another, by the receiver as f changes it
 abbrev pub mistaking : List ℕ → List ℕ → (Receiver → Receiver) → Machine
 mistaking one other f =
@@ -184,6 +201,13 @@ hungry =
     let f = feedOf r piece carry scratch reply in
     pick (isUnfed (f .fed .told)) (consuming 1 f) f)
 
+-- a feed that is refused answers a reply
+abbrev pub talking : Machine
+talking =
+    feedingBy (λ r piece carry scratch reply.
+    let f = feedOf r piece carry scratch reply in
+    pick (isUnfed (f .fed .told)) (replying 1 f) f)
+
 -- a feed that is not refused takes none
 abbrev pub stalling : Machine
 stalling = feedingBy (λ r piece carry scratch reply. consuming 0 (feedOf r piece carry scratch reply))
@@ -203,4 +227,5 @@ pub record Teeth : Type 0 where
   pub afterACancel : EveryHistory deaf → ⊥
   pub cutCloserLost : CutsAlike closerLost → ⊥
   pub refusedFeedConsumes : EveryCall hungry → ⊥
+  pub refusedFeedReplies : EveryCall talking → ⊥
   pub feedStalls : EveryCall stalling → ⊥
