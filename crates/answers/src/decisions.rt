@@ -1,7 +1,7 @@
 // What the console's decisions do to a session.
+ghost use mathlib.Core.Bool.{cond};
 ghost use mathlib.Core.Path.{_≡_};
 ghost use lib.Dec.{eqb};
-ghost use Rattle.octets.specs.Choice.{pick};
 ghost use Rattle.protocol.specs.Table.{sessionAt, withState, putSession, dropAt, withOwed};
 ghost use Rattle.protocol.specs.Replies.{noReply};
 ghost use Rattle.protocol.specs.Files.{stepped};
@@ -97,7 +97,7 @@ fn clear(i: usize, owed: Owed) -> Owed
 }
 
 fn after_drop(i: usize, k: usize, owed: Owed) -> Owed
-    ensures { λ r. ⌜ r ≡ pick (eqb k i) Owed.Nothing owed ⌝ }
+    ensures { λ r. ⌜ r ≡ cond (eqb k i) Owed.Nothing owed ⌝ }
 {
     if k == i { Owed::Nothing } else { owed }
 }

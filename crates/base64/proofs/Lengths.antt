@@ -1,13 +1,12 @@
 -- How long a text and its bytes are, and that decoding gives bytes.
 use Prim.Native.Nat.{ℕ, _+_, _*_, _/_, _%_}
 use mathlib.Core.Path.{_≡_, refl}
-use mathlib.Core.Bool.{Bool, true, false}
+use mathlib.Core.Bool.{Bool, true, false, cond}
 use mathlib.Core.List.{List, [], _∷_}
 use native.Mathlib.Omega.{arith}
 use lib.ListN.{length}
 use lib.Dec.{eqb}
 use Rattle.octets.specs.Bytes.{Bytes}
-use Rattle.octets.specs.Choice.{pick}
 use Rattle.base64.specs.Alphabet.{pad, valueOf}
 use Rattle.base64.specs.Decode.{verdictOf, byte1, byte2, byte3, group, bytesOf}
 use Rattle.base64.specs.Encode.{textOf}
@@ -46,7 +45,7 @@ bytes-below (a ∷ b ∷ c ∷ d ∷ r) = go (eqb c pad) (eqb d pad) (bytes-belo
   where
     go : (x y : Bool) → Bytes (bytesOf r)
         → Bytes (byte1 (valueOf a) (valueOf b)
-        ∷ pick x (bytesOf r) (byte2 (valueOf b) (valueOf c) ∷ pick y (bytesOf r) (byte3 (valueOf c) (valueOf d) ∷ bytesOf r)))
+        ∷ cond x (bytesOf r) (byte2 (valueOf b) (valueOf c) ∷ cond y (bytesOf r) (byte3 (valueOf c) (valueOf d) ∷ bytesOf r)))
     go true y h = (omega arith, h)
     go false true h = (omega arith, (omega arith, h))
     go false false h = (omega arith, (omega arith, (omega arith, h)))

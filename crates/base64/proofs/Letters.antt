@@ -1,11 +1,10 @@
 -- The alphabet: each value below 64 has a character with that value, and each character is the one of its value.
 use Prim.Native.Nat.{ℕ, _<_, _≤_}
 use mathlib.Core.Path.{_≡_, refl, ap}
-use mathlib.Core.Bool.{Bool, true, false}
+use mathlib.Core.Bool.{Bool, true, false, cond, _&&_}
 use native.Mathlib.Omega.{arith}
 use lib.Dec.{ltb, eqb}
 use borrow.Author.Tests.{ltb-true, ltb-false, eqb-true, ne-eqb, le-leb, lt-leb}
-use Rattle.octets.specs.Choice.{pick, both}
 use Rattle.octets.proofs.Below.{both-test, at}
 use Rattle.base64.specs.Alphabet.{pad, valueOf, letterOf}
 
@@ -26,7 +25,7 @@ letter-of v h = rw (value-letter v h) h
 
 -- ---- from a character to its value and back
 letter-tested : ℕ → Bool
-letter-tested c = pick (eqb (valueOf c) 64) true (both (ltb (valueOf c) 64) (eqb (letterOf (valueOf c)) c))
+letter-tested c = cond (eqb (valueOf c) 64) true (ltb (valueOf c) 64 && eqb (letterOf (valueOf c)) c)
 
 -- past `z` there is none
 value-past : (c : ℕ) → 123 ≤ c → valueOf c ≡ 64
@@ -48,7 +47,7 @@ tested c n = go (ltb c 123) refl
   where
     go : (b : Bool) → ltb c 123 ≡ b → (Letter c) × (letterOf (valueOf c) ≡ c)
     go true e =
-        let t : both (ltb (valueOf c) 64) (eqb (letterOf (valueOf c)) c) ≡ true = unfold letter-tested in
+        let t : (ltb (valueOf c) 64 && eqb (letterOf (valueOf c)) c) ≡ true = unfold letter-tested in
         rw (ne-eqb _ _ n) at (at 123 letter-tested (unfold valueOf letterOf in refl) c (ltb-true c 123 e)) in
         let b = both-test _ _ t in
         (ltb-true _ _ (b .0), eqb-true _ _ (b .1))

@@ -1,14 +1,14 @@
 -- The definitions as the loops take them: what is left at a place, by the character or the group that stands there.
 use Prim.Native.Nat.{ℕ, zero, suc, _+_, _-_, _≤_, _<_, _%_}
 use mathlib.Core.Path.{_≡_, _∙_, ap}
-use mathlib.Core.Bool.{true}
+use mathlib.Core.Bool.{true, cond}
 use mathlib.Core.List.{List, [], _∷_}
 use native.Mathlib.Omega.{arith}
 use native.Mathlib.Nat.{add-zero}
 use lib.ListN.{length, getD, take, drop}
 use lib.Dec.{eqb}
 use borrow.Author.Tests.{eq-eqb, ne-eqb, not-true}
-use Rattle.octets.specs.Choice.{pick, every}
+use Rattle.octets.specs.Members.{every}
 use Rattle.octets.proofs.Lists.{drop-at, drop-end}
 use Rattle.octets.proofs.Below.{both-test}
 use Rattle.base64.specs.Alphabet.{pad, valueOf}
@@ -21,8 +21,8 @@ use Rattle.base64.specs.declared.Verdict.the-variants as Verdict
 -- ---- the check, a character at a time
 pub scan-at : (t : List ℕ) (i p : ℕ) → i < length t
     → scan p (drop i t)
-    ≡ pick (eqb (valueOf (getD t i 0)) 64)
-    (pick (eqb (getD t i 0) pad) (ending p (drop (i + 1) t)) (Verdict.Invalid Fault.Character))
+    ≡ cond (eqb (valueOf (getD t i 0)) 64)
+    (cond (eqb (getD t i 0) pad) (ending p (drop (i + 1) t)) (Verdict.Invalid Fault.Character))
     (scan (valueOf (getD t i 0)) (drop (i + 1) t))
 unfolding scan
 scan-at t i p h = rw (drop-at t i h)
@@ -50,7 +50,7 @@ module _ (t : List ℕ) (i p : ℕ) where
   ending-none e = rw (drop-end t i (omega arith))
 
   pub ending-one : i + 1 ≡ length t
-      → ending p (drop i t) ≡ pick (eqb (getD t i 0) pad) (unused (p % 16) 2) (Verdict.Invalid Fault.Length)
+      → ending p (drop i t) ≡ cond (eqb (getD t i 0) pad) (unused (p % 16) 2) (Verdict.Invalid Fault.Length)
   unfolding ending
   ending-one e = rw (drop-at t i (omega arith), drop-end t (i + 1) (omega arith))
 
@@ -100,7 +100,7 @@ module _ (t : List ℕ) (i : ℕ) (h : i + 4 ≤ length t) where
   module _ (n : getD t (i + 2) 0 ≡ pad → ⊥) where
     more-bytes : bytesOf (drop i t)
         ≡ first-byte t i ∷ second-byte t i
-        ∷ pick (eqb (getD t (i + 3) 0) pad) (bytesOf (drop (i + 4) t)) (third-byte t i ∷ bytesOf (drop (i + 4) t))
+        ∷ cond (eqb (getD t (i + 3) 0) pad) (bytesOf (drop (i + 4) t)) (third-byte t i ∷ bytesOf (drop (i + 4) t))
     unfolding group
     more-bytes = bytes-at ∙ rw (ne-eqb _ _ n)
 

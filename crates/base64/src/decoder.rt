@@ -3,7 +3,7 @@ ghost use mathlib.Core.Path.{_≡_};
 ghost use Prim.Native.Nat.{_+_, _≤_};
 ghost use lib.ListN.{length, drop};
 ghost use lib.Seq.{sets};
-ghost use Rattle.octets.specs.Choice.{every};
+ghost use Rattle.octets.specs.Members.{every};
 ghost use Rattle.base64.specs.Decode.{scan, verdictOf, bytesOf};
 ghost use Rattle.base64.specs.Decode as Decode;
 ghost use Rattle.base64.specs.declared.Verdict.the-variants as Verdict;

@@ -1,14 +1,13 @@
 -- A command that the writer takes, and a buffer that its text fits: exactly then the text is written.
 use Prim.Native.Nat.{ℕ, _≤_}
 use mathlib.Core.Path.{_≡_, refl}
-use mathlib.Core.Bool.{Bool, true, false}
+use mathlib.Core.Bool.{Bool, true, false, cond, _||_}
 use mathlib.Core.List.{List}
 use native.Mathlib.Omega.{arith}
 use lib.ListN.{length}
 use lib.Seq.{sets}
 use lib.Dec.{ltb}
 use borrow.Author.Tests.{ltb-false, le-ltb}
-use Rattle.octets.specs.Choice.{pick, either}
 use Rattle.octets.specs.Outcome.{outcome}
 use Rattle.frames.specs.Stream.{textLimit}
 use Rattle.command.specs.Keys.{keys}
@@ -41,13 +40,13 @@ writes-accepted c out n e = kinds (checkedOf keys c) refl e
     fits : (x y : Bool) → ltb textLimit (length (canonical c)) ≡ x → ltb (length out) (length (canonical c)) ≡ y
         → checkedOf keys c ≡ Checked.fine → missing c ≡ false
         → let stored = outcome (Answer.written (length (canonical c))) (sets out 0 (canonical c)) in
-        pick (either x y) (outcome (Answer.refused 9) out) stored .answer ≡ Answer.written n → Accepted c out
+        cond (x || y) (outcome (Answer.refused 9) out) stored .answer ≡ Answer.written n → Accepted c out
     fits false false l r k w q = record { kinds = k; whole = w; short = ltb-false _ _ l; room = ltb-false _ _ r }
     fits false true l r k w q = not-written q
     fits true y l r k w q = not-written q
 
     whole : (m : Bool) → missing c ≡ m → checkedOf keys c ≡ Checked.fine
-        → pick m (outcome (Answer.refused 7) out) (storedText (canonical c) out) .answer ≡ Answer.written n → Accepted c out
+        → cond m (outcome (Answer.refused 7) out) (storedText (canonical c) out) .answer ≡ Answer.written n → Accepted c out
     whole false w k q = fits (ltb textLimit (length (canonical c))) (ltb (length out) (length (canonical c))) refl refl k w q
     whole true w k q = not-written q
 

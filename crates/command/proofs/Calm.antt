@@ -2,7 +2,7 @@
 -- check, and divides into them again.
 use Prim.Native.Nat.{ℕ, _≤_, _<_}
 use mathlib.Core.Path.{_≡_, refl}
-use mathlib.Core.Bool.{Bool, true, false, not}
+use mathlib.Core.Bool.{Bool, true, false, not, _&&_, _||_}
 use mathlib.Core.Logic.{_⊎_, inl, inr}
 use mathlib.Core.List.{List, [], _∷_}
 use native.Mathlib.Omega.{arith}
@@ -11,7 +11,7 @@ use lib.Dec.{leb, eqb}
 use borrow.Author.Tests.{le-leb, leb-true, ne-eqb, eqb-false, not-true}
 use Rattle.bytes.specs.Bytes.{indexOf}
 use Rattle.octets.specs.Ascii.{ascii}
-use Rattle.octets.specs.Choice.{both, either, every}
+use Rattle.octets.specs.Members.{every}
 use Rattle.octets.specs.Split.{split, join}
 use Rattle.octets.proofs.Below.{both-test, at}
 use Rattle.octets.proofs.Finds.{index-le, index-found}
@@ -27,10 +27,10 @@ use Rattle.command.proofs.Every.{every-cons, every-map, every-append, e
 
 -- ---- calm, and plain: no `=` either
 unfoldable pub calm : ℕ → Bool
-calm c = both (textByte c) (not (eqb c 59))
+calm c = textByte c && not (eqb c 59)
 
 unfoldable pub plain : ℕ → Bool
-plain c = both (calm c) (not (eqb c 61))
+plain c = calm c && not (eqb c 61)
 
 calm-is : (c : ℕ) → 32 ≤ c → c ≤ 126 → (c ≡ 59 → ⊥) → calm c ≡ true
 unfolding calm textByte
@@ -49,7 +49,7 @@ unfolding calm
 calm-text c e = both-test (textByte c) _ e .0
 
 -- ---- what is calm
-pub either-test : (t u : Bool) → either t u ≡ true → (t ≡ true) ⊎ (u ≡ true)
+pub either-test : (t u : Bool) → (t || u) ≡ true → (t ≡ true) ⊎ (u ≡ true)
 either-test true u e = inl refl
 either-test false u e = inr e
 
@@ -63,14 +63,14 @@ among-plain s p c e =
     rw (index-found c s i) at (every-at plain s (indexOf c s) p i)
 
 -- digits, letters and some plain bytes besides
-class-plain : (s : List ℕ) → every plain s ≡ true → (c : ℕ) → either (alphanumeric c) (among s c) ≡ true → plain c ≡ true
+class-plain : (s : List ℕ) → every plain s ≡ true → (c : ℕ) → (alphanumeric c || among s c) ≡ true → plain c ≡ true
 class-plain s p c e = go (either-test (alphanumeric c) (among s c) e)
   where
     letter : (between 65 90 c ≡ true) ⊎ (between 97 122 c ≡ true) → plain c ≡ true
     letter (inl q) = let b = between-test 65 90 c q in plain-is c (omega arith) (omega arith) (λ r. omega arith) (λ r. omega arith)
     letter (inr q) = let b = between-test 97 122 c q in plain-is c (omega arith) (omega arith) (λ r. omega arith) (λ r. omega arith)
 
-    digit : (between 48 57 c ≡ true) ⊎ (either (between 65 90 c) (between 97 122 c) ≡ true) → plain c ≡ true
+    digit : (between 48 57 c ≡ true) ⊎ ((between 65 90 c || between 97 122 c) ≡ true) → plain c ≡ true
     digit (inl q) = let b = between-test 48 57 c q in plain-is c (omega arith) (omega arith) (λ r. omega arith) (λ r. omega arith)
     digit (inr q) = letter (either-test _ _ q)
 

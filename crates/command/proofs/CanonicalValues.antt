@@ -7,7 +7,7 @@ use native.Mathlib.Omega.{arith}
 use lib.ListN.{length, getD}
 use borrow.Author.Tests.{le-ltb, ltb-false}
 use Rattle.octets.specs.Ascii.{ascii}
-use Rattle.octets.specs.Choice.{every}
+use Rattle.octets.specs.Members.{every}
 use Rattle.octets.specs.Slices.{startsWith}
 use Rattle.base64.specs.Decode.{verdictOf, bytesOf}
 use Rattle.base64.specs.declared.Verdict.the-variants.{Valid}

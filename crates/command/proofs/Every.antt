@@ -7,7 +7,7 @@ use native.Mathlib.Omega.{arith}
 use lib.ListN.{length, getD}
 use borrow.Author.Tests.{ltb-true, lt-ltb}
 use Rattle.octets.specs.Bytes.{Bytes}
-use Rattle.octets.specs.Choice.{every}
+use Rattle.octets.specs.Members.{every}
 use Rattle.octets.proofs.Below.{both-test}
 use Rattle.decimal.proofs.Texts.{Each}
 use Rattle.command.specs.Letters.{isByte}

@@ -8,7 +8,7 @@ use native.Mathlib.Omega.{arith}
 use lib.ListN.{replicate}
 use Rattle.bytes.specs.Bytes.{indexOf, indexAfter}
 use Rattle.octets.specs.Ascii.{ascii}
-use Rattle.octets.specs.Choice.{every}
+use Rattle.octets.specs.Members.{every}
 use Rattle.octets.specs.Slices.{equals, startsWith}
 use Rattle.octets.specs.Split.{split, join, onto}
 use Rattle.octets.proofs.Compare.{equals-refl}

@@ -2,7 +2,7 @@
 -- values that it takes.
 use Prim.Native.Nat.{ℕ, zero, suc, _≤_, _<_}
 use mathlib.Core.Path.{_≡_, refl, sym, _∙_, ap}
-use mathlib.Core.Bool.{Bool, true, false, not}
+use mathlib.Core.Bool.{Bool, true, false, not, _||_}
 use mathlib.Core.Logic.{_⊎_, inl, inr}
 use mathlib.Core.List.{List, [], _∷_, _++_}
 use native.Mathlib.Decide.{decLt}
@@ -10,7 +10,6 @@ use native.Mathlib.Omega.{arith}
 use lib.ListN.{length, getD, List·getD-eq-default}
 use lib.Dec.{eqb}
 use borrow.Author.Tests.{ne-eqb, eqb-true, eqb-false}
-use Rattle.octets.specs.Choice.{either}
 use Rattle.octets.specs.Slices.{equals}
 use Rattle.octets.proofs.Below.{at}
 use Rattle.command.specs.Keys.{Alias, Kind, Key, key, keys, keyAt, kindAt}
@@ -94,14 +93,14 @@ needed-at i e = go (decLt i 15)
     which (inr q) = inr (eqb-true _ _ q)
 
     go : Dec (i < 15) → (i ≡ 0) ⊎ (i ≡ 4)
-    go (yes h) = which (either-test _ _ (rw e at (at 15 (λ j. either (not (needed (keyAt keys j))) (either (eqb j 0) (eqb j 4))) refl i h)))
+    go (yes h) = which (either-test _ _ (rw e at (at 15 (λ j. (not (needed (keyAt keys j)) || (eqb j 0 || eqb j 4))) refl i h)))
     go (no h) = let l : 15 ≤ i = omega arith in not-both (sym (rw (List·getD-eq-default keys (key "" Kind.integer) l) at e))
 
 -- what a command that lacks neither has
 whole-is : (c : List Value) → missing c ≡ false → (actionCode c ≡ 0 → ⊥) × (length (idOf c) ≡ 0 → ⊥)
 whole-is c m = go (eqb (actionCode c) 0) refl (eqb (length (idOf c)) 0) refl m
   where
-    go : (x : Bool) → eqb (actionCode c) 0 ≡ x → (y : Bool) → eqb (length (idOf c)) 0 ≡ y → either x y ≡ false
+    go : (x : Bool) → eqb (actionCode c) 0 ≡ x → (y : Bool) → eqb (length (idOf c)) 0 ≡ y → (x || y) ≡ false
         → (actionCode c ≡ 0 → ⊥) × (length (idOf c) ≡ 0 → ⊥)
     go true ex y ey q = not-both q
     go false ex true ey q = not-both q

@@ -8,7 +8,7 @@ use lib.ListN.{length, set, length-append}
 use lib.Seq.{append-snoc, set-at, getD-at, take-append-seam, drop-append-add}
 use borrow.Author.Tests.{ne-eqb, lt-ltb, eqb-false, not-true}
 use Rattle.bytes.specs.Bytes.{indexOf, indexAfter}
-use Rattle.octets.specs.Choice.{every}
+use Rattle.octets.specs.Members.{every}
 use Rattle.octets.proofs.Below.{both-test}
 use Rattle.command.specs.Keys.{Key, keys}
 use Rattle.command.specs.Letters.{keyByte}

@@ -8,7 +8,7 @@ use lib.ListN.{length, take, drop, replicate, length-replicate}
 use lib.Seq.{sets, sets-eq, take-append-seam}
 use borrow.Author.Tests.{le-ltb}
 use Rattle.octets.specs.Ascii.{ascii}
-use Rattle.octets.specs.Choice.{every}
+use Rattle.octets.specs.Members.{every}
 use Rattle.octets.specs.Outcome.{Outcome, outcome}
 use Rattle.octets.specs.Slices.{startsWith}
 use Rattle.octets.specs.Split.{split, join}

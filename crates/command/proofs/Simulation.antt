@@ -2,14 +2,13 @@
 -- afterwards, is what the text means, refusals included.
 use Prim.Native.Nat.{ℕ, _+_, _*_, _≤_}
 use mathlib.Core.Path.{_≡_, refl, _∙_, ap}
-use mathlib.Core.Bool.{Bool, true, false}
+use mathlib.Core.Bool.{Bool, true, false, cond, _||_}
 use mathlib.Core.List.{List}
 use native.Mathlib.Omega.{arith}
 use lib.ListN.{length, drop, length-take, length-drop}
 use lib.Seq.{length-sets}
 use lib.Dec.{ltb, eqb, lit<}
 use borrow.Author.Tests.{le-ltb, le-leb, ltb-false}
-use Rattle.octets.specs.Choice.{pick, either}
 use Rattle.octets.specs.Outcome.{outcome}
 use Rattle.frames.specs.Stream.{textLimit}
 use Rattle.command.specs.Keys.{keys, keyAt, kindAt}
@@ -59,7 +58,7 @@ module _ (t scratch : List ℕ) where
 
     once-agree : {s : Reader} {fs : List Field} {sl : Slot} {f : Field} {x : Turn Reader} {y : Turn (List Field)}
         → Alike from s fs → Agree (Alike (at + length v)) x y → Holds t (s .scratch) (s .used) (keyAt keys n) sl f
-        → Agree (Alike (at + length v)) (pick (sl .stood) (Turn.off 5 s) x) (once f y fs)
+        → Agree (Alike (at + length v)) (cond (sl .stood) (Turn.off 5 s) x) (once f y fs)
     once-agree r g empty = g
     once-agree r g (full _ _ _ _ _ _ _) = off (alike-later (omega arith) r)
 
@@ -87,10 +86,10 @@ bytes-length l p h = rw (le-leb _ _ h) (omega (arith, length-take (p .len) (drop
 complete-means : (t scratch : List ℕ) (c : Command) → c .id .start + c .id .len ≤ length t
     → meaningIn t (outcome (Read.complete c) scratch) ≡ Meaning.complete (valuesOf c t scratch)
 unfolding valuesOf slotsOf
-complete-means t scratch c h = rw (bytes-length t (c .id) h) (go (either (eqb (actionCode (c .action)) 0) (eqb (c .id .len) 0)))
+complete-means t scratch c h = rw (bytes-length t (c .id) h) (go (eqb (actionCode (c .action)) 0 || eqb (c .id .len) 0))
   where
-    go : (b : Bool) → meaningIn t (outcome (pick b (Answer.refused 7) (Answer.read c)) scratch)
-        ≡ pick b (Meaning.refused 7) (Meaning.command (valuesOf c t scratch))
+    go : (b : Bool) → meaningIn t (outcome (cond b (Answer.refused 7) (Answer.read c)) scratch)
+        ≡ cond b (Meaning.refused 7) (Meaning.command (valuesOf c t scratch))
     go true = refl
     go false = refl
 
@@ -119,6 +118,6 @@ read-length t scratch = go (ltb (length scratch) scratchRoom) refl
     ends (off r) = r .size
 
     go : (b : Bool) → ltb (length scratch) scratchRoom ≡ b
-        → length (pick b (outcome (Answer.refused 9) scratch) (Read.finished (textRead kept t (begun scratch))) .buffer) ≡ length scratch
+        → length (cond b (outcome (Answer.refused 9) scratch) (Read.finished (textRead kept t (begun scratch))) .buffer) ≡ length scratch
     go true e = refl
     go false e = ends (read-agree t scratch (ltb-false _ _ e))

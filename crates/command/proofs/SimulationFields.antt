@@ -2,14 +2,14 @@
 -- they refuse the same texts with the same numbers.
 use Prim.Native.Nat.{ℕ, _+_, _≤_, _<_}
 use mathlib.Core.Path.{_≡_, refl, sym, _∙_, ap}
-use mathlib.Core.Bool.{Bool, true, false}
+use mathlib.Core.Bool.{Bool, true, false, cond, _&&_}
 use mathlib.Core.List.{List, [], _∷_, _++_, append-nil}
 use native.Mathlib.Omega.{arith}
 use lib.ListN.{length, drop, length-append, length-drop}
 use lib.Seq.{drop-drop, drop-append-le, drop-append-add}
 use lib.Dec.{ltb}
 use borrow.Author.Tests.{ltb-true, ltb-false}
-use Rattle.octets.specs.Choice.{pick, both, every}
+use Rattle.octets.specs.Members.{every}
 use Rattle.octets.specs.Ascii.{ascii}
 use Rattle.octets.specs.Slices.{startsWith}
 use Rattle.octets.specs.Split.{split, join}
@@ -86,8 +86,8 @@ module _ (t : List ℕ) {S S′ : Type 0} {R : ℕ → S → S′ → Type 0} {s
     where
       go : (x : Bool) → ltb (equalsSign f) (length f) ≡ x → (y z : Bool) → ltb (numberOf keys (keyOf f)) (length keys) ≡ z
           → Agree (R (at + length f))
-          (pick (both x y) (pick z (step (numberOf keys (keyOf f)) (at + (equalsSign f + 1)) (valueOf f) s) (Turn.on s)) (Turn.off 4 s))
-          (pick (both x y) (pick z (step′ (numberOf keys (keyOf f)) (at + (equalsSign f + 1)) (valueOf f) s′) (Turn.on s′)) (Turn.off 4 s′))
+          (cond (x && y) (cond z (step (numberOf keys (keyOf f)) (at + (equalsSign f + 1)) (valueOf f) s) (Turn.on s)) (Turn.off 4 s))
+          (cond (x && y) (cond z (step′ (numberOf keys (keyOf f)) (at + (equalsSign f + 1)) (valueOf f) s′) (Turn.on s′)) (Turn.off 4 s′))
       go false ex y z ez = off (related .later (omega arith) r)
       go true ex false z ez = off (related .later (omega arith) r)
       go true ex true false ez = on (related .later (omega arith) r)
@@ -113,8 +113,8 @@ module _ (t : List ℕ) {S S′ : Type 0} {R : ℕ → S → S′ → Type 0} {s
     where
       go : (x : Bool) → ltb textLimit (length t) ≡ x → (y z : Bool) → startsWith t (ascii "5113;") ≡ z
           → Agree (R (length t))
-          (pick x (Turn.off 1 s) (pick y (pick z (fieldsRead step 5 (split 59 (drop 5 t)) s) (Turn.off 4 s)) (Turn.off 3 s)))
-          (pick x (Turn.off 1 s′) (pick y (pick z (fieldsRead step′ 5 (split 59 (drop 5 t)) s′) (Turn.off 4 s′)) (Turn.off 3 s′)))
+          (cond x (Turn.off 1 s) (cond y (cond z (fieldsRead step 5 (split 59 (drop 5 t)) s) (Turn.off 4 s)) (Turn.off 3 s)))
+          (cond x (Turn.off 1 s′) (cond y (cond z (fieldsRead step′ 5 (split 59 (drop 5 t)) s′) (Turn.off 4 s′)) (Turn.off 3 s′)))
       go true ex y z ez = off (related .later (omega arith) r)
       go false ex false z ez = off (related .later (omega arith) r)
       go false ex true false ez = off (related .later (omega arith) r)

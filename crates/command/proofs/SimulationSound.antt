@@ -1,13 +1,12 @@
 -- What holds of every command that was read, so that its users need not test it again.
 use Prim.Native.Nat.{ℕ, _+_, _≤_}
 use mathlib.Core.Path.{_≡_, refl, ap}
-use mathlib.Core.Bool.{Bool, true, false}
+use mathlib.Core.Bool.{Bool, true, false, cond, _||_}
 use mathlib.Core.List.{List}
 use native.Mathlib.Omega.{arith}
 use lib.ListN.{length}
 use lib.Dec.{ltb, eqb, lit<}
 use borrow.Author.Tests.{ltb-false, eqb-false}
-use Rattle.octets.specs.Choice.{pick, either}
 use Rattle.octets.specs.Outcome.{outcome}
 use Rattle.octets.specs.Split.{onto, split}
 use Rattle.command.specs.Fields.{Turn, textRead}
@@ -77,7 +76,7 @@ complete-sound {t} {scratch} {at} {s} c enough r q =
     go (eqb (actionCode (commandOf (s .slots) .action)) 0) refl (eqb (commandOf (s .slots) .id .len) 0) refl q
   where
     go : (a : Bool) → eqb (actionCode (commandOf (s .slots) .action)) 0 ≡ a → (b : Bool) → eqb (commandOf (s .slots) .id .len) 0 ≡ b
-        → pick (either a b) (Answer.refused 7) (Answer.read (commandOf (s .slots))) ≡ Answer.read c → Sound t scratch c
+        → cond (a || b) (Answer.refused 7) (Answer.read (commandOf (s .slots))) ≡ Answer.read c → Sound t scratch c
     go true ea b eb w = not-read w
     go false ea true eb w = not-read w
     go false ea false eb w =
@@ -95,7 +94,7 @@ unfolding readOf
 read-sound t scratch c q = go (ltb (length scratch) scratchRoom) refl q
   where
     go : (b : Bool) → ltb (length scratch) scratchRoom ≡ b
-        → pick b (outcome (Answer.refused 9) scratch) (Read.finished (textRead kept t (begun scratch))) .answer ≡ Answer.read c
+        → cond b (outcome (Answer.refused 9) scratch) (Read.finished (textRead kept t (begun scratch))) .answer ≡ Answer.read c
         → Sound t scratch c
     go true e w = not-read w
     go false e w =

@@ -1,14 +1,14 @@
 -- A value that was read and the slot that keeps it: what the slot's place and number give is the value, also after later stores.
 use Prim.Native.Nat.{ℕ, suc, _+_, _-_, _*_, _≤_, _<_, max}
 use mathlib.Core.Path.{_≡_, refl, _∙_}
-use mathlib.Core.Bool.{Bool, true, false}
+use mathlib.Core.Bool.{Bool, true, false, cond}
 use mathlib.Core.List.{List, [], _∷_}
 use native.Mathlib.Omega.{arith}
 use lib.ListN.{length, take, drop}
 use lib.Seq.{sets, take-append-seam}
 use lib.Dec.{ltb}
 use borrow.Author.Tests.{ltb-true, le-leb}
-use Rattle.octets.specs.Choice.{pick, every}
+use Rattle.octets.specs.Members.{every}
 use Rattle.octets.specs.Slices.{equals}
 use Rattle.base64.specs.Decode.{verdictOf, bytesOf}
 use Rattle.base64.specs.declared.Verdict.{Verdict}
@@ -53,7 +53,7 @@ alias-reads first ws aliases [] v h = refused
 alias-reads first ws aliases (a ∷ more) v h = go (equals v (a .text)) (alias-reads first ws aliases more v (omega arith))
   where
     go : (b : Bool) → Reads (Kind.word first ws aliases) v (aliasRead more v)
-        → Reads (Kind.word first ws aliases) v (pick b (Got.got (Value.number (count (a .code)))) (aliasRead more v))
+        → Reads (Kind.word first ws aliases) v (cond b (Got.got (Value.number (count (a .code)))) (aliasRead more v))
     go true ih =
         let l : a .code < codesEnd (first + length ws) aliases = omega arith in
         as-word l
@@ -65,7 +65,7 @@ unfolding wordRead
 word-reads first ws aliases v = go (ltb (placeIn ws v) (length ws)) refl
   where
     go : (b : Bool) → ltb (placeIn ws v) (length ws) ≡ b
-        → Reads (Kind.word first ws aliases) v (pick b (Got.got (Value.number (count (first + placeIn ws v)))) (aliasRead aliases v))
+        → Reads (Kind.word first ws aliases) v (cond b (Got.got (Value.number (count (first + placeIn ws v)))) (aliasRead aliases v))
     go true e =
         let h : placeIn ws v < length ws = ltb-true _ _ e in
         let l : first + placeIn ws v < codesEnd (first + length ws) aliases = omega (arith, end-le (first + length ws) aliases) in
@@ -78,7 +78,7 @@ reads (Kind.word first ws aliases) v = word-reads first ws aliases v
 reads (Kind.safe short) v = go (every safeByte v) (over short v) refl
   where
     go : (a b : Bool) → over short v ≡ b
-        → Reads (Kind.safe short) v (pick a (pick b (Got.refused 8) (Got.got (Value.bytes v))) (Got.refused 6))
+        → Reads (Kind.safe short) v (cond a (cond b (Got.refused 8) (Got.got (Value.bytes v))) (Got.refused 6))
     go true true e = refused
     go true false e = as-string e
     go false b e = refused

@@ -2,13 +2,13 @@
 -- which the checker computes of `keys`; no theorem names a key.
 use Prim.Native.Nat.{ℕ, zero, suc, _≤_, _<_}
 use mathlib.Core.Path.{_≡_, refl, ap}
-use mathlib.Core.Bool.{Bool, true}
+use mathlib.Core.Bool.{Bool, true, _&&_}
 use mathlib.Core.List.{List, [], _∷_}
 use native.Mathlib.Omega.{arith}
 use lib.ListN.{length, getD, drop}
 use lib.Dec.{ltb, leb, eqb}
 use borrow.Author.Tests.{eqb-true, leb-true}
-use Rattle.octets.specs.Choice.{both, every}
+use Rattle.octets.specs.Members.{every}
 use Rattle.octets.specs.Split.{split, onto}
 use Rattle.octets.specs.Slices.{equals}
 use Rattle.octets.proofs.Below.{both-test, all, at}
@@ -20,11 +20,11 @@ use Rattle.command.proofs.Calm.{calm}
 -- ---- the test
 -- a word is first found where it stands, and is calm
 unfoldable pub apart : List (List ℕ) → ℕ → Bool
-apart ws i = both (eqb (placeIn ws (getD ws i [])) i) (every calm (getD ws i []))
+apart ws i = eqb (placeIn ws (getD ws i [])) i && every calm (getD ws i [])
 
 -- of a kind of words: codes count from 0 or 1, and the words are told apart
 unfoldable pub fit : Kind → Bool
-fit (Kind.word first ws aliases) = both (leb first 1) (all (length ws) (apart ws))
+fit (Kind.word first ws aliases) = leb first 1 && all (length ws) (apart ws)
 fit (Kind.safe short) = true
 fit Kind.integer = true
 fit Kind.base64 = true
@@ -46,7 +46,7 @@ fit-words first ws aliases e =
 -- of each key: its name finds its number and is a key's name, and its kind is fit
 unfoldable named : ℕ → List Key → Bool
 named n [] = true
-named n (k ∷ ks) = both (eqb (numberOf keys (k .name)) n) (both (isKey (k .name)) (both (fit (k .kind)) (named (suc n) ks)))
+named n (k ∷ ks) = eqb (numberOf keys (k .name)) n && (isKey (k .name) && (fit (k .kind) && named (suc n) ks))
 
 tested : named 0 keys ≡ true
 unfolding named fit apart calm textByte every isKey keyByte placeIn equals split onto

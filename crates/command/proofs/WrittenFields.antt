@@ -5,7 +5,7 @@ use mathlib.Core.Bool.{true}
 use mathlib.Core.List.{List, [], _∷_, _++_}
 use lib.ListN.{length}
 use lib.Seq.{append-snoc}
-use Rattle.octets.specs.Choice.{every}
+use Rattle.octets.specs.Members.{every}
 use Rattle.command.specs.Keys.{Key}
 use Rattle.command.specs.Letters.{keyByte, textByte}
 use Rattle.command.specs.Values.{Value}

@@ -1,14 +1,14 @@
 -- A value and the text that it is written as, by kind: the text reads as the same value, and is calm.
 use Prim.Native.Nat.{ℕ, _+_, _-_, _<_}
 use mathlib.Core.Path.{_≡_, refl, sym, _∙_, ap}
-use mathlib.Core.Bool.{Bool, true, false}
+use mathlib.Core.Bool.{Bool, true, false, cond, _&&_}
 use mathlib.Core.List.{List, [], _∷_}
 use native.Mathlib.Omega.{arith}
 use lib.ListN.{length, getD}
 use lib.Dec.{ltb, eqb}
 use borrow.Author.Tests.{eqb-true, eqb-false, ne-eqb, ltb-true, lt-ltb}
 use Rattle.octets.specs.Bytes.{Bytes}
-use Rattle.octets.specs.Choice.{pick, both, every}
+use Rattle.octets.specs.Members.{every}
 use Rattle.base64.specs.Decode.{bytesOf}
 use Rattle.base64.specs.Encode as Base64
 use Rattle.base64.proofs.Groups.{valid-groups}
@@ -53,7 +53,7 @@ nought n e z = unsigned n e ∙ ap count z
 pub writable-nought : (n : Number) → Decimal.writable n ≡ true → n .magnitude ≡ 0 → n ≡ count 0
 writable-nought n w z = go (n .negative) refl (rw z at (writable-is n w .0))
   where
-    go : (x : Bool) → n .negative ≡ x → both x true ≡ false → n ≡ count 0
+    go : (x : Bool) → n .negative ≡ x → (x && true) ≡ false → n ≡ count 0
     go true e q = let y : _≡_ {A = ℕ} 0 1 = cc in absurd (omega arith)
     go false e q = nought n e z
 
@@ -64,7 +64,7 @@ met-word first ws aliases n = go (n .negative) refl (eqb (n .magnitude) 0) refl 
   where
     go : (x : Bool) → n .negative ≡ x → (y : Bool) → eqb (n .magnitude) 0 ≡ y → (z : Bool) → ltb (n .magnitude - first) (length ws) ≡ z
         → Met (Kind.word first ws aliases) (Value.number n)
-        (pick x (Shown.refused 6) (pick y Shown.leftOut (pick z (Shown.text (getD ws (n .magnitude - first) [])) (Shown.refused 6))))
+        (cond x (Shown.refused 6) (cond y Shown.leftOut (cond z (Shown.text (getD ws (n .magnitude - first) [])) (Shown.refused 6))))
     go true ex y ey z ez = refused
     go false ex true ey z ez = out (ap Value.number (nought n ex (eqb-true _ _ ey)))
     go false ex false ey true ez = there (word ex (eqb-false _ _ ey) (ltb-true _ _ ez) refl)
@@ -79,7 +79,7 @@ met-string short b = go (every safeByte b) refl (over short b) refl
     spelled (c ∷ b) s l = there (string s l)
 
     go : (x : Bool) → every safeByte b ≡ x → (y : Bool) → over short b ≡ y
-        → Met (Kind.safe short) (Value.bytes b) (pick x (pick y (Shown.refused 8) (textOr b)) (Shown.refused 6))
+        → Met (Kind.safe short) (Value.bytes b) (cond x (cond y (Shown.refused 8) (textOr b)) (Shown.refused 6))
     go true ex false ey = spelled b ex ey
     go true ex true ey = refused
     go false ex y ey = refused
@@ -89,7 +89,7 @@ unfolding integerShown
 met-integer n = go (Decimal.writable n) refl (eqb (n .magnitude) 0) refl
   where
     go : (x : Bool) → Decimal.writable n ≡ x → (y : Bool) → eqb (n .magnitude) 0 ≡ y
-        → Met Kind.integer (Value.number n) (pick x (pick y Shown.leftOut (Shown.text (Decimal.textOf n))) (Shown.refused 6))
+        → Met Kind.integer (Value.number n) (cond x (cond y Shown.leftOut (Shown.text (Decimal.textOf n))) (Shown.refused 6))
     go true ex true ey = out (ap Value.number (writable-nought n ex (eqb-true _ _ ey)))
     go true ex false ey = there (integer ex (eqb-false _ _ ey) refl)
     go false ex y ey = refused
@@ -102,7 +102,7 @@ met-base64 b = go (every isByte b) refl
     spelled [] e h = out (ap Value.bytes (sym (bytes-text b h) ∙ ap bytesOf e ∙ (unfold bytesOf in refl)))
     spelled (c ∷ t) e h = there (base64 h e)
 
-    go : (x : Bool) → every isByte b ≡ x → Met Kind.base64 (Value.bytes b) (pick x (textOr (Base64.textOf b)) (Shown.refused 6))
+    go : (x : Bool) → every isByte b ≡ x → Met Kind.base64 (Value.bytes b) (cond x (textOr (Base64.textOf b)) (Shown.refused 6))
     go true ex = spelled (Base64.textOf b) refl (bytes-every b ex)
     go false ex = refused
 

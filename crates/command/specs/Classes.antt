@@ -1,8 +1,7 @@
 -- The classes of bytes that the code tells apart.
 use Prim.Native.Nat.{ℕ}
-use mathlib.Core.Bool.{Bool, true, false}
+use mathlib.Core.Bool.{Bool, true, false, cond}
 use lib.Dec.{leb, eqb}
-use Rattle.octets.specs.Choice.{pick}
 use Rattle.command.specs.Letters.{textByte, keyByte, safeByte}
 use Rattle.command.specs.declared.letters.Class.{Class}
 use Rattle.command.specs.declared.letters.Class.the-variants as Class
@@ -16,6 +15,6 @@ byteOf Class.Safe = safeByte
 -- from low to high, from capital to Z, `_`, and from a to z
 unfoldable pub inRanges : ℕ → ℕ → ℕ → ℕ → Bool
 inRanges low high capital c =
-    pick (leb 97 c) (leb c 122)
-    (pick (leb capital c) (pick (leb c 90) true (eqb c 95))
-    (pick (leb low c) (leb c high) false))
+    cond (leb 97 c) (leb c 122)
+    (cond (leb capital c) (cond (leb c 90) true (eqb c 95))
+    (cond (leb low c) (leb c high) false))

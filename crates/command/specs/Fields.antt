@@ -1,12 +1,12 @@
 -- The fields of a command text, left to right. What is done with a known key's value is a parameter, so that reading into values
 -- and reading into places go by the same rule.
 use Prim.Native.Nat.{ℕ, _+_}
-use mathlib.Core.Bool.{Bool}
+use mathlib.Core.Bool.{Bool, cond, _&&_}
 use mathlib.Core.List.{List, [], _∷_}
 use lib.ListN.{length, take, drop}
 use lib.Dec.{ltb}
 use Rattle.bytes.specs.Bytes.{indexOf}
-use Rattle.octets.specs.Choice.{pick, both, every}
+use Rattle.octets.specs.Members.{every}
 use Rattle.octets.specs.Ascii.{ascii}
 use Rattle.octets.specs.Slices.{startsWith}
 use Rattle.octets.specs.Split.{split}
@@ -30,7 +30,7 @@ Step S = ℕ → ℕ → List ℕ → S → Turn S
 
 -- "Keys: one or more of `[a-zA-Z0-9_]`"
 unfoldable pub isKey : List ℕ → Bool
-isKey n = both (ltb 0 (length n)) (every keyByte n)
+isKey n = ltb 0 (length n) && every keyByte n
 
 -- where a field's first `=` stands, which divides key and value; its length where there is none
 abbrev pub equalsSign : List ℕ → ℕ
@@ -45,12 +45,12 @@ valueOf f = drop (equalsSign f + 1) f
 
 -- "Unknown keys are ignored, repeated ones too"
 abbrev pub known : {S : Type 0} → Step S → ℕ → Step S
-known step count n at v s = pick (ltb n count) (step n at v s) (Turn.on s)
+known step count n at v s = cond (ltb n count) (step n at v s) (Turn.on s)
 
 -- one field, which stands at place `at`: refusal 4 for a field without `=` or a bad key; so "an empty field, or none at all, gives 4"
 unfoldable pub fieldRead : {S : Type 0} → Step S → ℕ → List ℕ → S → Turn S
 fieldRead step at f s =
-    pick (both (ltb (equalsSign f) (length f)) (isKey (keyOf f)))
+    cond (ltb (equalsSign f) (length f) && isKey (keyOf f))
     (known step (length keys) (numberOf keys (keyOf f)) (at + (equalsSign f + 1)) (valueOf f) s)
     (Turn.off 4 s)
 
@@ -62,7 +62,7 @@ fieldsRead step at (f ∷ fs) s = andThen (fieldRead step at f s) (λ s′. fiel
 -- "a text read by itself gives 1 if over 8,192 bytes, and 4, after 3, if not starting `5113;`"; "fields separated by `;`"
 unfoldable pub textRead : {S : Type 0} → Step S → List ℕ → S → Turn S
 textRead step t s =
-    pick (ltb textLimit (length t)) (Turn.off 1 s)
-    (pick (every textByte t)
-    (pick (startsWith t (ascii "5113;")) (fieldsRead step 5 (split 59 (drop 5 t)) s) (Turn.off 4 s))
+    cond (ltb textLimit (length t)) (Turn.off 1 s)
+    (cond (every textByte t)
+    (cond (startsWith t (ascii "5113;")) (fieldsRead step 5 (split 59 (drop 5 t)) s) (Turn.off 4 s))
     (Turn.off 3 s))

@@ -1,10 +1,10 @@
 -- Which texts are canonical: a grammar over the table of keys. It says nothing of how a text is read or written.
 use Prim.Native.Nat.{ℕ, _+_, _≤_, _<_}
 use mathlib.Core.Path.{_≡_}
-use mathlib.Core.Bool.{Bool, true, false}
+use mathlib.Core.Bool.{Bool, true, false, _||_}
 use mathlib.Core.List.{List, [], _∷_, _++_}
 use lib.ListN.{length, getD}
-use Rattle.octets.specs.Choice.{either, every}
+use Rattle.octets.specs.Members.{every}
 use Rattle.octets.specs.Ascii.{ascii}
 use Rattle.octets.specs.Slices.{equals}
 use Rattle.octets.specs.Split.{join}
@@ -35,7 +35,7 @@ pub data CanonicalValue : Kind → List ℕ → Type 0 where
 
 -- "`ac` and a non-empty `id` must be there"
 abbrev pub needed : Key → Bool
-needed k = either (equals (k .name) (ascii "ac")) (equals (k .name) (ascii "id"))
+needed k = equals (k .name) (ascii "ac") || equals (k .name) (ascii "id")
 
 -- "fields in the order ..", "no unknown key": each key there with such a value, or left out
 pub data CanonicalFields : List Key → List (List ℕ) → Type 0 where

@@ -1,10 +1,9 @@
 -- The keys of a command, in writing order, each with the kind of its values: document 01's table.
 use Prim.Native.Nat.{ℕ, suc}
 use Prim.Native.String.{String}
-use mathlib.Core.Bool.{Bool, true, false}
+use mathlib.Core.Bool.{Bool, true, false, cond}
 use mathlib.Core.List.{List, [], _∷_}
 use lib.ListN.{length, getD}
-use Rattle.octets.specs.Choice.{pick}
 use Rattle.octets.specs.Ascii.{ascii}
 use Rattle.octets.specs.Slices.{equals}
 use Rattle.octets.specs.Split.{split}
@@ -60,7 +59,7 @@ keys =
 -- the first place of a string in a list of strings, and the list's length where it is not there
 unfoldable pub placeIn : List (List ℕ) → List ℕ → ℕ
 placeIn [] s = 0
-placeIn (x ∷ xs) s = pick (equals s x) 0 (suc (placeIn xs s))
+placeIn (x ∷ xs) s = cond (equals s x) 0 (suc (placeIn xs s))
 
 -- the names of keys
 abbrev pub names : List Key → List (List ℕ)

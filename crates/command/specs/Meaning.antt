@@ -1,10 +1,9 @@
 -- What a text means: the abstract reader, on lists alone. A command is the list of its values, one for each key in writing order.
 use Prim.Native.Nat.{ℕ}
-use mathlib.Core.Bool.{Bool}
+use mathlib.Core.Bool.{Bool, cond, _||_}
 use mathlib.Core.List.{List, [], _∷_}
 use lib.ListN.{length, getD, set}
 use lib.Dec.{eqb}
-use Rattle.octets.specs.Choice.{pick, either}
 use Rattle.decimal.specs.declared.Number.{Number}
 use Rattle.command.specs.Keys.{Key, keys, kindAt}
 use Rattle.command.specs.Values.{Value, count, absent, Got, valueRead}
@@ -76,7 +75,7 @@ dataOf c = bytesIn (getD c 14 Value.outside)
 
 -- "`ac` and a non-empty `id` must be there" (7)
 abbrev pub missing : List Value → Bool
-missing c = either (eqb (actionCode c) 0) (eqb (length (idOf c)) 0)
+missing c = eqb (actionCode c) 0 || eqb (length (idOf c)) 0
 
 -- ---- a text read
 pub data Meaning : Type 0 where
@@ -84,7 +83,7 @@ pub data Meaning : Type 0 where
   refused : ℕ → Meaning
 
 abbrev pub complete : List Value → Meaning
-complete c = pick (missing c) (Meaning.refused 7) (Meaning.command c)
+complete c = cond (missing c) (Meaning.refused 7) (Meaning.command c)
 
 abbrev pub finished : Turn (List Field) → Meaning
 finished (Turn.on s) = complete (valuesIn keys s)

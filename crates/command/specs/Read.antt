@@ -1,12 +1,11 @@
 -- Reading a text into slots and the scratch: what `read` answers, and the scratch afterwards.
 use Prim.Native.Nat.{ℕ, _+_, _≤_}
 use mathlib.Core.Path.{_≡_}
-use mathlib.Core.Bool.{true}
+use mathlib.Core.Bool.{true, cond, _||_}
 use mathlib.Core.List.{List, [], _∷_}
 use lib.ListN.{length, getD, set}
 use lib.Seq.{sets}
 use lib.Dec.{ltb, eqb}
-use Rattle.octets.specs.Choice.{pick, either}
 use Rattle.octets.specs.Outcome.{Outcome, outcome}
 use Rattle.command.specs.Keys.{Kind, Key, keys, kindAt}
 use Rattle.command.specs.Values.{Value, Got, valueRead}
@@ -56,7 +55,7 @@ keptBy k n at s (Got.refused r) = Turn.off r s
 -- "A known key may stand once" (5), and then its value is of its kind (6, 8)
 unfoldable pub kept : Step Reader
 kept n at v s =
-    pick (getD (s .slots) n free .stood) (Turn.off 5 s) (keptBy (kindAt keys n) n at s (valueRead (kindAt keys n) v))
+    cond (getD (s .slots) n free .stood) (Turn.off 5 s) (keptBy (kindAt keys n) n at s (valueRead (kindAt keys n) v))
 
 -- ---- a text read
 abbrev pub frees : List Key → List Slot
@@ -73,7 +72,7 @@ pub data Answer : Type 0 where
 
 -- "`ac` and a non-empty `id` must be there" (7)
 abbrev pub complete : Command → Answer
-complete c = pick (either (eqb (actionCode (c .action)) 0) (eqb (c .id .len) 0)) (Answer.refused 7) (Answer.read c)
+complete c = cond (eqb (actionCode (c .action)) 0 || eqb (c .id .len) 0) (Answer.refused 7) (Answer.read c)
 
 abbrev pub finished : Turn Reader → Outcome Answer
 finished (Turn.on s) = outcome (complete (commandOf (s .slots))) (s .scratch)
@@ -85,7 +84,7 @@ scratchRoom = 6144
 
 -- 9 first: "scratch under 6,144 bytes"
 unfoldable pub readOf : List ℕ → List ℕ → Outcome Answer
-readOf t scratch = pick (ltb (length scratch) scratchRoom) (outcome (Answer.refused 9) scratch) (finished (textRead kept t (begun scratch)))
+readOf t scratch = cond (ltb (length scratch) scratchRoom) (outcome (Answer.refused 9) scratch) (finished (textRead kept t (begun scratch)))
 
 -- the code's answer, its refusal by document 01's number
 abbrev pub answered : Reading → Answer

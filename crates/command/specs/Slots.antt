@@ -1,10 +1,9 @@
 -- A command as it is kept: a slot for each key, in writing order, and the places of strings in the text and in the scratch.
 use Prim.Native.Nat.{ℕ, _+_}
-use mathlib.Core.Bool.{true, false}
+use mathlib.Core.Bool.{true, false, cond}
 use mathlib.Core.List.{List, [], _∷_}
 use lib.ListN.{length, take, drop, getD}
 use lib.Dec.{leb, eqb}
-use Rattle.octets.specs.Choice.{pick}
 use Rattle.decimal.specs.declared.Number.{Number}
 use Rattle.command.specs.Keys.{Kind, Key, keys}
 use Rattle.command.specs.Values.{Value, count}
@@ -45,8 +44,8 @@ actionCode Action.Status = 8
 
 unfoldable pub actionOf : ℕ → Action
 actionOf n =
-    pick (eqb n 1) Action.Send (pick (eqb n 2) Action.Receive (pick (eqb n 3) Action.File (pick (eqb n 4) Action.Data
-    (pick (eqb n 5) Action.EndData (pick (eqb n 6) Action.Finish (pick (eqb n 7) Action.Cancel (pick (eqb n 8) Action.Status Action.None)))))))
+    cond (eqb n 1) Action.Send (cond (eqb n 2) Action.Receive (cond (eqb n 3) Action.File (cond (eqb n 4) Action.Data
+    (cond (eqb n 5) Action.EndData (cond (eqb n 6) Action.Finish (cond (eqb n 7) Action.Cancel (cond (eqb n 8) Action.Status Action.None)))))))
 
 abbrev pub fileTypeCode : FileType → ℕ
 fileTypeCode FileType.Regular = 0
@@ -55,14 +54,14 @@ fileTypeCode FileType.Symlink = 2
 fileTypeCode FileType.Link = 3
 
 unfoldable pub fileTypeOf : ℕ → FileType
-fileTypeOf n = pick (eqb n 1) FileType.Directory (pick (eqb n 2) FileType.Symlink (pick (eqb n 3) FileType.Link FileType.Regular))
+fileTypeOf n = cond (eqb n 1) FileType.Directory (cond (eqb n 2) FileType.Symlink (cond (eqb n 3) FileType.Link FileType.Regular))
 
 abbrev pub transmissionCode : Transmission → ℕ
 transmissionCode Transmission.Simple = 0
 transmissionCode Transmission.Rsync = 1
 
 unfoldable pub transmissionOf : ℕ → Transmission
-transmissionOf n = pick (eqb n 1) Transmission.Rsync Transmission.Simple
+transmissionOf n = cond (eqb n 1) Transmission.Rsync Transmission.Simple
 
 -- ---- slots
 abbrev pub nowhere : Place
@@ -144,7 +143,7 @@ commandOf s =
 -- ---- what the slots mean
 -- the bytes of a place; a place that passes the buffer's end is of no kind
 unfoldable pub bytesAt : List ℕ → Place → Value
-bytesAt l p = pick (leb (p .start + p .len) (length l)) (Value.bytes (take (p .len) (drop (p .start) l))) Value.outside
+bytesAt l p = cond (leb (p .start + p .len) (length l)) (Value.bytes (take (p .len) (drop (p .start) l))) Value.outside
 
 -- the value of a slot: strings stand in the text, Base64's bytes in the scratch
 abbrev pub valueAt : Kind → Slot → List ℕ → List ℕ → Value

@@ -1,10 +1,10 @@
 -- Values: what the text of a value reads as, and what a value is written as, by its kind.
 use Prim.Native.Nat.{ℕ, _+_, _-_}
-use mathlib.Core.Bool.{Bool, false}
+use mathlib.Core.Bool.{Bool, false, cond, _&&_}
 use mathlib.Core.List.{List, [], _∷_}
 use lib.ListN.{length, getD}
 use lib.Dec.{ltb, eqb}
-use Rattle.octets.specs.Choice.{pick, both, every}
+use Rattle.octets.specs.Members.{every}
 use Rattle.octets.specs.Slices.{equals}
 use Rattle.base64.specs.Decode.{verdictOf, bytesOf}
 use Rattle.base64.specs.Encode as Base64
@@ -43,22 +43,22 @@ pub data Got : Type 0 where
 -- the code of an alias
 unfoldable pub aliasRead : List Alias → List ℕ → Got
 aliasRead [] v = Got.refused 6
-aliasRead (a ∷ more) v = pick (equals v (a .text)) (Got.got (Value.number (count (a .code)))) (aliasRead more v)
+aliasRead (a ∷ more) v = cond (equals v (a .text)) (Got.got (Value.number (count (a .code)))) (aliasRead more v)
 
 -- one of the words, else one of the aliases
 unfoldable pub wordRead : ℕ → List (List ℕ) → List Alias → List ℕ → Got
 wordRead first ws aliases v =
-    pick (ltb (placeIn ws v) (length ws)) (Got.got (Value.number (count (first + placeIn ws v)))) (aliasRead aliases v)
+    cond (ltb (placeIn ws v) (length ws)) (Got.got (Value.number (count (first + placeIn ws v)))) (aliasRead aliases v)
 
 -- "at most 32 bytes", where that is asked
 abbrev pub over : Bool → List ℕ → Bool
-over short v = both short (ltb 32 (length v))
+over short v = short && ltb 32 (length v)
 
 -- refusal 6, then 8
 unfoldable pub safeRead : Bool → List ℕ → Got
 safeRead short v =
-    pick (every safeByte v)
-    (pick (over short v) (Got.refused 8) (Got.got (Value.bytes v)))
+    cond (every safeByte v)
+    (cond (over short v) (Got.refused 8) (Got.got (Value.bytes v)))
     (Got.refused 6)
 
 abbrev pub integerRead : Parsed → Got
@@ -91,25 +91,25 @@ textOr (x ∷ xs) = Shown.text (x ∷ xs)
 -- the word of a code
 unfoldable pub wordShown : ℕ → List (List ℕ) → Number → Shown
 wordShown first ws n =
-    pick (n .negative) (Shown.refused 6)
-    (pick (eqb (n .magnitude) 0) Shown.leftOut
-    (pick (ltb (n .magnitude - first) (length ws)) (Shown.text (getD ws (n .magnitude - first) [])) (Shown.refused 6)))
+    cond (n .negative) (Shown.refused 6)
+    (cond (eqb (n .magnitude) 0) Shown.leftOut
+    (cond (ltb (n .magnitude - first) (length ws)) (Shown.text (getD ws (n .magnitude - first) [])) (Shown.refused 6)))
 
 unfoldable pub safeShown : Bool → List ℕ → Shown
 safeShown short b =
-    pick (every safeByte b)
-    (pick (over short b) (Shown.refused 8) (textOr b))
+    cond (every safeByte b)
+    (cond (over short b) (Shown.refused 8) (textOr b))
     (Shown.refused 6)
 
 -- a negative zero and a number past signed 64 bits are not of their kind
 unfoldable pub integerShown : Number → Shown
 integerShown n =
-    pick (Decimal.writable n)
-    (pick (eqb (n .magnitude) 0) Shown.leftOut (Shown.text (Decimal.textOf n)))
+    cond (Decimal.writable n)
+    (cond (eqb (n .magnitude) 0) Shown.leftOut (Shown.text (Decimal.textOf n)))
     (Shown.refused 6)
 
 unfoldable pub base64Shown : List ℕ → Shown
-base64Shown b = pick (every isByte b) (textOr (Base64.textOf b)) (Shown.refused 6)
+base64Shown b = cond (every isByte b) (textOr (Base64.textOf b)) (Shown.refused 6)
 
 -- a value as its kind is written; a value of another kind is refused
 unfoldable pub shown : Kind → Value → Shown

@@ -1,10 +1,10 @@
 -- Writing a command: what `write` answers, and the buffer afterwards.
+use mathlib.Core.Bool.{cond, _||_}
 use Prim.Native.Nat.{ℕ}
 use mathlib.Core.List.{List, [], _∷_}
 use lib.ListN.{length}
 use lib.Seq.{sets}
 use lib.Dec.{ltb}
-use Rattle.octets.specs.Choice.{pick, either}
 use Rattle.octets.specs.Outcome.{Outcome, outcome}
 use Rattle.frames.specs.Stream.{textLimit}
 use Rattle.command.specs.Keys.{Key, keys}
@@ -40,13 +40,13 @@ pub data Answer : Type 0 where
 -- "9 exactly when its buffer is shorter than the text or the text would pass 8,192 bytes"
 abbrev pub storedText : List ℕ → List ℕ → Outcome Answer
 storedText t out =
-    pick (either (ltb textLimit (length t)) (ltb (length out) (length t)))
+    cond (ltb textLimit (length t) || ltb (length out) (length t))
     (outcome (Answer.refused 9) out)
     (outcome (Answer.written (length t)) (sets out 0 t))
 
 abbrev pub writtenBy : Checked → List Value → List ℕ → Outcome Answer
 writtenBy (Checked.fault r) c out = outcome (Answer.refused r) out
-writtenBy Checked.fine c out = pick (missing c) (outcome (Answer.refused 7) out) (storedText (canonical c) out)
+writtenBy Checked.fine c out = cond (missing c) (outcome (Answer.refused 7) out) (storedText (canonical c) out)
 
 -- "It refuses, in this order .. Each leaves its buffer as before, as do bytes beyond the text"
 unfoldable pub writeOf : List Value → List ℕ → Outcome Answer

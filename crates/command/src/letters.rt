@@ -1,6 +1,6 @@
 // Which bytes may stand where.
 ghost use mathlib.Core.Path.{_≡_};
-ghost use Rattle.octets.specs.Choice.{every};
+ghost use Rattle.octets.specs.Members.{every};
 ghost use Rattle.command.specs.Letters.{textByte};
 ghost use Rattle.command.specs.Classes.{byteOf, inRanges};
 

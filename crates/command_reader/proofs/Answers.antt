@@ -1,13 +1,12 @@
 -- What the code answers for a value is what is kept of it: an action, which may be an alias, and what `decode` answered.
 use Prim.Native.Nat.{ℕ, _+_, _*_, _≤_}
 use mathlib.Core.Path.{_≡_, refl, _∙_, ap}
-use mathlib.Core.Bool.{Bool, true, false}
+use mathlib.Core.Bool.{Bool, true, false, cond}
 use mathlib.Core.List.{List, [], _∷_}
 use native.Mathlib.Omega.{arith}
 use lib.ListN.{length}
 use lib.Dec.{ltb}
 use borrow.Author.Tests.{le-leb}
-use Rattle.octets.specs.Choice.{pick}
 use Rattle.octets.specs.Slices.{equals}
 use Rattle.octets.specs.Outcome.{Outcome}
 use Rattle.octets.specs.Split.{onto, split}
@@ -44,7 +43,7 @@ no-alias first ws a v r at e p scratch used n slots =
     s : Reader
     s = record { slots = slots; scratch = scratch; used = used }
 
-    go : (t : Bool) → let g = pick t (Got.got (Value.number (count (first + placeIn ws v)))) (Got.refused 6) in
+    go : (t : Bool) → let g = cond t (Got.got (Value.number (count (first + placeIn ws v)))) (Got.refused 6) in
         keptBy (Kind.word first ws []) n at s g ≡ keptBy (Kind.word first ws (a ∷ [])) n at s g
     go true = refl
     go false = refl

@@ -1,12 +1,11 @@
 -- The scratch always has room for a decoded value: three bytes for each four characters of a text of at most 8,192.
 use Prim.Native.Nat.{ℕ, _+_, _*_, _≤_}
 use mathlib.Core.Path.{_≡_, refl}
-use mathlib.Core.Bool.{Bool, true, false}
+use mathlib.Core.Bool.{Bool, true, false, cond, _&&_}
 use mathlib.Core.List.{List, [], _∷_}
 use native.Mathlib.Omega.{arith}
 use lib.ListN.{length, getD, length-drop}
 use lib.Dec.{ltb, eqb}
-use Rattle.octets.specs.Choice.{pick, both}
 use Rattle.base64.specs.Alphabet.{pad, valueOf}
 use Rattle.base64.specs.Decode.{verdictOf, byte1, byte2, byte3, group, bytesOf}
 use Rattle.base64.specs.declared.Verdict.{Verdict}
@@ -29,8 +28,8 @@ bytes-length (a ∷ b ∷ c ∷ []) = omega arith
 bytes-length (a ∷ b ∷ c ∷ d ∷ r) = go (eqb c pad) (eqb d pad) (bytes-length r)
   where
     go : (x y : Bool) → 4 * length (bytesOf r) ≤ 3 * length r
-        → let last = pick y (bytesOf r) (byte3 (valueOf c) (valueOf d) ∷ bytesOf r) in
-        let more = pick x (bytesOf r) (byte2 (valueOf b) (valueOf c) ∷ last) in
+        → let last = cond y (bytesOf r) (byte3 (valueOf c) (valueOf d) ∷ bytesOf r) in
+        let more = cond x (bytesOf r) (byte2 (valueOf b) (valueOf c) ∷ last) in
         4 * length (byte1 (valueOf a) (valueOf b) ∷ more) ≤ 3 * length (a ∷ b ∷ c ∷ d ∷ r)
     go true y h = omega arith
     go false true h = omega arith
@@ -63,14 +62,14 @@ module _ (n at : ℕ) (v : List ℕ) (s : Reader) where
   known-within = go (getD (s .slots) n free .stood)
     where
       go : (b : Bool) → let t = keptBy (kindAt keys n) n at s (valueRead (kindAt keys n) v) in
-          Within (4 * s .used + 3 * length v) (pick b (Turn.off 5 s) t)
+          Within (4 * s .used + 3 * length v) (cond b (Turn.off 5 s) t)
       go true = tt
       go false = value-within (kindAt keys n)
 
 -- a field read
 pub field-within : (at : ℕ) (f : List ℕ) (s : Reader) → Within (4 * s .used + 3 * length f) (fieldRead kept at f s)
 unfolding fieldRead
-field-within at f s = go (both (ltb (equalsSign f) (length f)) (isKey (keyOf f))) (ltb (numberOf keys (keyOf f)) (length keys))
+field-within at f s = go (ltb (equalsSign f) (length f) && isKey (keyOf f)) (ltb (numberOf keys (keyOf f)) (length keys))
   where
     m : ℕ
     m = 4 * s .used + 3 * length f
@@ -82,7 +81,7 @@ field-within at f s = go (both (ltb (equalsSign f) (length f)) (isKey (keyOf f))
     t : Turn Reader
     t = kept (numberOf keys (keyOf f)) (at + (equalsSign f + 1)) (Fields.valueOf f) s
 
-    go : (a b : Bool) → Within m (pick a (pick b t (Turn.on s)) (Turn.off 4 s))
+    go : (a b : Bool) → Within m (cond a (cond b t (Turn.on s)) (Turn.off 4 s))
     go true true = longer t (known-within (numberOf keys (keyOf f)) (at + (equalsSign f + 1)) (Fields.valueOf f) s)
     go true false = omega arith
     go false b = tt

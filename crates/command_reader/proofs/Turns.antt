@@ -1,7 +1,7 @@
 -- A field read, and the fields from one on, as the code takes them.
 use Prim.Native.Nat.{ℕ, _+_, _-_, _≤_, _<_}
 use mathlib.Core.Path.{_≡_, sym}
-use mathlib.Core.Bool.{true, false}
+use mathlib.Core.Bool.{true, false, _&&_}
 use mathlib.Core.List.{List, _∷_}
 use native.Mathlib.Omega.{arith}
 use lib.ListN.{length, take, drop}
@@ -9,7 +9,6 @@ use lib.Dec.{ltb}
 use borrow.Author.Tests.{lt-ltb, le-ltb}
 use Rattle.bytes.specs.Bytes.{indexOf}
 use Rattle.octets.specs.Ascii.{ascii}
-use Rattle.octets.specs.Choice.{both}
 use Rattle.octets.specs.Split.{onto, split}
 use Rattle.octets.proofs.Lists.{part-rest}
 use Rattle.command.specs.Keys.{keys, placeIn, numberOf}
@@ -29,11 +28,11 @@ module _ (at : ℕ) (f : List ℕ) (s : Reader) (e : ℕ) (q : e ≡ 0 + indexOf
   sign : indexOf 61 f ≡ e
   sign = omega arith
 
-  pub field-bad : both (ltb e (length f)) (isKey (take e f)) ≡ false → fieldRead kept at f s ≡ Turn.off 4 s
+  pub field-bad : (ltb e (length f) && isKey (take e f)) ≡ false → fieldRead kept at f s ≡ Turn.off 4 s
   unfolding fieldRead
   field-bad h = rw (sign, h)
 
-  module _ (h : both (ltb e (length f)) (isKey (take e f)) ≡ true) (n : ℕ) (m : n ≡ placeIn (split 32 listed) (take e f)) where
+  module _ (h : (ltb e (length f) && isKey (take e f)) ≡ true) (n : ℕ) (m : n ≡ placeIn (split 32 listed) (take e f)) where
     pub field-unknown : 15 ≤ n → fieldRead kept at f s ≡ Turn.on s
     unfolding fieldRead
     field-unknown k = rw (sign, h, number-of n (take e f) m, le-ltb n 15 k)

@@ -1,10 +1,10 @@
 // The fields of a text, left to right.
+ghost use mathlib.Core.Bool.{_&&_};
 ghost use mathlib.Core.Path.{_≡_};
 ghost use Prim.Native.Nat.{ℕ, _+_, _-_, _*_, _≤_, _<_};
 ghost use mathlib.Core.List.{List};
 ghost use lib.Dec.{ltb};
 ghost use lib.ListN.{length, take, drop};
-ghost use Rattle.octets.specs.Choice.{both};
 ghost use Rattle.octets.specs.Outcome.{outcome};
 ghost use Rattle.octets.specs.Split.{split};
 ghost use Rattle.frames.specs.Stream.{textLimit};
@@ -111,7 +111,7 @@ fn field(state: State, text: &[u8], at: usize, end: usize, scratch: &mut [u8]) -
 
 // Whether the bytes of f up to place e, which is within f, are a key.
 fn has_key(f: &[u8], e: usize) -> bool
-    ensures { λ r. ⌜ r ≡ both (ltb e (length (now (f .entry)))) (isKey (take e (now (f .entry)))) ⌝ }
+    ensures { λ r. ⌜ r ≡ (ltb e (length (now (f .entry))) && isKey (take e (now (f .entry)))) ⌝ }
 {
     if e >= f.len() {
         return false;

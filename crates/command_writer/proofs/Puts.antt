@@ -1,14 +1,13 @@
 -- Strings put: none, one, and one after another.
 use Prim.Native.Nat.{ℕ, _+_}
 use mathlib.Core.Path.{_≡_, refl, _∙_, ap}
-use mathlib.Core.Bool.{Bool, true, false, not}
+use mathlib.Core.Bool.{Bool, true, false, not, cond, _&&_}
 use mathlib.Core.List.{List, [], _++_}
 use native.Mathlib.Omega.{arith}
 use lib.ListN.{length, length-append}
 use lib.Seq.{sets, length-sets}
 use lib.Dec.{leb}
 use borrow.Author.Tests.{le-leb, leb-false}
-use Rattle.octets.specs.Choice.{pick, both}
 use Rattle.octets.specs.Outcome.{outcome, storedAt}
 use Rattle.octets.proofs.Stores.{sets-append}
 use Rattle.command.specs.Write.{Checked}
@@ -53,14 +52,14 @@ numberTold DecimalWritten.NoRoom end = Written.Length end
 
 pub put-number : (n : Number) (out after : List ℕ) (at end : ℕ) (w : Decimal.Written) → outcome w after ≡ writeOf n out at
     → spare end ≡ spare (at + length (textOf n))
-    → PutOr (pick (writable n) Checked.fine (Checked.fault 6)) (textOf n) out at (numberTold w end) after
+    → PutOr (cond (writable n) Checked.fine (Checked.fault 6)) (textOf n) out at (numberTold w end) after
 unfolding writeOf writable
 put-number n out after at end w e s = go (negativeZero n) (outOfRange n) (leb (at + length (textOf n)) (length out)) refl e
   where
     go : (z x f : Bool) → leb (at + length (textOf n)) (length out) ≡ f
-        → outcome w after ≡ pick z (outcome DecimalWritten.NegativeZero out) (pick x (outcome DecimalWritten.OutOfRange out)
-        (pick f (outcome (DecimalWritten.End (at + length (textOf n))) (sets out at (textOf n))) (outcome DecimalWritten.NoRoom out)))
-        → PutOr (pick (both (not z) (not x)) Checked.fine (Checked.fault 6)) (textOf n) out at (numberTold w end) after
+        → outcome w after ≡ cond z (outcome DecimalWritten.NegativeZero out) (cond x (outcome DecimalWritten.OutOfRange out)
+        (cond f (outcome (DecimalWritten.End (at + length (textOf n))) (sets out at (textOf n))) (outcome DecimalWritten.NoRoom out)))
+        → PutOr (cond (not z && not x) Checked.fine (Checked.fault 6)) (textOf n) out at (numberTold w end) after
     go true x f ef q = rw (ap (λ o. o .answer) q)
     go false true f ef q = rw (ap (λ o. o .answer) q)
     go false false true ef q =

@@ -1,7 +1,7 @@
 -- A field put, by what becomes of its value.
 use Prim.Native.Nat.{ℕ, zero, suc, _+_, _<_}
 use mathlib.Core.Path.{_≡_, refl}
-use mathlib.Core.Bool.{Bool, true, false}
+use mathlib.Core.Bool.{Bool, true, false, cond}
 use mathlib.Core.List.{List, [], _∷_, _++_}
 use native.Mathlib.Omega.{arith}
 use lib.ListN.{length, getD, take, drop, length-take, length-drop}
@@ -9,7 +9,7 @@ use native.Mathlib.Nat.{add-comm}
 use lib.Seq.{append-snoc, getD-drop}
 use lib.Dec.{leb}
 use borrow.Author.Tests.{lt-ltb, ne-eqb, leb-true}
-use Rattle.octets.specs.Choice.{pick, every}
+use Rattle.octets.specs.Members.{every}
 use Rattle.base64.specs.Encode as Base64
 use Rattle.base64.proofs.Lengths.{length-text}
 use Rattle.decimal.specs.Write.{textOf, writable}
@@ -32,7 +32,7 @@ field-put name v f g = rw (append-snoc name 61 v) at (put-then f g)
 
 -- the same of a value that may be refused
 pub field-or : (name v : List ℕ) {l m : List ℕ} {o p : ℕ} (n : List ℕ) (r : Written) (w : Bool) → Put (59 ∷ name ++ 61 ∷ []) l o p m
-    → PutOr (pick w Checked.fine (Checked.fault 6)) v m p r n → FieldPut name (pick w (Shown.text v) (Shown.refused 6)) l o r n
+    → PutOr (cond w Checked.fine (Checked.fault 6)) v m p r n → FieldPut name (cond w (Shown.text v) (Shown.refused 6)) l o r n
 field-or name v n r true f (end, e, g) = (end, e, field-put name v f g)
 field-or name v n r false f e = e
 
@@ -76,7 +76,7 @@ base64-some l p b h n =
     (text-some (Base64.textOf t) (λ e. n (omega (arith, length-text t, size))))
 
 -- ---- an integer that is not 0
-pub integer-some : (n : Number) → 0 < n .magnitude → integerShown n ≡ pick (writable n) (Shown.text (textOf n)) (Shown.refused 6)
+pub integer-some : (n : Number) → 0 < n .magnitude → integerShown n ≡ cond (writable n) (Shown.text (textOf n)) (Shown.refused 6)
 unfolding integerShown
 integer-some n h = rw (ne-eqb (n .magnitude) 0 (λ e. omega arith))
 

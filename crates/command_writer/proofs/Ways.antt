@@ -1,14 +1,13 @@
 -- The ways of writing a command.
 use Prim.Native.Nat.{ℕ, _+_, _-_, _<_}
 use mathlib.Core.Path.{_≡_, refl, sym}
-use mathlib.Core.Bool.{Bool, true, false}
+use mathlib.Core.Bool.{Bool, true, false, cond, _||_}
 use mathlib.Core.List.{List, []}
 use native.Mathlib.Omega.{arith}
 use native.Mathlib.Decide.{decLt}
 use lib.ListN.{length, getD, take, drop, length-take, length-drop}
 use lib.Dec.{ltb, leb, eqb}
 use borrow.Author.Tests.{lt-ltb, ltb-false, leb-true}
-use Rattle.octets.specs.Choice.{pick, either}
 use Rattle.octets.specs.Outcome.{outcome}
 use Rattle.decimal.specs.declared.Number.{Number}
 use Rattle.frames.specs.Stream.{textLimit}
@@ -25,7 +24,7 @@ use Rattle.command_writer.specs.Stores.{spare, PutOr}
 use Rattle.command_writer.specs.Pieces.{whole}
 use Rattle.command_writer.proofs.Canons.{fine-at, canonical-pieces}
 
-either-false : (a b : Bool) → either a b ≡ false → (a ≡ false) × (b ≡ false)
+either-false : (a b : Bool) → (a || b) ≡ false → (a ≡ false) × (b ≡ false)
 either-false true b e = let z : _≡_ {A = ℕ} 0 1 = cc in absurd (omega arith)
 either-false false b e = (refl, e)
 
@@ -33,7 +32,7 @@ either-false false b e = (refl, e)
 module _ (l : List ℕ) (p : Place) where
   -- what stands at a place, by whether it lies within
   abbrev placed : Bool → Value
-  placed t = pick t (Value.bytes (take (p .len) (drop (p .start) l))) Value.outside
+  placed t = cond t (Value.bytes (take (p .len) (drop (p .start) l))) Value.outside
 
   -- a place's bytes are as many as it says, if it is of its kind
   place-length : before (shown (Kind.safe true) (bytesAt l p)) Checked.fine ≡ Checked.fine → length (bytesIn (bytesAt l p)) ≡ p .len
@@ -52,17 +51,17 @@ unfolding wordShown
 word-there first ws n h e = go (n .negative) (ltb (n .magnitude - first) (length ws)) (rw h at e)
   where
     go : (s t : Bool)
-        → pick s (Shown.refused 6) (pick t (Shown.text (getD ws (n .magnitude - first) [])) (Shown.refused 6)) ≡ Shown.leftOut → ⊥
+        → cond s (Shown.refused 6) (cond t (Shown.text (getD ws (n .magnitude - first) [])) (Shown.refused 6)) ≡ Shown.leftOut → ⊥
     go true t q = let z : _≡_ {A = ℕ} 0 1 = cc in omega arith
     go false true q = let z : _≡_ {A = ℕ} 0 1 = cc in omega arith
     go false false q = let z : _≡_ {A = ℕ} 0 1 = cc in omega arith
 
 -- ---- lengths
 -- lengths that leave the same are over the limit, or over another length, together
-over-same : (n m len : ℕ) → spare n ≡ spare m → either (ltb textLimit n) (ltb len n) ≡ either (ltb textLimit m) (ltb len m)
+over-same : (n m len : ℕ) → spare n ≡ spare m → (ltb textLimit n || ltb len n) ≡ (ltb textLimit m || ltb len m)
 over-same n m len s = go (decLt textLimit n)
   where
-    go : Dec (textLimit < n) → either (ltb textLimit n) (ltb len n) ≡ either (ltb textLimit m) (ltb len m)
+    go : Dec (textLimit < n) → (ltb textLimit n || ltb len n) ≡ (ltb textLimit m || ltb len m)
     go (yes h) = rw (lt-ltb textLimit n h, lt-ltb textLimit m (omega arith))
     go (no h) = let e : n ≡ m = omega arith in rw e
 
@@ -72,7 +71,7 @@ module _ (c : Command) (text scratch out : List ℕ) where
   vs = valuesOf c text scratch
 
   abbrev lacking : Bool
-  lacking = either (eqb (actionCode (c .action)) 0) (eqb (c .id .len) 0)
+  lacking = eqb (actionCode (c .action)) 0 || eqb (c .id .len) 0
 
   pub refused-fault : (n : ℕ) → checkedOf keys vs ≡ Checked.fault n → outcome (Answer.refused n) out ≡ writeOf vs out
   unfolding writeOf
@@ -93,9 +92,9 @@ module _ (c : Command) (text scratch out : List ℕ) where
       canonical-is = canonical-pieces _ _ fine (λ e. word-there _ _ _ (either-false _ _ there .0) e)
 
       abbrev short : Bool
-      short = either (ltb textLimit n) (ltb (length out) n)
+      short = ltb textLimit n || ltb (length out) n
 
-      short-is : either (ltb textLimit (length (canonical vs))) (ltb (length out) (length (canonical vs))) ≡ short
+      short-is : (ltb textLimit (length (canonical vs)) || ltb (length out) (length (canonical vs))) ≡ short
       short-is = rw canonical-is (sym (over-same n (length (whole vs)) (length out) size))
 
       pub refused-room : short ≡ true → outcome (Answer.refused 9) out ≡ writeOf vs out

@@ -8,10 +8,10 @@ mod store;
 mod table;
 mod values;
 
+ghost use mathlib.Core.Bool.{_||_};
 ghost use mathlib.Core.Path.{_≡_};
 ghost use lib.ListN.{length};
 ghost use lib.Dec.{ltb, eqb};
-ghost use Rattle.octets.specs.Choice.{either};
 ghost use Rattle.octets.specs.Outcome.{outcome};
 ghost use Rattle.frames.specs.Stream.{textLimit};
 ghost use Rattle.command.specs.Keys.{keys};
@@ -63,7 +63,7 @@ fn write_measured<'a>(
 
 // Whether a command has no action or an empty id.
 fn lacks(command: Command) -> bool
-    ensures { λ r. ⌜ r ≡ either (eqb (actionCode (command .action)) 0) (eqb (command .id .len) 0) ⌝ }
+    ensures { λ r. ⌜ r ≡ (eqb (actionCode (command .action)) 0 || eqb (command .id .len) 0) ⌝ }
 {
     let action = command.action;
     if slots::action_code(action) == 0 {
@@ -74,7 +74,7 @@ fn lacks(command: Command) -> bool
 
 // Whether a text of n bytes passes the limit, or a buffer of this length is shorter.
 fn no_room(n: usize, len: usize) -> bool
-    ensures { λ r. ⌜ r ≡ either (ltb textLimit n) (ltb len n) ⌝ }
+    ensures { λ r. ⌜ r ≡ (ltb textLimit n || ltb len n) ⌝ }
 {
     if n > Framing::TEXT_LIMIT {
         return true;

@@ -1,9 +1,9 @@
 // Strings put one after another into a buffer. What does not fit is counted all the same, so that an
 // empty buffer serves to measure. Lengths over the limit are not told apart, so that no sum can wrap.
+ghost use mathlib.Core.Bool.{cond};
 ghost use mathlib.Core.Path.{_≡_};
 ghost use Prim.Native.Nat.{_+_};
 ghost use mathlib.Core.List.{[], _∷_, _++_};
-ghost use Rattle.octets.specs.Choice.{pick};
 ghost use Rattle.base64.specs.Encode as Base64;
 ghost use Rattle.decimal.specs.Write as Decimal;
 ghost use Rattle.command.specs.Write.{Checked};
@@ -55,7 +55,7 @@ pub(crate) fn put_base64(bytes: &[u8], out: &mut [u8], at: usize) -> usize
 
 // Puts the text of a number. A negative zero, or a number past signed 64 bits, is refused.
 pub(crate) fn put_number(n: Number, out: &mut [u8], at: usize) -> Written
-    ensures { λ r. ⌜ PutOr (pick (Decimal.writable n) Checked.fine (Checked.fault 6)) (Decimal.textOf n) (now (out .entry)) at r (now (out .exit)) ⌝ }
+    ensures { λ r. ⌜ PutOr (cond (Decimal.writable n) Checked.fine (Checked.fault 6)) (Decimal.textOf n) (now (out .entry)) at r (now (out .exit)) ⌝ }
 {
     match decimal::write(n, out, at) {
         decimal::Written::End(end) => Written::Length(end),

@@ -1,9 +1,9 @@
 // A field, by the kind of its value: it is put as `;key=value`, or left out, or refused.
+ghost use mathlib.Core.Bool.{_&&_};
 ghost use mathlib.Core.Path.{_≡_};
 ghost use Prim.Native.Nat.{_+_, _≤_};
 ghost use lib.ListN.{length, take, drop};
 ghost use lib.Dec.{ltb};
-ghost use Rattle.octets.specs.Choice.{both};
 ghost use Rattle.command.specs.Keys.{Kind};
 ghost use Rattle.command.specs.Values.{wordShown, integerShown, shown};
 ghost use Rattle.command.specs.Slots.{bytesAt};
@@ -91,7 +91,7 @@ pub(crate) fn safe(
 
 // Whether a string is not "at most 32 bytes", where that is asked.
 fn over(short: bool, len: usize) -> bool
-    ensures { λ r. ⌜ r ≡ both short (ltb 32 len) ⌝ }
+    ensures { λ r. ⌜ r ≡ (short && ltb 32 len) ⌝ }
 {
     if short {
         return len > 32;

@@ -1,14 +1,13 @@
 -- What is written reads as the same integer, and a canonical text that reads is written again as it was.
 use Prim.Native.Nat.{ℕ, zero, suc, _+_, _-_, _*_, _/_, _%_, _^_, _≤_, _<_}
 use mathlib.Core.Path.{_≡_, refl, _∙_, ap}
-use mathlib.Core.Bool.{Bool, true, false}
+use mathlib.Core.Bool.{Bool, true, false, cond, _&&_}
 use mathlib.Core.List.{List, _∷_}
 use native.Mathlib.Omega.{arith}
 use native.Mathlib.Nat.{mod-eq-of-lt}
 use lib.ListN.{length, drop}
 use lib.Dec.{ltb, eqb}
 use borrow.Author.Tests.{ne-eqb, le-ltb, le-leb, eqb-true, ltb-false}
-use Rattle.octets.specs.Choice.{pick, both}
 use Rattle.octets.specs.Slices.{startsWith}
 use Rattle.octets.specs.Ascii.{ascii}
 use Rattle.decimal.specs.Limits.{mostDigits, limit}
@@ -46,7 +45,7 @@ unfolding fixed parseOf startsWith
 no-minus zero n = refl
 no-minus (suc w) n = rw (ne-eqb (n / 10 ^ w % 10 + 48) 45 (λ e. omega arith))
 
-read-signed : (s : Bool) (m : ℕ) → both s (eqb m 0) ≡ false → m ≤ limit s
+read-signed : (s : Bool) (m : ℕ) → (s && eqb m 0) ≡ false → m ≤ limit s
     → parseOf (signedText s (fixed (widthOf m) m)) ≡ Integer (record { negative = s; magnitude = m })
 read-signed true m z h = unfold parseOf startsWith in read-magnitude true m h ∙ rw z
 read-signed false m z h = no-minus (widthOf m) m ∙ read-magnitude false m h
@@ -70,12 +69,12 @@ unfolding magnitudeOf rangedOf
 magnitude-is s t n e = go (eqb (length t) 0) (ltb mostDigits (length t)) refl (digitsOf 0 t) refl e
   where
     ranged : (m : ℕ) → ltb mostDigits (length t) ≡ false → digitsOf 0 t ≡ Value m → (b : Bool) → ltb (limit s) m ≡ b
-        → pick b OutOfRange (Integer (signed s m)) ≡ Integer n → Magnitude s t n
+        → cond b OutOfRange (Integer (signed s m)) ≡ Integer n → Magnitude s t n
     ranged m el ed true eb q = let z : _≡_ {A = ℕ} 0 1 = cc in absurd (omega arith)
     ranged m el ed false eb q = record { value = m; short = ltb-false _ _ el; digits = ed; within = ltb-false _ _ eb; same = cc }
 
     go : (x y : Bool) → ltb mostDigits (length t) ≡ y → (d : Run) → digitsOf 0 t ≡ d
-        → pick x Malformed (pick y Malformed (digitsRanged s d)) ≡ Integer n → Magnitude s t n
+        → cond x Malformed (cond y Malformed (digitsRanged s d)) ≡ Integer n → Magnitude s t n
     go true y ey d ed q = let z : _≡_ {A = ℕ} 0 1 = cc in absurd (omega arith)
     go false true ey d ed q = let z : _≡_ {A = ℕ} 0 1 = cc in absurd (omega arith)
     go false false ey NotDigits ed q = let z : _≡_ {A = ℕ} 0 1 = cc in absurd (omega arith)
@@ -127,7 +126,7 @@ parse-writable t n e = go (startsWith t (ascii "-")) e
     accepted : (s : Bool) (ds : List ℕ) → magnitudeOf s ds ≡ Integer n → writable n ≡ true
     accepted s ds q = let m = magnitude-is s ds n q in rw (m .same) (signed-writable s (m .value) (m .within))
 
-    go : (b : Bool) → pick b (magnitudeOf true (drop 1 t)) (magnitudeOf false t) ≡ Integer n → writable n ≡ true
+    go : (b : Bool) → cond b (magnitudeOf true (drop 1 t)) (magnitudeOf false t) ≡ Integer n → writable n ≡ true
     go true q = accepted true (drop 1 t) q
     go false q = accepted false t q
 

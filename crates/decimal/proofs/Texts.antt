@@ -1,7 +1,7 @@
 -- The text of a number: its length, its bytes, and that it is canonical.
 use Prim.Native.Nat.{ℕ, zero, suc, _+_, _/_, _%_, _^_, _≤_, _<_}
 use mathlib.Core.Path.{_≡_, refl}
-use mathlib.Core.Bool.{Bool, true, false}
+use mathlib.Core.Bool.{Bool, true, false, _&&_}
 use mathlib.Core.List.{List, [], _∷_}
 use mathlib.Core.Logic.{_⊎_, inl, inr, ⊎-elim}
 use native.Mathlib.Omega.{arith}
@@ -9,7 +9,6 @@ use native.Mathlib.Nat.{div-lt-iff-lt-mul, le-div-iff-mul-le}
 use lib.ListN.{length}
 use lib.Dec.{eqb}
 use borrow.Author.Tests.{eqb-false}
-use Rattle.octets.specs.Choice.{both}
 use Rattle.decimal.specs.Limits.{minus, limit}
 use Rattle.decimal.specs.Write.{fixed, widthFrom, widthOf, signedText, textOf, writable}
 use Rattle.decimal.specs.Canonical.{Canonical}
@@ -86,7 +85,7 @@ canonical-fixed s n h b = go (widthOf n) refl
         let d = first-digit k n (width-top k n e h) (rw e at (width-least n .holds (omega (arith, limit-lt s)))) in
         unfold fixed in canonical-digits s _ (fixed k n) (d .0) (d .1)
 
-canonical-signed : (s : Bool) (n : ℕ) → both s (eqb n 0) ≡ false → n ≤ limit s → Canonical (signedText s (fixed (widthOf n) n))
+canonical-signed : (s : Bool) (n : ℕ) → (s && eqb n 0) ≡ false → n ≤ limit s → Canonical (signedText s (fixed (widthOf n) n))
 canonical-signed true n z h = canonical-fixed true n (omega (arith, eqb-false n 0 z)) h
 canonical-signed false zero z h = unfold fixed widthFrom in C.zero
 canonical-signed false (suc k) z h = canonical-fixed false (suc k) (omega arith) h

@@ -1,13 +1,12 @@
 -- The width of a number: the least number of digits, one or more, that holds it.
 use Prim.Native.Nat.{ℕ, zero, suc, _+_, _-_, _^_, _≤_, _<_}
 use mathlib.Core.Path.{_≡_, refl}
-use mathlib.Core.Bool.{Bool, true, false}
+use mathlib.Core.Bool.{Bool, true, false, cond}
 use native.Mathlib.Omega.{arith}
 use native.Mathlib.Decide.{decLt}
 use native.Mathlib.Numerals.{add-one}
 use lib.Dec.{ltb}
 use borrow.Author.Tests.{lt-ltb, le-ltb, ltb-true, ltb-false}
-use Rattle.octets.specs.Choice.{pick}
 use Rattle.decimal.specs.Write.{widthFrom, widthOf}
 use Rattle.decimal.proofs.Powers.{ten-le, ten-lt}
 
@@ -40,7 +39,7 @@ least-from zero w last n q =
     record { first = omega arith; upto = omega arith; holds = λ h. rw e h; least = λ j h k. h }
 least-from (suc f) w last n q = go (ltb n (10 ^ w)) refl (least-from f (suc w) last n (omega arith))
   where
-    go : (b : Bool) → ltb n (10 ^ w) ≡ b → Least (suc w) last n (widthFrom f (suc w) n) → Least w last n (pick b w (widthFrom f (suc w) n))
+    go : (b : Bool) → ltb n (10 ^ w) ≡ b → Least (suc w) last n (widthFrom f (suc w) n) → Least w last n (cond b w (widthFrom f (suc w) n))
     go true e l = record { first = omega arith; upto = omega arith; holds = λ h. ltb-true n (10 ^ w) e; least = λ j h k. h }
     go false e l =
         record {

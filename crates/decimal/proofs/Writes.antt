@@ -1,12 +1,11 @@
 -- Which numbers `write` stores.
 use Prim.Native.Nat.{ℕ, _+_, _^_, _≤_, _<_}
 use mathlib.Core.Path.{_≡_, refl}
-use mathlib.Core.Bool.{Bool, true, false, not}
+use mathlib.Core.Bool.{Bool, true, false, not, _&&_}
 use mathlib.Core.List.{List}
 use native.Mathlib.Omega.{arith}
 use lib.ListN.{length}
 use borrow.Author.Tests.{le-ltb, ltb-false}
-use Rattle.octets.specs.Choice.{both}
 use Rattle.octets.specs.Outcome.{storedAt}
 use Rattle.decimal.specs.Limits.{mostDigits, limit}
 use Rattle.decimal.specs.Write.{textOf, negativeZero, outOfRange, writable, writeOf}
@@ -23,7 +22,7 @@ pub writable-is : (n : Number) → writable n ≡ true → (negativeZero n ≡ f
 unfolding writable
 writable-is n e = go (negativeZero n) refl (outOfRange n) refl e
   where
-    go : (z : Bool) → negativeZero n ≡ z → (r : Bool) → outOfRange n ≡ r → both (not z) (not r) ≡ true
+    go : (z : Bool) → negativeZero n ≡ z → (r : Bool) → outOfRange n ≡ r → (not z && not r) ≡ true
         → (negativeZero n ≡ false) × (n .magnitude ≤ limit (n .negative))
     go true ez r er q = let z : _≡_ {A = ℕ} 0 1 = cc in absurd (omega arith)
     go false ez true er q = let z : _≡_ {A = ℕ} 0 1 = cc in absurd (omega arith)

@@ -1,10 +1,9 @@
 -- Writing: "integers without leading zeros or `-0`".
 use Prim.Native.Nat.{ℕ, zero, suc, _+_, _/_, _%_, _^_}
-use mathlib.Core.Bool.{Bool, true, false, not}
+use mathlib.Core.Bool.{Bool, true, false, not, cond, _&&_}
 use mathlib.Core.List.{List, [], _∷_}
 use lib.ListN.{length}
 use lib.Dec.{ltb, eqb}
-use Rattle.octets.specs.Choice.{pick, both}
 use Rattle.octets.specs.Outcome.{Outcome, outcome, storedAt}
 use Rattle.decimal.specs.Limits.{limit, minus, digit0}
 use Rattle.decimal.specs.declared.Number.{Number}
@@ -19,7 +18,7 @@ fixed (suc w) n = (n / 10 ^ w % 10 + digit0) ∷ fixed w n
 -- the least width from w on that holds n, looked for f times more
 unfoldable pub widthFrom : ℕ → ℕ → ℕ → ℕ
 widthFrom zero w n = w
-widthFrom (suc f) w n = pick (ltb n (10 ^ w)) w (widthFrom f (suc w) n)
+widthFrom (suc f) w n = cond (ltb n (10 ^ w)) w (widthFrom f (suc w) n)
 
 -- one digit or more, and 20 hold every u64
 abbrev pub widthOf : ℕ → ℕ
@@ -35,7 +34,7 @@ textOf n = signedText (n .negative) (fixed (widthOf (n .magnitude)) (n .magnitud
 
 -- "or `-0`"
 abbrev pub negativeZero : Number → Bool
-negativeZero n = both (n .negative) (eqb (n .magnitude) 0)
+negativeZero n = n .negative && eqb (n .magnitude) 0
 
 -- not "within signed 64 bits"
 abbrev pub outOfRange : Number → Bool
@@ -43,11 +42,11 @@ outOfRange n = ltb (limit (n .negative)) (n .magnitude)
 
 -- an integer of ours, which `write` refuses only for want of room
 unfoldable pub writable : Number → Bool
-writable n = both (not (negativeZero n)) (not (outOfRange n))
+writable n = not (negativeZero n) && not (outOfRange n)
 
 -- a negative zero or a number past signed 64 bits is refused; else the text is stored at its place, if it fits
 unfoldable pub writeOf : Number → List ℕ → ℕ → Outcome Written
 writeOf n out at =
-    pick (negativeZero n) (outcome NegativeZero out)
-    (pick (outOfRange n) (outcome OutOfRange out)
+    cond (negativeZero n) (outcome NegativeZero out)
+    (cond (outOfRange n) (outcome OutOfRange out)
     (storedAt (End (at + length (textOf n))) NoRoom (textOf n) out at))

@@ -19,7 +19,7 @@ use Rattle.frames.specs.declared.step.Event.the-variants.{On, Closed, Ab
 use Rattle.frames.specs.declared.walk.Walked.{Walked}
 use Rattle.frames.specs.declared.Report.{Report}
 use Rattle.frames.specs.declared.Scanned.{Scanned}
-use Rattle.frames.proofs.Choices.{by-pick}
+use Rattle.frames.proofs.Choices.{by-cond}
 use Rattle.frames.proofs.WalkLaws.{used-le}
 
 -- ---- which calls are refused with 9: none with room in the carry
@@ -33,8 +33,8 @@ unfolding reportOf
 report-taken (On g) u q = let z : _≡_ {A = ℕ} 0 1 = cc in omega arith
 report-taken (Closed n) u q =
     let P : Report → Type 0 = λ r. r ≡ Report.ShortCarry → ⊥ in
-    by-pick P (leb n textLimit)
-    (λ _. by-pick P (leb n (u - 2)) (λ _ e. let z : _≡_ {A = ℕ} 0 1 = cc in omega arith) (λ _ e. let z : _≡_ {A = ℕ} 0 1 = cc in omega arith))
+    by-cond P (leb n textLimit)
+    (λ _. by-cond P (leb n (u - 2)) (λ _ e. let z : _≡_ {A = ℕ} 0 1 = cc in omega arith) (λ _ e. let z : _≡_ {A = ℕ} 0 1 = cc in omega arith))
     (λ _ e. let z : _≡_ {A = ℕ} 0 1 = cc in omega arith) q
 report-taken (Abandoned n g) u q = let z : _≡_ {A = ℕ} 0 1 = cc in omega arith
 
@@ -63,7 +63,7 @@ pub by-call : (P : Outcome Scanned → Type 0) (f : Framing) (xs c : List ℕ)
     → (textLimit ≤ length c → P (takenOf f xs c))
     → P (scanOf f xs c)
 unfolding scanOf
-by-call P f xs c p q = by-pick P (ltb (length c) textLimit) (λ _. p) (λ e. q (ltb-false (length c) textLimit e))
+by-call P f xs c p q = by-cond P (ltb (length c) textLimit) (λ _. p) (λ e. q (ltb-false (length c) textLimit e))
 
 -- ---- how much is consumed
 pub consumed-le : (f : Framing) (xs c : List ℕ) → scanOf f xs c .answer .consumed ≤ length xs
@@ -90,8 +90,8 @@ report-some : (n u : ℕ) → reportOf (Closed n) u ≡ Report.Nothing → ⊥
 unfolding reportOf
 report-some n u =
     let P : Report → Type 0 = λ r. r ≡ Report.Nothing → ⊥ in
-    by-pick P (leb n textLimit)
-    (λ _. by-pick P (leb n (u - 2)) (λ _ e. let z : _≡_ {A = ℕ} 0 1 = cc in omega arith) (λ _ e. let z : _≡_ {A = ℕ} 0 1 = cc in omega arith))
+    by-cond P (leb n textLimit)
+    (λ _. by-cond P (leb n (u - 2)) (λ _ e. let z : _≡_ {A = ℕ} 0 1 = cc in omega arith) (λ _ e. let z : _≡_ {A = ℕ} 0 1 = cc in omega arith))
     (λ _ e. let z : _≡_ {A = ℕ} 0 1 = cc in omega arith)
 
 abbrev silent : Walked → Type 0

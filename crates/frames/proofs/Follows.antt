@@ -13,7 +13,7 @@ use Rattle.frames.specs.Follows.{Follows, consumedBy, toldBy, Calls}
 use Rattle.frames.specs.Claims.{TellsTheStream}
 use Rattle.frames.specs.declared.Framing.{Framing}
 use Rattle.frames.specs.declared.Framing.the-variants.{Plain, Text, TextEscape}
-use Rattle.frames.proofs.Choices.{by-pick}
+use Rattle.frames.proofs.Choices.{by-cond}
 use Rattle.frames.proofs.CallLaws.{by-call}
 use Rattle.frames.proofs.States.{State, stateAt, run, cap-cap}
 use Rattle.frames.proofs.Runs.{call-runs, calls-run}
@@ -33,8 +33,8 @@ fresh-follows c = record { framing = refl; text = refl }
 mode-capped : (m : Mode) → cappedOf (framingOf m) ≡ framingOf m
 mode-capped Mode.outside = refl
 mode-capped Mode.escape = refl
-mode-capped (Mode.inside t) = by-pick (λ (f : Framing). cappedOf f ≡ f) (mayBeCommand t) (λ _. cap-cap (Text (length t))) (λ _. refl)
-mode-capped (Mode.insideEscape t) = by-pick (λ (f : Framing). cappedOf f ≡ f) (isCommand t) (λ _. cap-cap (TextEscape (length t))) (λ _. refl)
+mode-capped (Mode.inside t) = by-cond (λ (f : Framing). cappedOf f ≡ f) (mayBeCommand t) (λ _. cap-cap (Text (length t))) (λ _. refl)
+mode-capped (Mode.insideEscape t) = by-cond (λ (f : Framing). cappedOf f ≡ f) (isCommand t) (λ _. cap-cap (TextEscape (length t))) (λ _. refl)
 
 call-capped : (f : Framing) (xs c : List ℕ) → cappedOf f ≡ f → cappedOf (scanOf f xs c .answer .framing) ≡ scanOf f xs c .answer .framing
 call-capped f xs c e = by-call (λ o. cappedOf (o .answer .framing) ≡ o .answer .framing) f xs c e (λ _. cap-cap (framingAfter (walkFrom (cappedOf f) 0 xs .event)))

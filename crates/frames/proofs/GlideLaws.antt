@@ -2,7 +2,7 @@
 use Prim.Native.Nat.{ℕ, suc, _+_, _-_, _≤_}
 use mathlib.Core.Path.{_≡_, refl, ap, sym, _∙_}
 use mathlib.Core.List.{List, [], _∷_}
-use mathlib.Core.Bool.{Bool, true, false}
+use mathlib.Core.Bool.{Bool, true, false, cond}
 use native.Mathlib.Nat.{add-zero}
 use native.Mathlib.Omega.{arith}
 use lib.ListN.{length, drop, length-drop}
@@ -10,14 +10,13 @@ use lib.Seq.{drop-drop}
 use lib.Dec.{ltb, eqb}
 use borrow.Author.Tests.{le-ltb, ltb-false}
 use Rattle.bytes.specs.Bytes.{indexOf, indexAfter}
-use Rattle.octets.specs.Choice.{pick}
 use Rattle.octets.proofs.Finds.{index-le}
 use Rattle.frames.specs.Framings.{count}
 use Rattle.frames.specs.Steps.{stepOf, walkFrom}
 use Rattle.frames.specs.Glides.{glideOf, passedOf}
 use Rattle.frames.specs.declared.Framing.{Framing}
 use Rattle.frames.specs.declared.Framing.the-variants.{Plain, Escape, Text, TextEscape}
-use Rattle.frames.proofs.Choices.{by-pick}
+use Rattle.frames.proofs.Choices.{by-cond}
 
 -- outside of texts they do nothing
 past-plain : (i : ℕ) (ys : List ℕ) → walkFrom Plain i ys ≡ walkFrom Plain (i + indexOf 0x1B ys) (drop (indexOf 0x1B ys) ys)
@@ -26,7 +25,7 @@ past-plain i [] = rw add-zero
 past-plain i (y ∷ ys) = by (eqb y 0x1B) refl (past-plain (i + 1) ys)
   where
     by : (t : Bool) → eqb y 0x1B ≡ t → walkFrom Plain (i + 1) ys ≡ walkFrom Plain ((i + 1) + indexOf 0x1B ys) (drop (indexOf 0x1B ys) ys)
-        → walkFrom (pick t Escape Plain) (i + 1) ys ≡ walkFrom Plain (i + indexAfter t (indexOf 0x1B ys)) (drop (indexAfter t (indexOf 0x1B ys)) (y ∷ ys))
+        → walkFrom (cond t Escape Plain) (i + 1) ys ≡ walkFrom Plain (i + indexAfter t (indexOf 0x1B ys)) (drop (indexAfter t (indexOf 0x1B ys)) (y ∷ ys))
     by true e ih = rw (add-zero, e)
     by false e ih =
         let a : (i + 1) + indexOf 0x1B ys ≡ i + suc (indexOf 0x1B ys) = omega arith in
@@ -41,7 +40,7 @@ past-text n i (y ∷ ys) h = rw (le-ltb n 5 h) (by (eqb y 0x1B) refl (past-text 
   where
     by : (t : Bool) → eqb y 0x1B ≡ t
         → walkFrom (Text (n + 1)) (i + 1) ys ≡ walkFrom (Text ((n + 1) + indexOf 0x1B ys)) ((i + 1) + indexOf 0x1B ys) (drop (indexOf 0x1B ys) ys)
-        → walkFrom (pick t (TextEscape n) (Text (n + 1))) (i + 1) ys
+        → walkFrom (cond t (TextEscape n) (Text (n + 1))) (i + 1) ys
         ≡ walkFrom (Text (n + indexAfter t (indexOf 0x1B ys))) (i + indexAfter t (indexOf 0x1B ys)) (drop (indexAfter t (indexOf 0x1B ys)) (y ∷ ys))
     by true e ih = rw (add-zero i, add-zero n) (rw (le-ltb n 5 h, e))
     by false e ih =
@@ -56,7 +55,7 @@ past (TextEscape n) i ys = rw add-zero
 past (Text n) i ys = by (ltb n 5) refl
   where
     by : (t : Bool) → ltb n 5 ≡ t
-        → walkFrom (Text n) i ys ≡ walkFrom (Text (n + pick t 0 (indexOf 0x1B ys))) (i + pick t 0 (indexOf 0x1B ys)) (drop (pick t 0 (indexOf 0x1B ys)) ys)
+        → walkFrom (Text n) i ys ≡ walkFrom (Text (n + cond t 0 (indexOf 0x1B ys))) (i + cond t 0 (indexOf 0x1B ys)) (drop (cond t 0 (indexOf 0x1B ys)) ys)
     by true e = rw (add-zero i, add-zero n)
     by false e = past-text n i ys (ltb-false n 5 e)
 
@@ -64,7 +63,7 @@ glide-le : (f : Framing) (ys : List ℕ) → glideOf f ys ≤ length ys
 glide-le Plain ys = index-le 0x1B ys
 glide-le Escape ys = omega arith
 glide-le (TextEscape n) ys = omega arith
-glide-le (Text n) ys = by-pick (λ (k : ℕ). k ≤ length ys) (ltb n 5) (λ _. omega arith) (λ _. index-le 0x1B ys)
+glide-le (Text n) ys = by-cond (λ (k : ℕ). k ≤ length ys) (ltb n 5) (λ _. omega arith) (λ _. index-le 0x1B ys)
 
 -- where they end
 pub glide-ends : (g : Framing) (i j : ℕ) (xs : List ℕ) → i ≤ length xs → j ≡ i + glideOf g (drop i xs) → (i ≤ j) × (j ≤ length xs)

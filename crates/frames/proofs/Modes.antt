@@ -2,14 +2,13 @@
 use Prim.Native.Nat.{ℕ, suc, _+_, _<_, _≤_}
 use mathlib.Core.Path.{_≡_, refl, ap, sym, _∙_}
 use mathlib.Core.List.{List, [], _∷_, _++_}
-use mathlib.Core.Bool.{Bool, true, false}
+use mathlib.Core.Bool.{Bool, true, false, cond, _&&_}
 use native.Mathlib.Numerals.{add-one}
 use native.Mathlib.Omega.{arith}
 use lib.ListN.{length, getD, take, length-append}
 use lib.Seq.{take-all}
 use lib.Dec.{ltb, leb, eqb}
 use borrow.Author.Tests.{ltb-true, ltb-false, le-leb, lt-leb, leb-true, leb-false, eqb-true, ne-eqb}
-use Rattle.octets.specs.Choice.{pick, both}
 use Rattle.octets.specs.Slices.{startsWith}
 use Rattle.octets.proofs.Compare.{starts-short}
 use Rattle.frames.specs.Stream.{Mode, Told, mark, isCommand, textLimit, closedTells, abandonedTells, afterEscape, readByte, stream}
@@ -17,7 +16,7 @@ use Rattle.frames.specs.Framings.{mayBeCommand, cap, cappedOf, framingOf
 use Rattle.frames.specs.Steps.{inText, stepOf}
 use Rattle.frames.specs.declared.Framing.the-variants.{Plain, Escape, Text, TextEscape}
 use Rattle.frames.specs.declared.step.Event.the-variants.{On, Closed, Abandoned}
-use Rattle.frames.proofs.Choices.{by-pick}
+use Rattle.frames.proofs.Choices.{by-cond}
 use Rattle.frames.proofs.WalkLaws.{by-escape}
 use Rattle.frames.proofs.TextLaws.{take-grows}
 use Rattle.frames.proofs.States.{State, state, cappedEvent, tell, runByte, run, cap-text}
@@ -25,14 +24,14 @@ use Rattle.frames.proofs.States.{State, state, cappedEvent, tell, runBy
 -- ---- a byte more of a text that may be a command
 -- while it is shorter than the mark: the byte must be the mark's
 starts-next : (t w : List ℕ) (b : ℕ) → length t < length w
-    → startsWith (t ++ (b ∷ [])) (take (suc (length t)) w) ≡ both (startsWith t (take (length t) w)) (eqb b (getD w (length t) 0))
+    → startsWith (t ++ (b ∷ [])) (take (suc (length t)) w) ≡ (startsWith t (take (length t) w) && eqb b (getD w (length t) 0))
 unfolding startsWith
 starts-next t [] b h = absurd (omega arith)
-starts-next [] (y ∷ w) b h = by-pick (λ (u : Bool). u ≡ eqb b y) (eqb b y) (λ e. sym e) (λ e. sym e)
+starts-next [] (y ∷ w) b h = by-cond (λ (u : Bool). u ≡ eqb b y) (eqb b y) (λ e. sym e) (λ e. sym e)
 starts-next (x ∷ t) (y ∷ w) b h = by (eqb x y) (starts-next t w b (omega arith))
   where
-    by : (u : Bool) → startsWith (t ++ (b ∷ [])) (take (suc (length t)) w) ≡ both (startsWith t (take (length t) w)) (eqb b (getD w (length t) 0))
-        → pick u (startsWith (t ++ (b ∷ [])) (take (suc (length t)) w)) false ≡ both (pick u (startsWith t (take (length t) w)) false) (eqb b (getD w (length t) 0))
+    by : (u : Bool) → startsWith (t ++ (b ∷ [])) (take (suc (length t)) w) ≡ (startsWith t (take (length t) w) && eqb b (getD w (length t) 0))
+        → cond u (startsWith (t ++ (b ∷ [])) (take (suc (length t)) w)) false ≡ (cond u (startsWith t (take (length t) w)) false && eqb b (getD w (length t) 0))
     by true ih = ih
     by false ih = refl
 
@@ -43,7 +42,7 @@ starts-more t [] b h = refl
 starts-more [] (y ∷ w) b h = absurd (omega arith)
 starts-more (x ∷ t) (y ∷ w) b h = rw (starts-more t w b (omega arith))
 
-may-next : (t : List ℕ) (b : ℕ) → length t < 5 → mayBeCommand (t ++ (b ∷ [])) ≡ both (mayBeCommand t) (eqb b (getD mark (length t) 0))
+may-next : (t : List ℕ) (b : ℕ) → length t < 5 → mayBeCommand (t ++ (b ∷ [])) ≡ (mayBeCommand t && eqb b (getD mark (length t) 0))
 unfolding mayBeCommand
 may-next t b h = rw (length-append, add-one) (starts-next t mark b h)
 
@@ -77,7 +76,7 @@ escape-state : (b : ℕ) → state (framingOf (afterEscape b)) [] ≡ stateOf (a
 unfolding mayBeCommand startsWith
 escape-state b =
     let Q : Mode → Type 0 = λ m. state (framingOf m) [] ≡ stateOf m in
-    by-pick Q (eqb b 0x5D) (λ _. refl) (λ _. by-pick Q (eqb b 0x1B) (λ _. refl) (λ _. refl))
+    by-cond Q (eqb b 0x5D) (λ _. refl) (λ _. by-cond Q (eqb b 0x1B) (λ _. refl) (λ _. refl))
 
 escape-byte : (b : ℕ) → Same (runByte (state Escape []) b) ([], afterEscape b)
 unfolding stepOf
@@ -98,15 +97,15 @@ unfolding readByte
 text-byte t b e = by (ltb (length t) 5) refl (eqb b 0x1B)
   where
     next : (v : Bool) → mayBeCommand (t ++ (b ∷ [])) ≡ v
-        → Same (tell (On (cappedOf (pick v (Text (length t + 1)) Plain))) (take textLimit t) b) ([], Mode.inside (t ++ (b ∷ [])))
+        → Same (tell (On (cappedOf (cond v (Text (length t + 1)) Plain))) (take textLimit t) b) ([], Mode.inside (t ++ (b ∷ [])))
     next true h = grown t b h
     next false h = rw h
 
     by : (q : Bool) → ltb (length t) 5 ≡ q → (u : Bool)
-        → Same (tell (On (cappedOf (pick q
-        (pick u Escape (pick (eqb b (getD mark (length t) 0)) (Text (length t + 1)) Plain))
-        (pick u (TextEscape (length t)) (Text (length t + 1)))))) (take textLimit t) b)
-        ([], pick u (Mode.insideEscape t) (Mode.inside (t ++ (b ∷ []))))
+        → Same (tell (On (cappedOf (cond q
+        (cond u Escape (cond (eqb b (getD mark (length t) 0)) (Text (length t + 1)) Plain))
+        (cond u (TextEscape (length t)) (Text (length t + 1)))))) (take textLimit t) b)
+        ([], cond u (Mode.insideEscape t) (Mode.inside (t ++ (b ∷ []))))
     by true q true = rw (starts-short t mark (ltb-true (length t) 5 q))
     by true q false = next (eqb b (getD mark (length t) 0)) (may-next t b (ltb-true (length t) 5 q) ∙ rw e)
     by false q true = rw (sym (may-long t (ltb-false (length t) 5 q)) ∙ e)
@@ -117,7 +116,7 @@ other-byte : (t : List ℕ) (b : ℕ) → mayBeCommand t ≡ false → Same (run
 unfolding readByte stepOf
 other-byte t b e = by (eqb b 0x1B)
   where
-    by : (u : Bool) → Same (tell (cappedEvent (On (pick u Escape Plain))) [] b) ([], pick u (Mode.insideEscape t) (Mode.inside (t ++ (b ∷ []))))
+    by : (u : Bool) → Same (tell (cappedEvent (On (cond u Escape Plain))) [] b) ([], cond u (Mode.insideEscape t) (Mode.inside (t ++ (b ∷ []))))
     by true = rw (may-not t b e .0)
     by false = rw (may-not t b e .1)
 
@@ -128,7 +127,7 @@ unfolding readByte stepOf
 ended-byte t b e = by (eqb b 0x5C)
   where
     told : (v : Bool) → leb (length t) textLimit ≡ v
-        → pick (leb (cap (cap (length t))) textLimit) (Told.command (take textLimit t)) Told.tooLong ≡ pick v (Told.command t) Told.tooLong
+        → cond (leb (cap (cap (length t))) textLimit) (Told.command (take textLimit t)) Told.tooLong ≡ cond v (Told.command t) Told.tooLong
     told true q =
         let h = leb-true (length t) textLimit q in
         rw (le-leb (cap (cap (length t))) textLimit (omega arith), take-all textLimit t h)
@@ -136,8 +135,8 @@ ended-byte t b e = by (eqb b 0x5C)
         let h = leb-false (length t) textLimit q in
         rw (lt-leb (cap (cap (length t))) textLimit (omega arith))
 
-    by : (u : Bool) → Same (tell (cappedEvent (pick u (Closed (cap (length t))) (Abandoned (cap (length t)) (framingOf (afterEscape b))))) (take textLimit t) b)
-        (pick u (closedTells t, Mode.outside) (abandonedTells t, afterEscape b))
+    by : (u : Bool) → Same (tell (cappedEvent (cond u (Closed (cap (length t))) (Abandoned (cap (length t)) (framingOf (afterEscape b))))) (take textLimit t) b)
+        (cond u (closedTells t, Mode.outside) (abandonedTells t, afterEscape b))
     by true = rw e (ap (λ (a : Told). (a ∷ [], state Plain [])) (told (leb (length t) textLimit) refl))
     by false = rw e (ap (λ (s : State). (Told.abandoned ∷ [], s)) (escape-state b))
 
@@ -146,7 +145,7 @@ other-ended : (t : List ℕ) (b : ℕ) → isCommand t ≡ false → readByte (M
 unfolding readByte
 other-ended t b e = by (eqb b 0x5C) refl
   where
-    by : (u : Bool) → eqb b 0x5C ≡ u → _≡_ {A = List Told × Mode} (pick u (closedTells t, Mode.outside) (abandonedTells t, afterEscape b)) ([], afterEscape b)
+    by : (u : Bool) → eqb b 0x5C ≡ u → _≡_ {A = List Told × Mode} (cond u (closedTells t, Mode.outside) (abandonedTells t, afterEscape b)) ([], afterEscape b)
     by true q = rw (e, eqb-true b 0x5C q)
     by false q = rw e
 
@@ -154,19 +153,19 @@ mode-byte : (m : Mode) (b : ℕ) → Same (runByte (stateOf m) b) (readByte m b)
 unfolding readByte stepOf
 mode-byte Mode.outside b = by (eqb b 0x1B)
   where
-    by : (u : Bool) → Same (tell (cappedEvent (On (pick u Escape Plain))) [] b) ([], pick u Mode.escape Mode.outside)
+    by : (u : Bool) → Same (tell (cappedEvent (On (cond u Escape Plain))) [] b) ([], cond u Mode.escape Mode.outside)
     by true = refl
     by false = refl
 mode-byte Mode.escape b = escape-byte b
 mode-byte (Mode.inside t) b = by (mayBeCommand t) refl
   where
-    by : (u : Bool) → mayBeCommand t ≡ u → Same (runByte (state (pick u (Text (cap (length t))) Plain) (pick u (take textLimit t) [])) b) (readByte (Mode.inside t) b)
+    by : (u : Bool) → mayBeCommand t ≡ u → Same (runByte (state (cond u (Text (cap (length t))) Plain) (cond u (take textLimit t) [])) b) (readByte (Mode.inside t) b)
     by true e = rw (cap-text (length t) b) (text-byte t b e)
     by false e = other-byte t b e
 mode-byte (Mode.insideEscape t) b = by (isCommand t) refl
   where
     by : (u : Bool) → isCommand t ≡ u
-        → Same (runByte (state (pick u (TextEscape (cap (length t))) Escape) (pick u (take textLimit t) [])) b) (readByte (Mode.insideEscape t) b)
+        → Same (runByte (state (cond u (TextEscape (cap (length t))) Escape) (cond u (take textLimit t) [])) b) (readByte (Mode.insideEscape t) b)
     by true e = ended-byte t b e
     by false e = escape-byte b ∙ rw (other-ended t b e)
 

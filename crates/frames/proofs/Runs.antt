@@ -2,14 +2,13 @@
 use Prim.Native.Nat.{ℕ, suc, _+_, _-_, _≤_, zero-le, min}
 use mathlib.Core.Path.{_≡_, refl, ap, sym, _∙_}
 use mathlib.Core.List.{List, [], _∷_, _++_, append-nil}
-use mathlib.Core.Bool.{Bool, true, false}
+use mathlib.Core.Bool.{Bool, true, false, cond}
 use native.Mathlib.Nat.{add-zero, zero-add, le-refl, sub-le}
 use native.Mathlib.Omega.{arith}
 use lib.ListN.{length, take, drop, length-append, length-take}
 use lib.Seq.{take-all, append-snoc}
 use lib.Dec.{ltb, leb, eqb}
 use borrow.Author.Tests.{le-leb, lt-leb, leb-true, leb-false, ne-eqb}
-use Rattle.octets.specs.Choice.{pick}
 use Rattle.octets.specs.Outcome.{Outcome}
 use Rattle.frames.specs.Stream.{Told, textLimit, afterEscape}
 use Rattle.frames.specs.Framings.{cap, cappedOf, count, framingOf}
@@ -25,7 +24,7 @@ use Rattle.frames.specs.declared.walk.Walked.{Walked}
 use Rattle.frames.specs.declared.carry.Held.{Held}
 use Rattle.frames.specs.declared.Report.{Report}
 use Rattle.frames.specs.declared.Scanned.{Scanned}
-use Rattle.frames.proofs.Choices.{by-pick}
+use Rattle.frames.proofs.Choices.{by-cond}
 use Rattle.frames.proofs.WalkLaws.{by-escape}
 use Rattle.frames.proofs.CallLaws.{by-call}
 use Rattle.frames.proofs.TextLaws.{text-more, text-grows, take-grows, carry-text, carry-length, start-text}
@@ -59,15 +58,15 @@ good-text-escape c p n b =
 
 good : (c p : List ℕ) (f : Framing) (b : ℕ) → Good c p f b (stepOf f b)
 unfolding stepOf
-good c p Plain b = by-pick (λ (g : Framing). Good c p Plain b (On g)) (eqb b 0x1B) (λ _. refl) (λ _. refl)
+good c p Plain b = by-cond (λ (g : Framing). Good c p Plain b (On g)) (eqb b 0x1B) (λ _. refl) (λ _. refl)
 good c p Escape b = good-escape c p Escape b
 good c p (Text n) b =
     let P : Framing → Type 0 = λ g. Good c p (Text n) b (On g) in
-    by-pick P (ltb n 5)
-    (λ _. by-pick P (eqb b 0x1B) (λ _. refl) (λ _. by-pick P (eqb b _) (λ _. good-text c p n b) (λ _. refl)))
-    (λ _. by-pick P (eqb b 0x1B) (λ _. good-text-escape c p n b) (λ _. good-text c p n b))
+    by-cond P (ltb n 5)
+    (λ _. by-cond P (eqb b 0x1B) (λ _. refl) (λ _. by-cond P (eqb b _) (λ _. good-text c p n b) (λ _. refl)))
+    (λ _. by-cond P (eqb b 0x1B) (λ _. good-text-escape c p n b) (λ _. good-text c p n b))
 good c p (TextEscape n) b =
-    by-pick (λ (e : Event). Good c p (TextEscape n) b e) (eqb b 0x5C) (λ _. refl)
+    by-cond (λ (e : Event). Good c p (TextEscape n) b e) (eqb b 0x5C) (λ _. refl)
     (λ _. by-escape (λ g. (cappedOf g ≡ g) × (count g ≡ 0)) b (refl, refl) (refl, refl) (refl, refl))
 
 -- ---- a walk
@@ -97,8 +96,8 @@ ends c p (TextEscape n) h = held-state c p (TextEscape (cap n)) (length p - 1) n
 
 -- it reports a command text, which comes from the piece or from the carry
 read-text : (c xs : List ℕ) (e n : ℕ) → e ≤ length xs → textLimit ≤ length c → n ≤ textLimit → (t : Bool) → leb n e ≡ t
-    → toldOf (pick t (Report.InPiece (e - n) n) (Report.InCarry n))
-    (textOf xs (carryOf c xs (pick t (heldAt 0 0) (heldAt e n) .end) (pick t (heldAt 0 0) (heldAt e n) .count)) (pick t (Report.InPiece (e - n) n) (Report.InCarry n)))
+    → toldOf (cond t (Report.InPiece (e - n) n) (Report.InCarry n))
+    (textOf xs (carryOf c xs (cond t (heldAt 0 0) (heldAt e n) .end) (cond t (heldAt 0 0) (heldAt e n) .count)) (cond t (Report.InPiece (e - n) n) (Report.InCarry n)))
     ≡ Told.command (take textLimit (textAt c xs e n)) ∷ []
 unfolding textOf
 read-text c xs e n l h k true o =
@@ -113,18 +112,18 @@ read-text c xs e n l h k false o =
 -- the call's last byte, after p, closes a text of n bytes
 closed-told : (c p q xs : List ℕ) (n : ℕ) → textLimit ≤ length c → p ++ q ≡ xs
     → toldBy (walkedCall (record { used = length p + 1; event = Closed n }) xs c) xs
-    ≡ pick (leb (cap n) textLimit) (Told.command (take textLimit (textAt c p (length p - 1) n))) Told.tooLong ∷ []
+    ≡ cond (leb (cap n) textLimit) (Told.command (take textLimit (textAt c p (length p - 1) n))) Told.tooLong ∷ []
 unfolding heldOf reportOf
 closed-told c p q xs n h x =
     let e : (length p + 1) - 2 ≡ length p - 1 = omega arith in
     let m : textAt c xs (length p - 1) n ≡ textAt c p (length p - 1) n = rw (← x) (text-more c p q (length p - 1) n (sub-le (length p) 1)) in
     let lx : length xs ≡ length p + length q = rw (← x) (length-append p q) in
     let end = length p - 1 in
-    let held : Held = pick (leb n end) (heldAt 0 0) (heldAt end n) in
+    let held : Held = cond (leb n end) (heldAt 0 0) (heldAt end n) in
     let P : Report → Type 0 = λ r. toldOf r (textOf xs (carryOf c xs (held .end) (held .count)) r)
-    ≡ pick (leb (cap n) textLimit) (Told.command (take textLimit (textAt c xs end n))) Told.tooLong ∷ [] in
+    ≡ cond (leb (cap n) textLimit) (Told.command (take textLimit (textAt c xs end n))) Told.tooLong ∷ [] in
     rw (e, ← m)
-    (by-pick P (leb n textLimit)
+    (by-cond P (leb n textLimit)
     (λ o. let k = leb-true n textLimit o in rw (le-leb (cap n) textLimit (omega arith)) (read-text c xs end n (omega arith) h k (leb n end) refl))
     (λ o. let k = leb-false n textLimit o in rw (lt-leb (cap n) textLimit (omega arith))))
 

@@ -3,12 +3,11 @@
 use Prim.Native.Nat.{ℕ, _+_}
 use mathlib.Core.Path.{_≡_, refl, ap}
 use mathlib.Core.List.{List, [], _∷_, _++_, append-assoc}
-use mathlib.Core.Bool.{Bool, true, false}
+use mathlib.Core.Bool.{Bool, true, false, cond}
 use native.Mathlib.Omega.{arith}
 use lib.ListN.{take}
 use lib.Dec.{ltb, leb, eqb}
 use borrow.Author.Tests.{le-ltb, ltb-true, ltb-false}
-use Rattle.octets.specs.Choice.{pick}
 use Rattle.frames.specs.Stream.{Told, textLimit, afterEscape}
 use Rattle.frames.specs.Framings.{cap, cappedOf, framingOf}
 use Rattle.frames.specs.Steps.{inText, stepOf}
@@ -39,12 +38,12 @@ cappedEvent (Abandoned n g) = Abandoned (cap n) g
 abbrev pub textOn : Framing → List ℕ → ℕ → List ℕ
 textOn Plain t b = []
 textOn Escape t b = []
-textOn (Text n) t b = pick (eqb n 0) [] (take textLimit (t ++ (b ∷ [])))
+textOn (Text n) t b = cond (eqb n 0) [] (take textLimit (t ++ (b ∷ [])))
 textOn (TextEscape n) t b = t
 
 abbrev pub tell : Event → List ℕ → ℕ → List Told × State
 tell (On g) t b = ([], state g (textOn g t b))
-tell (Closed n) t b = (pick (leb n textLimit) (Told.command t) Told.tooLong ∷ [], state Plain [])
+tell (Closed n) t b = (cond (leb n textLimit) (Told.command t) Told.tooLong ∷ [], state Plain [])
 tell (Abandoned n g) t b = (Told.abandoned ∷ [], state g [])
 
 abbrev pub runByte : State → ℕ → List Told × State
@@ -72,7 +71,7 @@ cap-cap (TextEscape n) = ap TextEscape (omega arith)
 pub cap-text : (n b : ℕ) → cappedOf (inText (cap n) b) ≡ cappedOf (inText n b)
 cap-text n b = by (ltb n 5) refl
   where
-    grown : (t : Bool) → cappedOf (pick t (TextEscape (cap n)) (Text (cap n + 1))) ≡ cappedOf (pick t (TextEscape n) (Text (n + 1)))
+    grown : (t : Bool) → cappedOf (cond t (TextEscape (cap n)) (Text (cap n + 1))) ≡ cappedOf (cond t (TextEscape n) (Text (n + 1)))
     grown true = ap TextEscape (omega arith)
     grown false = ap Text (omega arith)
 
@@ -85,7 +84,7 @@ cap-text n b = by (ltb n 5) refl
         let h = ltb-false n 5 e in
         rw (le-ltb (cap n) 5 (omega arith), e) (grown (eqb b 0x1B))
 
-cap-ended : (n : ℕ) (g : Framing) (t : Bool) → cappedEvent (pick t (Closed (cap n)) (Abandoned (cap n) g)) ≡ cappedEvent (pick t (Closed n) (Abandoned n g))
+cap-ended : (n : ℕ) (g : Framing) (t : Bool) → cappedEvent (cond t (Closed (cap n)) (Abandoned (cap n) g)) ≡ cappedEvent (cond t (Closed n) (Abandoned n g))
 cap-ended n g true = ap Closed (omega arith)
 cap-ended n g false = ap (λ (k : ℕ). Abandoned k g) (omega arith)
 

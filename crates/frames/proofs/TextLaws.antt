@@ -2,17 +2,16 @@
 use Prim.Native.Nat.{ℕ, _+_, _-_, _<_, _≤_, min}
 use mathlib.Core.Path.{_≡_, refl, _∙_}
 use mathlib.Core.List.{List, [], _∷_, _++_, append-nil, append-assoc}
-use mathlib.Core.Bool.{Bool, true, false}
+use mathlib.Core.Bool.{Bool, true, false, cond}
 use native.Mathlib.Nat.{le-refl, le-of-lt, sub-le, min-comm, sub-zero}
 use native.Mathlib.Omega.{arith}
 use lib.ListN.{length, take, drop, length-append, length-take, length-drop}
 use lib.Seq.{take-append-le, drop-append-le, take-all, take-at, take-take}
 use lib.Dec.{leb}
 use borrow.Author.Tests.{le-leb, lt-leb, leb-true, leb-false}
-use Rattle.octets.specs.Choice.{pick}
 use Rattle.frames.specs.Stream.{textLimit}
 use Rattle.frames.specs.Carry.{textAt, carryOf}
-use Rattle.frames.proofs.Choices.{by-pick}
+use Rattle.frames.proofs.Choices.{by-cond}
 use Rattle.frames.proofs.CarryLaws.{take-min}
 
 -- a text that ends within p is the same in a piece that begins with p
@@ -20,7 +19,7 @@ pub text-more : (c p q : List ℕ) (e n : ℕ) → e ≤ length p → textAt c (
 text-more c p q e n h = by (leb n e) refl
   where
     by : (t : Bool) → leb n e ≡ t
-        → pick t (take n (drop (e - n) (p ++ q))) (take (n - e) c ++ take e (p ++ q)) ≡ pick t (take n (drop (e - n) p)) (take (n - e) c ++ take e p)
+        → cond t (take n (drop (e - n) (p ++ q))) (take (n - e) c ++ take e (p ++ q)) ≡ cond t (take n (drop (e - n) p)) (take (n - e) c ++ take e p)
     by true k =
         let l : n ≤ length (drop (e - n) p) = simp length-drop (omega (arith, leb-true n e k)) in
         rw (drop-append-le (e - n) p q (omega arith), take-append-le n (drop (e - n) p) q l)
@@ -31,7 +30,7 @@ pub text-grows : (c p : List ℕ) (n b : ℕ) → textAt c (p ++ (b ∷ [])) (le
 text-grows c p n b = by (leb n (length p)) refl
   where
     by : (t : Bool) → leb n (length p) ≡ t
-        → textAt c (p ++ (b ∷ [])) (length p + 1) (n + 1) ≡ pick t (take n (drop (length p - n) p)) (take (n - length p) c ++ take (length p) p) ++ (b ∷ [])
+        → textAt c (p ++ (b ∷ [])) (length p + 1) (n + 1) ≡ cond t (take n (drop (length p - n) p)) (take (n - length p) c ++ take (length p) p) ++ (b ∷ [])
     by true k =
         let h : n ≤ length p = leb-true n (length p) k in
         let e : (length p + 1) - (n + 1) ≡ length p - n = omega arith in
@@ -58,7 +57,7 @@ take-grows k t b = by (leb (length t) k) refl
 -- it has as many bytes as were counted, up to 8,192
 pub text-length : (c p : List ℕ) (e n : ℕ) → e ≤ length p → textLimit ≤ length c → length (take textLimit (textAt c p e n)) ≡ min n textLimit
 text-length c p e n h k =
-    by-pick (λ (t : List ℕ). length (take textLimit t) ≡ min n textLimit) (leb n e)
+    by-cond (λ (t : List ℕ). length (take textLimit t) ≡ min n textLimit) (leb n e)
     (λ q. simp (length-take, length-drop) (omega (arith, leb-true n e q)))
     (λ q. simp (length-take, length-append) (omega (arith, leb-false n e q)))
 
@@ -79,6 +78,6 @@ carry-length c p e n h k =
 -- before the piece's first byte it is what the carry has
 pub start-text : (c : List ℕ) (n : ℕ) → take textLimit (textAt c [] 0 n) ≡ take (min n textLimit) c
 start-text c n =
-    by-pick (λ (t : List ℕ). take textLimit t ≡ take (min n textLimit) c) (leb n 0)
+    by-cond (λ (t : List ℕ). take textLimit t ≡ take (min n textLimit) c) (leb n 0)
     (λ e. let z : n ≡ 0 = omega (arith, leb-true n 0 e) in rw z)
     (λ e. rw (append-nil, sub-zero) (take-min textLimit n c ∙ rw (min-comm textLimit n)))

@@ -19,7 +19,7 @@ use Rattle.frames.specs.declared.step.Event.{Event}
 use Rattle.frames.specs.declared.step.Event.the-variants.{On, Closed, Abandoned}
 use Rattle.frames.specs.declared.walk.Walked.{Walked}
 use Rattle.frames.specs.declared.carry.Held.{Held}
-use Rattle.frames.proofs.Choices.{by-pick}
+use Rattle.frames.proofs.Choices.{by-cond}
 
 -- the walk from i on is what the event at i makes of the walk from i + 1 on
 pub turn : (f : Framing) (i : ℕ) (xs : List ℕ) (r : Event) → i < length xs → r ≡ stepOf f (getD xs i 0)
@@ -33,7 +33,7 @@ pub by-escape : (P : Framing → Type 0) (b : ℕ) → P (Text 0) → P Escape �
 unfolding mayBeCommand startsWith
 by-escape P b p q r =
     let Q : Mode → Type 0 = λ m. P (framingOf m) in
-    by-pick Q (eqb b 0x5D) (λ _. p) (λ _. by-pick Q (eqb b 0x1B) (λ _. q) (λ _. r))
+    by-cond Q (eqb b 0x5D) (λ _. p) (λ _. by-cond Q (eqb b 0x1B) (λ _. q) (λ _. r))
 
 escape-count : (b n : ℕ) → count (framingOf (afterEscape b)) ≤ n
 escape-count b n = by-escape (λ g. count g ≤ n) b (omega arith) (omega arith) (omega arith)
@@ -41,15 +41,15 @@ escape-count b n = by-escape (λ g. count g ≤ n) b (omega arith) (omega arith)
 -- a byte adds at most one to the count
 grows : (f : Framing) (b : ℕ) → count (framingAfter (stepOf f b)) ≤ count f + 1
 unfolding stepOf
-grows Plain b = by-pick (λ (g : Framing). count g ≤ 0 + 1) (eqb b 0x1B) (λ _. omega arith) (λ _. omega arith)
+grows Plain b = by-cond (λ (g : Framing). count g ≤ 0 + 1) (eqb b 0x1B) (λ _. omega arith) (λ _. omega arith)
 grows Escape b = escape-count b (0 + 1)
 grows (Text n) b =
     let P : Framing → Type 0 = λ g. count g ≤ n + 1 in
-    by-pick P (ltb n 5)
-    (λ _. by-pick P (eqb b 0x1B) (λ _. omega arith) (λ _. by-pick P (eqb b (getD mark n 0)) (λ _. omega arith) (λ _. omega arith)))
-    (λ _. by-pick P (eqb b 0x1B) (λ _. omega arith) (λ _. omega arith))
+    by-cond P (ltb n 5)
+    (λ _. by-cond P (eqb b 0x1B) (λ _. omega arith) (λ _. by-cond P (eqb b (getD mark n 0)) (λ _. omega arith) (λ _. omega arith)))
+    (λ _. by-cond P (eqb b 0x1B) (λ _. omega arith) (λ _. omega arith))
 grows (TextEscape n) b =
-    by-pick (λ (e : Event). count (framingAfter e) ≤ n + 1) (eqb b 0x5C) (λ _. omega arith) (λ _. escape-count b (n + 1))
+    by-cond (λ (e : Event). count (framingAfter e) ≤ n + 1) (eqb b 0x5C) (λ _. omega arith) (λ _. escape-count b (n + 1))
 
 pub grows-on : (f : Framing) (b : ℕ) (r : Event) (g : Framing) → r ≡ stepOf f b → r ≡ On g → count g ≤ count f + 1
 grows-on f b r g p q = rw (sym p ∙ q) at (grows f b)
@@ -73,7 +73,7 @@ used-le f i (b ∷ xs) = after-used (stepOf f b) (i + 1) (i + suc (length xs)) _
 
 -- what is held ends within them
 reported-end : (u n : ℕ) → reportedAt u n .end ≤ u
-reported-end u n = by-pick (λ (h : Held). h .end ≤ u) (leb n (u - 2)) (λ _. omega arith) (λ _. omega arith)
+reported-end u n = by-cond (λ (h : Held). h .end ≤ u) (leb n (u - 2)) (λ _. omega arith) (λ _. omega arith)
 
 held-end : (e : Event) (u : ℕ) → heldOf e u .end ≤ u
 unfolding heldOf

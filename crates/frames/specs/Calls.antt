@@ -1,9 +1,9 @@
 -- One call on a piece with a carry: its answer and the carry afterwards; and the text of its report.
+use mathlib.Core.Bool.{cond}
 use Prim.Native.Nat.{ℕ, _+_, _-_}
 use mathlib.Core.List.{List, []}
 use lib.ListN.{length, take, drop}
 use lib.Dec.{ltb, leb}
-use Rattle.octets.specs.Choice.{pick}
 use Rattle.octets.specs.Outcome.{Outcome, outcome}
 use Rattle.frames.specs.Stream.{textLimit}
 use Rattle.frames.specs.Framings.{cappedOf}
@@ -28,12 +28,12 @@ refusalNumber Report.ShortCarry = 9
 -- the place of a command text of n bytes that is closed at byte u: "a part of the piece if its text and its closer lie wholly in
 -- that piece, otherwise .. a part of the carry"
 abbrev pub placeOf : ℕ → ℕ → Report
-placeOf u n = pick (leb n (endOf u)) (Report.InPiece (endOf u - n) n) (Report.InCarry n)
+placeOf u n = cond (leb n (endOf u)) (Report.InPiece (endOf u - n) n) (Report.InCarry n)
 
 -- what is reported at byte u
 unfoldable pub reportOf : Event → ℕ → Report
 reportOf (On g) u = Report.Nothing
-reportOf (Closed n) u = pick (leb n textLimit) (placeOf u n) Report.TooLong
+reportOf (Closed n) u = cond (leb n textLimit) (placeOf u n) Report.TooLong
 reportOf (Abandoned n g) u = Report.Abandoned
 
 -- the answer for a walk
@@ -52,13 +52,13 @@ takenOf f xs c = walkedCall (walkFrom (cappedOf f) 0 xs) xs c
 -- one call on the piece xs with the carry c. Refusal 9: "nothing consumed, all memory as before".
 unfoldable pub scanOf : Framing → List ℕ → List ℕ → Outcome Scanned
 scanOf f xs c =
-    pick (ltb (length c) textLimit)
+    cond (ltb (length c) textLimit)
     (outcome (record { consumed = 0; framing = f; report = Report.ShortCarry }) c)
     (takenOf f xs c)
 
 -- the n bytes from place `start` on; "where the report's place passes the end of that buffer, it is empty"
 abbrev pub partOf : List ℕ → ℕ → ℕ → List ℕ
-partOf s start n = pick (leb (start + n) (length s)) (take n (drop start s)) []
+partOf s start n = cond (leb (start + n) (length s)) (take n (drop start s)) []
 
 -- the text of a report, given the piece xs and the carry c of its call
 unfoldable pub textOf : List ℕ → List ℕ → Report → List ℕ

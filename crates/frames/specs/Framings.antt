@@ -1,9 +1,8 @@
 -- What is kept of a mode between two bytes: a count in place of the text, and of the text its first bytes.
 use Prim.Native.Nat.{ℕ, _+_, min}
-use mathlib.Core.Bool.{Bool}
+use mathlib.Core.Bool.{Bool, cond}
 use mathlib.Core.List.{List, []}
 use lib.ListN.{length, take}
-use Rattle.octets.specs.Choice.{pick}
 use Rattle.octets.specs.Slices.{startsWith}
 use Rattle.frames.specs.Stream.{Mode, textLimit, mark, isCommand}
 use Rattle.frames.specs.declared.Framing.{Framing}
@@ -36,12 +35,12 @@ count (TextEscape n) = n
 abbrev pub framingOf : Mode → Framing
 framingOf Mode.outside = Plain
 framingOf Mode.escape = Escape
-framingOf (Mode.inside t) = pick (mayBeCommand t) (Text (cap (length t))) Plain
-framingOf (Mode.insideEscape t) = pick (isCommand t) (TextEscape (cap (length t))) Escape
+framingOf (Mode.inside t) = cond (mayBeCommand t) (Text (cap (length t))) Plain
+framingOf (Mode.insideEscape t) = cond (isCommand t) (TextEscape (cap (length t))) Escape
 
 -- what the carry keeps of a mode's text: its first 8,192 bytes, and of a text known not to be a command nothing
 abbrev pub keptOf : Mode → List ℕ
 keptOf Mode.outside = []
 keptOf Mode.escape = []
-keptOf (Mode.inside t) = pick (mayBeCommand t) (take textLimit t) []
-keptOf (Mode.insideEscape t) = pick (isCommand t) (take textLimit t) []
+keptOf (Mode.inside t) = cond (mayBeCommand t) (take textLimit t) []
+keptOf (Mode.insideEscape t) = cond (isCommand t) (take textLimit t) []

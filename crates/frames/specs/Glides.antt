@@ -1,10 +1,10 @@
 -- Bytes that change nothing but a count. No part of what a call answers: how it is answered fast.
+use mathlib.Core.Bool.{cond}
 use Prim.Native.Nat.{ℕ, _+_}
 use mathlib.Core.List.{List}
 use lib.ListN.{length}
 use lib.Dec.{ltb}
 use Rattle.bytes.specs.Bytes.{indexOf}
-use Rattle.octets.specs.Choice.{pick}
 use Rattle.frames.specs.Stream.{mark}
 use Rattle.frames.specs.declared.Framing.{Framing}
 use Rattle.frames.specs.declared.Framing.the-variants.{Plain, Escape, Text, TextEscape}
@@ -13,7 +13,7 @@ use Rattle.frames.specs.declared.Framing.the-variants.{Plain, Escape, Te
 abbrev pub glideOf : Framing → List ℕ → ℕ
 glideOf Plain ys = indexOf 0x1B ys
 glideOf Escape ys = 0
-glideOf (Text n) ys = pick (ltb n (length mark)) 0 (indexOf 0x1B ys)
+glideOf (Text n) ys = cond (ltb n (length mark)) 0 (indexOf 0x1B ys)
 glideOf (TextEscape n) ys = 0
 
 -- the framing after k of them

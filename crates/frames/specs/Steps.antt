@@ -1,9 +1,9 @@
 -- What one byte does to a framing, and what a piece does up to the first thing to report.
+use mathlib.Core.Bool.{cond}
 use Prim.Native.Nat.{ℕ, _+_, _-_}
 use mathlib.Core.List.{List, [], _∷_}
 use lib.ListN.{length, getD}
 use lib.Dec.{ltb, eqb}
-use Rattle.octets.specs.Choice.{pick}
 use Rattle.frames.specs.Stream.{mark, afterEscape}
 use Rattle.frames.specs.Framings.{framingOf}
 use Rattle.frames.specs.declared.Framing.{Framing}
@@ -15,16 +15,16 @@ use Rattle.frames.specs.declared.walk.Walked.{Walked}
 -- the byte after n bytes of a text that may be a command: one of its first five must be that of `5113;`
 abbrev pub inText : ℕ → ℕ → Framing
 inText n b =
-    pick (ltb n (length mark))
-    (pick (eqb b 0x1B) Escape (pick (eqb b (getD mark n 0)) (Text (n + 1)) Plain))
-    (pick (eqb b 0x1B) (TextEscape n) (Text (n + 1)))
+    cond (ltb n (length mark))
+    (cond (eqb b 0x1B) Escape (cond (eqb b (getD mark n 0)) (Text (n + 1)) Plain))
+    (cond (eqb b 0x1B) (TextEscape n) (Text (n + 1)))
 
 -- one byte: the framing goes on, or a command text of n bytes closes or is abandoned
 unfoldable pub stepOf : Framing → ℕ → Event
-stepOf Plain b = On (pick (eqb b 0x1B) Escape Plain)
+stepOf Plain b = On (cond (eqb b 0x1B) Escape Plain)
 stepOf Escape b = On (framingOf (afterEscape b))
 stepOf (Text n) b = On (inText n b)
-stepOf (TextEscape n) b = pick (eqb b 0x5C) (Closed n) (Abandoned n (framingOf (afterEscape b)))
+stepOf (TextEscape n) b = cond (eqb b 0x5C) (Closed n) (Abandoned n (framingOf (afterEscape b)))
 
 -- the framing after an event
 abbrev pub framingAfter : Event → Framing

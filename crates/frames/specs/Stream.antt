@@ -1,10 +1,9 @@
 -- The frames of document 01 over a stream of bytes, read one after another: no pieces, no counts, no buffers.
 use Prim.Native.Nat.{ℕ}
-use mathlib.Core.Bool.{Bool}
+use mathlib.Core.Bool.{Bool, cond}
 use mathlib.Core.List.{List, [], _∷_, _++_}
 use lib.ListN.{length}
 use lib.Dec.{leb, eqb}
-use Rattle.octets.specs.Choice.{pick}
 use Rattle.octets.specs.Ascii.{ascii}
 use Rattle.octets.specs.Slices.{startsWith}
 
@@ -34,22 +33,22 @@ textLimit = 8192
 
 -- what a closed text tells: itself, or refusal 1 where it is too long. "other texts pass silently, whatever their length or end"
 abbrev pub closedTells : List ℕ → List Told
-closedTells t = pick (isCommand t) (pick (leb (length t) textLimit) (Told.command t) Told.tooLong ∷ []) []
+closedTells t = cond (isCommand t) (cond (leb (length t) textLimit) (Told.command t) Told.tooLong ∷ []) []
 
 -- what an abandoned text tells: refusal 2
 abbrev pub abandonedTells : List ℕ → List Told
-abandonedTells t = pick (isCommand t) (Told.abandoned ∷ []) []
+abandonedTells t = cond (isCommand t) (Told.abandoned ∷ []) []
 
 -- the byte after a 1B: "5D opens a new text, 1B waits again, any other byte returns to plain"
 abbrev pub afterEscape : ℕ → Mode
-afterEscape b = pick (eqb b 0x5D) (Mode.inside []) (pick (eqb b 0x1B) Mode.escape Mode.outside)
+afterEscape b = cond (eqb b 0x5D) (Mode.inside []) (cond (eqb b 0x1B) Mode.escape Mode.outside)
 
 -- one byte: what it tells, and the mode after it. 1B 5C closes a text; a 1B "followed by anything but 5C abandons that text".
 unfoldable pub readByte : Mode → ℕ → List Told × Mode
-readByte Mode.outside b = ([], pick (eqb b 0x1B) Mode.escape Mode.outside)
+readByte Mode.outside b = ([], cond (eqb b 0x1B) Mode.escape Mode.outside)
 readByte Mode.escape b = ([], afterEscape b)
-readByte (Mode.inside t) b = ([], pick (eqb b 0x1B) (Mode.insideEscape t) (Mode.inside (t ++ (b ∷ []))))
-readByte (Mode.insideEscape t) b = pick (eqb b 0x5C) (closedTells t, Mode.outside) (abandonedTells t, afterEscape b)
+readByte (Mode.inside t) b = ([], cond (eqb b 0x1B) (Mode.insideEscape t) (Mode.inside (t ++ (b ∷ []))))
+readByte (Mode.insideEscape t) b = cond (eqb b 0x5C) (closedTells t, Mode.outside) (abandonedTells t, afterEscape b)
 
 -- what is told before, and then a reading of what follows
 abbrev pub andThen : List Told → List Told × Mode → List Told × Mode

@@ -1,18 +1,17 @@
 -- Laws of `equals` and `startsWith`: what they decide, and how a loop takes them one byte at a time.
 use Prim.Native.Nat.{ℕ, _+_, _≤_, _<_}
 use mathlib.Core.Path.{_≡_, refl, sym, _∙_, ap}
-use mathlib.Core.Bool.{Bool, true, false}
+use mathlib.Core.Bool.{Bool, true, false, cond}
 use mathlib.Core.List.{List, [], _∷_, _++_}
 use native.Mathlib.Omega.{arith}
 use lib.ListN.{length, getD, drop}
 use lib.Dec.{eqb}
 use borrow.Author.Tests.{eq-eqb, eqb-true}
-use Rattle.octets.specs.Choice.{pick}
 use Rattle.octets.specs.Slices.{equals, startsWith}
 use Rattle.octets.proofs.Lists.{drop-at, drop-end}
 
 -- a choice that leaves false holds only where its test does
-pub pick-test : (t u : Bool) → pick t u false ≡ true → (t ≡ true) × (u ≡ true)
+pub pick-test : (t u : Bool) → cond t u false ≡ true → (t ≡ true) × (u ≡ true)
 pick-test true u e = (refl, e)
 pick-test false u e = let z : _≡_ {A = ℕ} 0 1 = cc in absurd (omega arith)
 
@@ -66,12 +65,12 @@ starts-short s [] l = absurd (omega arith)
 starts-short [] (y ∷ p) l = refl
 starts-short (x ∷ s) (y ∷ p) l = go (eqb x y) (starts-short s p (omega arith))
   where
-    go : (t : Bool) → startsWith s p ≡ false → pick t (startsWith s p) false ≡ false
+    go : (t : Bool) → startsWith s p ≡ false → cond t (startsWith s p) false ≡ false
     go true e = e
     go false e = refl
 
 pub starts-at : (s p : List ℕ) (i : ℕ) → i < length s → i < length p
-    → startsWith (drop i s) (drop i p) ≡ pick (eqb (getD s i 0) (getD p i 0)) (startsWith (drop (i + 1) s) (drop (i + 1) p)) false
+    → startsWith (drop i s) (drop i p) ≡ cond (eqb (getD s i 0) (getD p i 0)) (startsWith (drop (i + 1) s) (drop (i + 1) p)) false
 unfolding startsWith
 starts-at s p i h k = rw (drop-at s i h, drop-at p i k)
 

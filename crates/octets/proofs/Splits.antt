@@ -1,7 +1,7 @@
 -- Laws of `split` and `join`: each undoes the other, and a reader meets the parts one after another.
 use Prim.Native.Nat.{ℕ, suc, _+_, _≤_, _<_}
 use mathlib.Core.Path.{_≡_, refl, sym, _∙_, ap}
-use mathlib.Core.Bool.{Bool, true, false}
+use mathlib.Core.Bool.{Bool, true, false, cond}
 use mathlib.Core.List.{List, [], _∷_, _++_}
 use native.Mathlib.Omega.{arith}
 use native.Mathlib.Numerals.{add-one}
@@ -9,7 +9,7 @@ use lib.ListN.{length, take, drop}
 use lib.Dec.{eqb}
 use borrow.Author.Tests.{eq-eqb, ne-eqb, eqb-true, eqb-false}
 use Rattle.bytes.specs.Bytes.{indexOf, indexAfter}
-use Rattle.octets.specs.Choice.{pick, every}
+use Rattle.octets.specs.Members.{every}
 use Rattle.octets.specs.Slices.{lacks}
 use Rattle.octets.specs.Split.{onto, split, join}
 use Rattle.octets.specs.Claims.{Divides}
@@ -26,7 +26,7 @@ split-at b (c ∷ r) h = go (eqb c b) h (split-at b r)
   where
     go : (u : Bool) → indexAfter u (indexOf b r) < suc (length r)
         → (indexOf b r < length r → split b r ≡ take (indexOf b r) r ∷ split b (drop (indexOf b r + 1) r))
-        → pick u ([] ∷ split b r) (onto c (split b r))
+        → cond u ([] ∷ split b r) (onto c (split b r))
         ≡ take (indexAfter u (indexOf b r)) (c ∷ r) ∷ split b (drop (indexAfter u (indexOf b r) + 1) (c ∷ r))
     go true l ih = refl
     go false l ih = unfold onto in rw (ih (omega arith)) (simp add-one)
@@ -38,7 +38,7 @@ split-end b [] h = refl
 split-end b (c ∷ r) h = go (eqb c b) h (split-end b r)
   where
     go : (u : Bool) → indexAfter u (indexOf b r) ≡ suc (length r) → (indexOf b r ≡ length r → split b r ≡ r ∷ [])
-        → pick u ([] ∷ split b r) (onto c (split b r)) ≡ (c ∷ r) ∷ []
+        → cond u ([] ∷ split b r) (onto c (split b r)) ≡ (c ∷ r) ∷ []
     go true l ih = absurd (omega arith)
     go false l ih = unfold onto in rw (ih (omega arith))
 
@@ -54,7 +54,7 @@ unfolding split
 join-more b c [] = unfold join in refl
 join-more b c (x ∷ r) = go (eqb x b) (split b r)
   where
-    go : (u : Bool) (ps : List (List ℕ)) → join b ([] ∷ pick u ([] ∷ ps) (onto x ps)) ≡ b ∷ join b (pick u ([] ∷ ps) (onto x ps))
+    go : (u : Bool) (ps : List (List ℕ)) → join b ([] ∷ cond u ([] ∷ ps) (onto x ps)) ≡ b ∷ join b (cond u ([] ∷ ps) (onto x ps))
     go true ps = unfold join in refl
     go false [] = unfold join onto in refl
     go false (p ∷ ps) = unfold join onto in refl
@@ -64,7 +64,7 @@ unfolding split
 join-split b [] = unfold join in refl
 join-split b (c ∷ r) = go (eqb c b) refl (join-split b r)
   where
-    go : (u : Bool) → eqb c b ≡ u → join b (split b r) ≡ r → join b (pick u ([] ∷ split b r) (onto c (split b r))) ≡ c ∷ r
+    go : (u : Bool) → eqb c b ≡ u → join b (split b r) ≡ r → join b (cond u ([] ∷ split b r) (onto c (split b r))) ≡ c ∷ r
     go true e ih = join-more b c r ∙ rw (eqb-true c b e, ih)
     go false e ih = join-onto b c (split b r) ∙ rw ih
 
@@ -98,7 +98,7 @@ lacks-free : (b : ℕ) (t : List ℕ) → lacks b t ≡ true → Free b t
 lacks-free b [] h = tt
 lacks-free b (c ∷ r) h = go (eqb c b) refl (sym (lacks-cons b c r) ∙ h) (lacks-free b r)
   where
-    go : (u : Bool) → eqb c b ≡ u → pick u false (lacks b r) ≡ true → (lacks b r ≡ true → Free b r) → Free b (c ∷ r)
+    go : (u : Bool) → eqb c b ≡ u → cond u false (lacks b r) ≡ true → (lacks b r ≡ true → Free b r) → Free b (c ∷ r)
     go true e q ih = let z : _≡_ {A = ℕ} 0 1 = cc in absurd (omega arith)
     go false e q ih = (eqb-false c b e, ih q)
 

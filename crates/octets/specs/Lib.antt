@@ -1,4 +1,4 @@
-pub mod Choice
+pub mod Members
 pub mod Ascii
 pub mod Bytes
 pub mod Outcome

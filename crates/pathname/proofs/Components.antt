@@ -1,7 +1,7 @@
 -- Components, as a loop takes them one after another.
 use Prim.Native.Nat.{ℕ, _+_, _-_, _≤_, _<_}
 use mathlib.Core.Path.{_≡_}
-use mathlib.Core.Bool.{Bool, true}
+use mathlib.Core.Bool.{Bool, true, cond, _&&_}
 use mathlib.Core.List.{List}
 use native.Mathlib.Omega.{arith}
 use native.Mathlib.Nat.{add-assoc}
@@ -11,7 +11,7 @@ use lib.Seq.{drop-drop, take-all}
 use lib.Dec.{leb}
 use borrow.Author.Tests.{le-leb, lt-leb}
 use Rattle.bytes.specs.Bytes.{indexOf}
-use Rattle.octets.specs.Choice.{pick, both, every}
+use Rattle.octets.specs.Members.{every}
 use Rattle.octets.specs.Split.{split}
 use Rattle.octets.proofs.Finds.{index-le}
 use Rattle.octets.proofs.Splits.{split-at, split-end}
@@ -19,18 +19,18 @@ use Rattle.pathname.specs.Name.{validComponent}
 
 -- whether the components from a place on are good; past the end there are none
 abbrev pub restValid : List ℕ → ℕ → Bool
-restValid n at = pick (leb at (length n)) (every validComponent (split 47 (drop at n))) true
+restValid n at = cond (leb at (length n)) (every validComponent (split 47 (drop at n))) true
 
 -- the one up to the next slash, or the end, is good and those after it are
 pub rest-at : (n : List ℕ) (at end : ℕ) → at ≤ length n → end ≡ at + indexOf 47 (drop at n)
-    → restValid n at ≡ both (validComponent (take (end - at) (drop at n))) (restValid n (end + 1))
+    → restValid n at ≡ ((validComponent (take (end - at) (drop at n))) && (restValid n (end + 1)))
 unfolding every
 rest-at n at end h q =
     let d : end - at ≡ indexOf 47 (drop at n) = omega arith in
     rw (d, q) (go (decLt (indexOf 47 (drop at n)) (length (drop at n))))
   where
     go : Dec (indexOf 47 (drop at n) < length (drop at n))
-        → restValid n at ≡ both (validComponent (take (indexOf 47 (drop at n)) (drop at n))) (restValid n (at + indexOf 47 (drop at n) + 1))
+        → restValid n at ≡ (validComponent (take (indexOf 47 (drop at n)) (drop at n)) && (restValid n (at + indexOf 47 (drop at n) + 1)))
     go (yes l) =
         rw (le-leb at (length n) h, le-leb (at + indexOf 47 (drop at n) + 1) (length n) (omega (arith, length-drop at n)))
         (rw (split-at 47 (drop at n) l, drop-drop, add-assoc))

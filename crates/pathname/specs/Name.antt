@@ -1,11 +1,11 @@
 -- "Name: 1 to 4,096 bytes, UTF-8, no zero byte, begins with `/` or `~/`, each component (between slashes, may be empty)
 -- at most 255 bytes and not `..`."
 use Prim.Native.Nat.{ℕ}
-use mathlib.Core.Bool.{Bool, not}
+use mathlib.Core.Bool.{Bool, not, _&&_, _||_}
 use mathlib.Core.List.{List}
 use lib.ListN.{length}
 use lib.Dec.{leb}
-use Rattle.octets.specs.Choice.{both, either, every}
+use Rattle.octets.specs.Members.{every}
 use Rattle.octets.specs.Ascii.{ascii}
 use Rattle.octets.specs.Slices.{equals, startsWith, lacks}
 use Rattle.octets.specs.Split.{split}
@@ -21,11 +21,11 @@ componentLimit = 255
 
 -- "begins with `/` or `~/`"
 unfoldable pub rooted : List ℕ → Bool
-rooted n = either (startsWith n (ascii "/")) (startsWith n (ascii "~/"))
+rooted n = startsWith n (ascii "/") || startsWith n (ascii "~/")
 
 -- "at most 255 bytes and not `..`"
 unfoldable pub validComponent : List ℕ → Bool
-validComponent c = both (leb (length c) componentLimit) (not (equals c (ascii "..")))
+validComponent c = leb (length c) componentLimit && not (equals c (ascii ".."))
 
 -- "each component (between slashes, may be empty)"
 unfoldable pub validComponents : List ℕ → Bool
@@ -33,9 +33,9 @@ validComponents n = every validComponent (split 47 n)
 
 unfoldable pub validName : List ℕ → Bool
 validName n =
-    both (leb 1 (length n))
-    (both (leb (length n) nameLimit)
-    (both (utf8 n)
-    (both (lacks 0 n)
-    (both (rooted n)
-    (validComponents n)))))
+    leb 1 (length n) &&
+    (leb (length n) nameLimit &&
+    (utf8 n &&
+    (lacks 0 n &&
+    (rooted n &&
+    validComponents n))))

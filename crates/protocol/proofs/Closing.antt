@@ -2,7 +2,7 @@
 -- closes its file.
 use Prim.Native.Nat.{ℕ, _≤_, _<_}
 use mathlib.Core.Path.{_≡_, refl, sym, ap, _∙_}
-use mathlib.Core.Bool.{Bool, true, false}
+use mathlib.Core.Bool.{Bool, true, false, _&&_}
 use mathlib.Core.Logic.{_⊎_, inl, inr}
 use mathlib.Core.List.{List, _∷_, append-nil}
 use native.Mathlib.Omega.{arith}
@@ -10,7 +10,6 @@ use lib.ListN.{length, getD, set}
 use lib.Seq.{getD-set-same}
 use borrow.Author.Tests.{le-ltb, eqb-true, eq-eqb}
 use lib.Dec.{eqb}
-use Rattle.octets.specs.Choice.{both}
 use Rattle.octets.specs.Slices.{equals}
 use Rattle.octets.proofs.Below.{both-test}
 use Rattle.octets.proofs.Compare.{equals-refl, equals-sound}
@@ -72,10 +71,10 @@ not-done e = let z : _≡_ {A = ℕ} 0 1 = cc in omega arith
 done-as : (k : Key) (c quiet : ℕ) (s : Session) (f : FileRecord) → isDoneAs k c quiet s f ≡ true
     → (k ≡ keyOf s f) × (c ≡ f .count) × (quiet ≡ s .quiet)
 done-as k c quiet s f e =
-    let ids : Bool = both (equals (fileIdOf f) (k .file)) (both (eqb (f .count) c) (eqb (s .quiet) quiet)) in
-    let a = both-test (isDone (f .state)) (both (equals (idOf s) (k .id)) ids) e in
+    let ids : Bool = (equals (fileIdOf f) (k .file) && (eqb (f .count) c && eqb (s .quiet) quiet)) in
+    let a = both-test (isDone (f .state)) (equals (idOf s) (k .id) && ids) e in
     let b = both-test (equals (idOf s) (k .id)) ids (a .1) in
-    let d = both-test (equals (fileIdOf f) (k .file)) (both (eqb (f .count) c) (eqb (s .quiet) quiet)) (b .1) in
+    let d = both-test (equals (fileIdOf f) (k .file)) (eqb (f .count) c && eqb (s .quiet) quiet) (b .1) in
     let g = both-test (eqb (f .count) c) (eqb (s .quiet) quiet) (d .1) in
     let id : idOf s ≡ k .id = equals-sound _ _ (b .0) in
     let file : fileIdOf f ≡ k .file = equals-sound _ _ (d .0) in

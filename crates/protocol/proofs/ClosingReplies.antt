@@ -1,14 +1,14 @@
 -- The reply to a closing: what the reply buffer holds afterwards reads back as OK with the count, unless quiet holds it back.
 use Prim.Native.Nat.{ℕ, _+_, _≤_}
 use mathlib.Core.Path.{_≡_, refl}
-use mathlib.Core.Bool.{Bool, true, false}
+use mathlib.Core.Bool.{Bool, true, false, _||_}
 use mathlib.Core.List.{List, []}
 use native.Mathlib.Omega.{arith}
 use lib.ListN.{length}
 use lib.Seq.{sets}
 use lib.Dec.{leb}
 use borrow.Author.Tests.{le-leb}
-use Rattle.octets.specs.Choice.{either, every}
+use Rattle.octets.specs.Members.{every}
 use Rattle.octets.specs.Ascii.{ascii}
 use Rattle.octets.specs.Outcome.{outcome}
 use Rattle.octets.proofs.Compare.{equals-refl}
@@ -43,7 +43,7 @@ ReplyLaw =
 held-quiet : (quiet : ℕ) → 1 ≤ quiet → isHeld Status.Ok quiet ≡ true
 held-quiet quiet h = rw (le-leb 1 quiet h) (go (leb 2 quiet))
   where
-    go : (b : Bool) → either b true ≡ true
+    go : (b : Bool) → (b || true) ≡ true
     go true = refl
     go false = refl
 

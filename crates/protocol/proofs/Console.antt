@@ -1,13 +1,12 @@
 -- Allow, deny and drop keep the invariant, also while an answer is owed.
 use Prim.Native.Nat.{ℕ, _<_}
 use mathlib.Core.Path.{_≡_, refl, sym, ap, _∙_}
-use mathlib.Core.Bool.{Bool, true, false}
+use mathlib.Core.Bool.{Bool, true, false, cond}
 use mathlib.Core.List.{List, [], _∷_}
 use native.Mathlib.Omega.{arith}
 use lib.ListN.{length, set}
 use lib.Dec.{eqb}
 use borrow.Author.Tests.{eqb-true, eqb-false}
-use Rattle.octets.specs.Choice.{pick}
 use Rattle.octets.specs.Slices.{equals}
 use Rattle.command.specs.Meaning as Meaning
 use Rattle.protocol.specs.Table.{absentSession, noSession, fileAt, idOf, isPresent, isUsed, findSession, withState}
@@ -49,7 +48,7 @@ file-cleared i e f =
 holds-allowed : {b : Bool} {i : List ℕ} {m : List Mark} (k : List ℕ) → Holds b i m → Holds b i (Mark.allow k ∷ m)
 holds-allowed {b} {i} {m} k (standing h) = standing (go (equals i k))
   where
-    go : (t : Bool) → pick t true (stands i m) ≡ true
+    go : (t : Bool) → cond t true (stands i m) ≡ true
     go true = refl
     go false = h
 holds-allowed k (committing f g) = committing f g
@@ -64,7 +63,7 @@ holds-cleared k e n (standing h) = standing (rw e h)
 holds-cleared k e n (committing f g) = no-way (sym g ∙ n)
 
 -- ---- what is owed
-cleared-is : (i : ℕ) (o : Owed) → isOwed o ≡ true → cleared i o ≡ pick (eqb (owing o) i) Owed.Nothing o
+cleared-is : (i : ℕ) (o : Owed) → isOwed o ≡ true → cleared i o ≡ cond (eqb (owing o) i) Owed.Nothing o
 cleared-is i Owed.Nothing e = no-way (sym e)
 cleared-is i (Owed.OpenFile k j) e = refl
 cleared-is i (Owed.OpenDirectory k j) e = refl
@@ -143,7 +142,7 @@ module _ {ss : List Session} {o : Owed} {m : List Mark} (ok : TableOK (table ss 
     drop-ok : TableOK (table (set ss i absentSession) (cleared i o)) (Mark.drop k ∷ m)
     drop-ok = go (isOwed o) refl
       where
-        owed-ok : (b : isOwed o ≡ true) (c : Bool) → eqb (owing o) i ≡ c → TableOK (table (set ss i absentSession) (pick c Owed.Nothing o)) (Mark.drop k ∷ m)
+        owed-ok : (b : isOwed o ≡ true) (c : Bool) → eqb (owing o) i ≡ c → TableOK (table (set ss i absentSession) (cond c Owed.Nothing o)) (Mark.drop k ∷ m)
         owed-ok b true q =
             drop-session (table ss o) i Owed.Nothing ok (found .0) (λ j n. cleared-ok (ok .owed b) (eqb-true _ _ q) j n (rw b at (ok .each j))) (λ z. no-way (sym z)) (ok .told)
         owed-ok b false q =

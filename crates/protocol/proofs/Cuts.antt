@@ -2,11 +2,10 @@
 -- of all bytes that it consumes: pieces, places, scratch and buffers count for nothing.
 use Prim.Native.Nat.{ℕ, suc, _+_}
 use mathlib.Core.Path.{_≡_, refl, sym, ap, _∙_}
-use mathlib.Core.Bool.{Bool, true, false}
+use mathlib.Core.Bool.{Bool, true, false, cond}
 use mathlib.Core.List.{List, [], _∷_, _++_, append-assoc, append-nil}
 use native.Mathlib.Omega.{arith}
 use lib.ListN.{length, length-append}
-use Rattle.octets.specs.Choice.{pick}
 use Rattle.frames.specs.Stream as Stream
 use Rattle.frames.specs.Stream.{Mode, stream}
 use Rattle.frames.specs.Framings.{framingOf}
@@ -68,7 +67,7 @@ told-reports : {t t′ : Table} {os : List Output} {ds : List Stream.Told} → M
 told-reports (none e) more = omega arith
 told-reports (one o ds n e) more = rw n (go (isReportMove (o .move)))
   where
-    go : (b : Bool) → pick b (suc (reports more)) (reports more) ≡ pick b 1 0 + reports more
+    go : (b : Bool) → cond b (suc (reports more)) (reports more) ≡ cond b 1 0 + reports more
     go true = omega arith
     go false = omega arith
 

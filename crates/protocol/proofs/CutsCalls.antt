@@ -2,12 +2,11 @@
 -- that it consumes, a feed without one nothing.
 use Prim.Native.Nat.{ℕ, _≤_}
 use mathlib.Core.Path.{_≡_, refl, sym, _∙_}
-use mathlib.Core.Bool.{Bool, true, false}
+use mathlib.Core.Bool.{Bool, true, false, cond}
 use mathlib.Core.List.{List, [], _∷_, _++_, append-nil}
 use lib.ListN.{length, take}
 use lib.Dec.{ltb, lit≤}
 use borrow.Author.Tests.{ltb-false}
-use Rattle.octets.specs.Choice.{pick}
 use Rattle.octets.specs.Outcome.{Outcome, outcome}
 use Rattle.frames.specs.Stream as Stream
 use Rattle.frames.specs.Stream.{Mode, stream}
@@ -88,7 +87,7 @@ module _ (t : Table) (h : Sized t) (scratch reply : List ℕ) (enough : 6144 ≤
   report-moves : (k : Report) (piece carry : List ℕ) → (k ≡ Report.ShortCarry → ⊥)
       → let text = textOf piece carry k in
       let a = reportAct t k text scratch in
-      Acts t a (pick (isReport k) (reportedBy text a reply ∷ []) []) (toldOf k text)
+      Acts t a (cond (isReport k) (reportedBy text a reply ∷ []) []) (toldOf k text)
   unfolding textOf
   report-moves Report.Nothing piece carry n = record { taken = refl; moves = none refl }
   report-moves (Report.InPiece start len) piece carry n = text-moves _
@@ -150,7 +149,7 @@ module _ (w : World) (ok : Kept w) (piece carry scratch reply : List ℕ) where
       no n = feeding (feedRefused (w .receiver) n) carry scratch reply
 
       fed : Bool → Bool → Feeding
-      fed s b = pick s (no 9) (pick b (no 10) taken)
+      fed s b = cond s (no 9) (cond b (no 10) taken)
 
       go : (s : Bool) → isShort carry scratch reply ≡ s → (b : Bool)
           → (isUnfed (fed s b .fed .told) ≡ false → carry ≡ w .carry) → Feeds w piece (fed s b)
@@ -177,8 +176,8 @@ answers r h m c s reply z e = go (ltb (length reply) 124) refl
     short : Outcome Answered
     short = outcome (answeredBy (r .framing) (refused (r .table) 9) 0) reply
 
-    go : (b : Bool) → ltb (length reply) 124 ≡ b → let a = pick b short (replied (r .framing) s reply) in
-        Answers r a (pick b [] (out a ∷ []))
+    go : (b : Bool) → ltb (length reply) 124 ≡ b → let a = cond b short (replied (r .framing) s reply) in
+        Answers r a (cond b [] (out a ∷ []))
     go true q = record { framing = refl; moves = none refl; sized = h }
     go false q =
         let sent = reply-sent (s .reply) reply (z .reply) (ltb-false _ _ q) .bytes in
@@ -213,7 +212,7 @@ pub record Steps (w : World) (c : Call) : Type 0 where
   pub kept : Kept (step w c)
 
 -- an event that adds no bytes, noted or not
-noted-bytes : (b : Bool) (e : Event) (h : List Event) → bytesOf (e ∷ h) ≡ bytesOf h → bytesOf (pick b h (e ∷ h)) ≡ bytesOf h ++ []
+noted-bytes : (b : Bool) (e : Event) (h : List Event) → bytesOf (e ∷ h) ≡ bytesOf h → bytesOf (cond b h (e ∷ h)) ≡ bytesOf h ++ []
 noted-bytes true e h q = sym (append-nil (bytesOf h))
 noted-bytes false e h q = q ∙ sym (append-nil (bytesOf h))
 

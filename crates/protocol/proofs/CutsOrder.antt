@@ -1,10 +1,9 @@
 -- The console's calls, each with the number of reports before it, and the number of all reports tell in which order all of them came.
 use Prim.Native.Nat.{ℕ, suc, _≤_}
 use mathlib.Core.Path.{_≡_, refl, sym, ap}
-use mathlib.Core.Bool.{Bool, true, false}
+use mathlib.Core.Bool.{Bool, true, false, cond}
 use mathlib.Core.List.{List, [], _∷_}
 use native.Mathlib.Omega.{arith}
-use Rattle.octets.specs.Choice.{pick}
 use Rattle.protocol.specs.Cuts.{Move, isReportMove, Output, consoleCalls}
 use Rattle.protocol.proofs.Laws.{no-way}
 
@@ -14,11 +13,11 @@ moves (o ∷ os) = o .move ∷ moves os
 
 abbrev pub reports : List Output → ℕ
 reports [] = 0
-reports (o ∷ os) = pick (isReportMove (o .move)) (suc (reports os)) (reports os)
+reports (o ∷ os) = cond (isReportMove (o .move)) (suc (reports os)) (reports os)
 
 -- the calls of a move and of those after it, given whether it is a report
 abbrev callsBy : Bool → ℕ → Move → List Output → List (ℕ × Move)
-callsBy b n m os = pick b (consoleCalls (suc n) os) ((n, m) ∷ consoleCalls n os)
+callsBy b n m os = cond b (consoleCalls (suc n) os) ((n, m) ∷ consoleCalls n os)
 
 -- ---- the first call comes after n reports or more
 abbrev From : ℕ → List (ℕ × Move) → Type 0
@@ -54,7 +53,7 @@ report-is (Move.failed code) e = no-way (sym e)
 nothing-more : {A : Type 0} (n : ℕ) (o : Output) (os : List Output) → reports (o ∷ os) ≡ 0 → consoleCalls n (o ∷ os) ≡ [] → A
 nothing-more {A} n o os r c = go (isReportMove (o .move)) refl r c
   where
-    go : (b : Bool) → isReportMove (o .move) ≡ b → pick b (suc (reports os)) (reports os) ≡ 0
+    go : (b : Bool) → isReportMove (o .move) ≡ b → cond b (suc (reports os)) (reports os) ≡ 0
         → callsBy b n (o .move) os ≡ [] → A
     go true e r c = absurd (omega arith)
     go false e r c = let z : _≡_ {A = ℕ} 0 1 = cc in absurd (omega arith)
@@ -68,7 +67,7 @@ same-order n (o₁ ∷ os₁) (o₂ ∷ os₂) r c =
     go (isReportMove (o₁ .move)) refl (isReportMove (o₂ .move)) refl r c (λ k. same-order k os₁ os₂)
   where
     go : (b₁ : Bool) → isReportMove (o₁ .move) ≡ b₁ → (b₂ : Bool) → isReportMove (o₂ .move) ≡ b₂
-        → pick b₁ (suc (reports os₁)) (reports os₁) ≡ pick b₂ (suc (reports os₂)) (reports os₂)
+        → cond b₁ (suc (reports os₁)) (reports os₁) ≡ cond b₂ (suc (reports os₂)) (reports os₂)
         → callsBy b₁ n (o₁ .move) os₁ ≡ callsBy b₂ n (o₂ .move) os₂
         → ((k : ℕ) → reports os₁ ≡ reports os₂ → consoleCalls k os₁ ≡ consoleCalls k os₂ → moves os₁ ≡ moves os₂)
         → o₁ .move ∷ moves os₁ ≡ o₂ .move ∷ moves os₂

@@ -1,11 +1,10 @@
 -- What reading a text answers does not depend on what the scratch held before; nor do the bytes of the command's places there.
 use Prim.Native.Nat.{ℕ, _+_, _≤_}
 use mathlib.Core.Path.{_≡_, refl, sym, ap, _∙_}
-use mathlib.Core.Bool.{Bool, true, false}
+use mathlib.Core.Bool.{Bool, true, false, cond}
 use mathlib.Core.List.{List}
 use lib.ListN.{length, getD, set}
 use borrow.Author.Tests.{le-ltb}
-use Rattle.octets.specs.Choice.{pick}
 use Rattle.octets.specs.Outcome.{Outcome, outcome}
 use Rattle.command.specs.Keys.{keys, Kind, kindAt}
 use Rattle.command.specs.Values.{Value, Got, valueRead}
@@ -42,7 +41,7 @@ same-kept n at v {s} {s′} r = go (stood (s .slots)) (stood (s′ .slots)) (ap 
     stood l = getD l n free .stood
 
     turn : Bool → Reader → Turn Reader
-    turn b s = pick b (Turn.off 5 s) (keptBy (kindAt keys n) n at s (valueRead (kindAt keys n) v))
+    turn b s = cond b (Turn.off 5 s) (keptBy (kindAt keys n) n at s (valueRead (kindAt keys n) v))
 
     go : (b b′ : Bool) → b ≡ b′ → Agree Same (turn b s) (turn b′ s′)
     go true b′ e = rw (← e) (off r)

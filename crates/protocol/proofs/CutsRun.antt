@@ -1,9 +1,9 @@
 -- The calls without pieces, carry, scratch and reply buffer: moves on a table, where each report is the next thing that the bytes tell.
+use mathlib.Core.Bool.{cond}
 use Prim.Native.Nat.{ℕ}
 use mathlib.Core.Path.{_≡_}
 use mathlib.Core.List.{List, [], _∷_, _++_}
 use lib.ListN.{length, replicate}
-use Rattle.octets.specs.Choice.{pick}
 use Rattle.frames.specs.Stream as Stream
 use Rattle.command.specs.Slots.{valuesOf}
 use Rattle.command.specs.Read.{readOf}
@@ -71,7 +71,7 @@ run t (m ∷ ms) ds = before (move t m ds .output) (run (move t m ds .table) ms 
 
 -- how many things told a move takes: a report one, a console call none
 abbrev pub takes : Move → ℕ
-takes m = pick (isReportMove m) 1 0
+takes m = cond (isReportMove m) 1 0
 
 -- from the table t to the table t′: no move, and nothing told; or one move that gives an output, and takes what is told
 pub data Moves (t t′ : Table) : List Output → List Stream.Told → Type 0 where

@@ -1,13 +1,12 @@
 -- What a text does, places apart, does not depend on what the scratch held before: the table, the reply, and what is told.
 use Prim.Native.Nat.{ℕ}
 use mathlib.Core.Path.{_≡_, refl, ap, _∙_}
-use mathlib.Core.Bool.{false}
+use mathlib.Core.Bool.{false, cond}
 use mathlib.Core.List.{List, []}
 use native.Mathlib.Omega.{arith}
 use lib.ListN.{length}
 use lib.Dec.{eqb}
 use borrow.Author.Tests.{le-leb}
-use Rattle.octets.specs.Choice.{pick}
 use Rattle.octets.specs.Outcome.{Outcome}
 use Rattle.command.specs.Values.{Value}
 use Rattle.command.specs.Slots.{nowhere, slotsOf, bytesAt, valuesOf}
@@ -49,7 +48,7 @@ module _ (t : Table) (c : Command) (text scratch scratch′ : List ℕ) (e : str
   file-same i =
       let f = fileIdIn c text in
       let s = sessionAt t i in
-      ap (pick (eqb (length f) 0) (fileStatus t s c text Status.Einval)) (known-same i (findFile s f))
+      ap (cond (eqb (length f) 0) (fileStatus t s c text Status.Einval)) (known-same i (findFile s f))
 
   present-same : (i : ℕ) (k : Kind) → presentResult t i c text scratch k ≡ presentResult t i c text scratch′ k
   present-same i Kind.Ignore = refl

@@ -2,12 +2,11 @@
 -- where one is put that was not.
 use Prim.Native.Nat.{ℕ, zero, suc, _+_, _≤_, _<_}
 use mathlib.Core.Path.{_≡_, refl, sym, ap}
-use mathlib.Core.Bool.{Bool, true, false}
+use mathlib.Core.Bool.{Bool, true, false, cond}
 use mathlib.Core.List.{List, [], _∷_}
 use native.Mathlib.Omega.{arith}
 use native.Mathlib.Nat.{le-of-suc-le-suc}
 use lib.ListN.{length, getD, set}
-use Rattle.octets.specs.Choice.{pick}
 use Rattle.octets.proofs.Below.{both-test}
 use Rattle.protocol.specs.Table.{noFile, noSession, sessionAt, fileAt, putFile}
 use Rattle.protocol.specs.Stretches.{Key}
@@ -81,12 +80,12 @@ module _ (k : Key) (n quiet : ℕ) where
       rw (w .0, ap (λ (x : Key). x .id) (w .1), ap (λ (x : Key). x .file) (w .1), w .2, w .3) (rw e at h)
 
   -- ---- no more than before, where each that counts did so
-  one-le : (b c : Bool) → (b ≡ true → c ≡ true) → pick b 1 0 ≤ pick c 1 0
+  one-le : (b c : Bool) → (b ≡ true → c ≡ true) → cond b 1 0 ≤ cond c 1 0
   one-le true true h = omega arith
   one-le true false h = no-way (sym (h refl))
   one-le false c h = omega arith
 
-  no-file : (s : Session) → _≡_ {A = ℕ} (pick (counts s noFile) 1 0) 0
+  no-file : (s : Session) → _≡_ {A = ℕ} (cond (counts s noFile) 1 0) 0
   no-file s = refl
 
   no-session : doneIn k n quiet noSession ≡ 0
@@ -98,7 +97,7 @@ module _ (k : Key) (n quiet : ℕ) where
   each-le t t′ h =
       total-le noSession (doneIn k n quiet) (doneIn k n quiet) no-session (t .sessions) (t′ .sessions)
       (λ i. let s = sessionAt t i in let s′ = sessionAt t′ i in
-      let one : Session → FileRecord → ℕ = λ x f. pick (counts x f) 1 0 in
+      let one : Session → FileRecord → ℕ = λ x f. cond (counts x f) 1 0 in
       total-le noFile (one s) (one s′) (no-file s) (s .files) (s′ .files)
       (λ j. one-le (counts s′ (fileAt s′ j)) (counts s (fileAt s j)) (h i j)))
 
@@ -118,7 +117,7 @@ module _ (k : Key) (n quiet : ℕ) where
       → doneAs k n quiet t < doneAs k n quiet (record { sessions = set (t .sessions) i (putFile s j f); owed = o })
   put-more t i j f o inside within a b =
       let s = sessionAt t i in
-      let one : FileRecord → ℕ = λ g. pick (counts s g) 1 0 in
+      let one : FileRecord → ℕ = λ g. cond (counts s g) 1 0 in
       let here : one f ≡ suc (one (fileAt s j)) = rw (a, b) in
       let more-here = total-more noFile one (s .files) j f within here in
       let more = total-more noSession (doneIn k n quiet) (t .sessions) i (putFile s j f) inside more-here in

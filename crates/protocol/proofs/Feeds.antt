@@ -1,10 +1,9 @@
 -- A feed keeps the invariant, and turns no record done.
 use Prim.Native.Nat.{ℕ, _≤_}
 use mathlib.Core.Path.{_≡_, refl}
-use mathlib.Core.Bool.{Bool, true, false}
+use mathlib.Core.Bool.{Bool, true, false, cond}
 use mathlib.Core.List.{List, append-nil}
 use lib.ListN.{length, take}
-use Rattle.octets.specs.Choice.{pick}
 use Rattle.frames.specs.Stream.{Mode, stream}
 use Rattle.frames.specs.Calls.{scanOf, textOf}
 use Rattle.frames.specs.Follows.{Follows, toldOf}
@@ -123,8 +122,8 @@ feed-ok w ok piece carry scratch reply = go (isShort carry scratch reply) refl (
     no n = record { fed = feedRefused (w .receiver) n; carry = carry; scratch = scratch; reply = reply }
 
     go : (s : Bool) → isShort carry scratch reply ≡ s → (b : Bool) → isOwed (w .receiver .table .owed) ≡ b
-        → (isUnfed (pick s (no 9) (pick b (no 10) taken) .fed .told) ≡ false → carry ≡ w .carry)
-        → FeedOK w (afterFeed w piece (pick s (no 9) (pick b (no 10) taken)))
+        → (isUnfed (cond s (no 9) (cond b (no 10) taken) .fed .told) ≡ false → carry ≡ w .carry)
+        → FeedOK w (afterFeed w piece (cond s (no 9) (cond b (no 10) taken)))
     go true e b q lent = feed-refused w ok 9 refl piece carry scratch reply
     go false e true q lent = feed-refused w ok 10 refl piece carry scratch reply
     go false e false q lent =

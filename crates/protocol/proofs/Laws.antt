@@ -1,14 +1,13 @@
 -- Laws of finding, of stores into the table, and of ids, which the history theorem and the calls cite.
 use Prim.Native.Nat.{ℕ, zero, suc, _≤_, _<_}
 use mathlib.Core.Path.{_≡_, refl, sym, _∙_}
-use mathlib.Core.Bool.{Bool, true, false}
+use mathlib.Core.Bool.{Bool, true, false, _&&_}
 use mathlib.Core.List.{List, [], _∷_, _++_}
 use native.Mathlib.Decide.{ℕ-discrete}
 use native.Mathlib.Omega.{arith}
 use lib.ListN.{length, getD, set, take, replicate}
 use lib.Seq.{getD-set-same, getD-set-other, take-take, take-append-seam}
 use borrow.Author.Tests.{ne-eqb}
-use Rattle.octets.specs.Choice.{both}
 use Rattle.octets.specs.Slices.{equals}
 use Rattle.octets.proofs.Below.{both-test}
 use Rattle.octets.proofs.Compare.{equals-refl, equals-sound}
@@ -26,7 +25,7 @@ no-way e = let z : _≡_ {A = ℕ} 0 1 = cc in absurd (omega arith)
 pub low-taken : (n : ℕ) → n ≤ 8 → isUnfed (Told.Refused n) ≡ false
 low-taken n l = rw (ne-eqb n 9 (λ e. omega arith), ne-eqb n 10 (λ e. omega arith))
 
-pub both-false : (a : Bool) → both a false ≡ false
+pub both-false : (a : Bool) → (a && false) ≡ false
 both-false true = refl
 both-false false = refl
 
@@ -74,17 +73,17 @@ module _ {A : Type 0} (p : A → Bool) (d : A) where
 
 -- the same for the first used member with an id
 module _ {A : Type 0} (used : A → Bool) (key : A → List ℕ) (d : A) (l : List A) (k : List ℕ) where
-  pub found-at : (i : ℕ) → first (λ (x : A). both (used x) (equals (key x) k)) l ≡ Found.At i
+  pub found-at : (i : ℕ) → first (λ (x : A). (used x && equals (key x) k)) l ≡ Found.At i
       → (i < length l) × (used (getD l i d) ≡ true) × (key (getD l i d) ≡ k)
   found-at i e =
-      let f = first-at (λ (x : A). both (used x) (equals (key x) k)) d l i e in
+      let f = first-at (λ (x : A). (used x && equals (key x) k)) d l i e in
       let b = both-test (used (getD l i d)) (equals (key (getD l i d)) k) (f .1) in
       (f .0, b .0, equals-sound (key (getD l i d)) k (b .1))
 
-  pub found-nowhere : used d ≡ false → first (λ (x : A). both (used x) (equals (key x) k)) l ≡ Found.Nowhere
+  pub found-nowhere : used d ≡ false → first (λ (x : A). (used x && equals (key x) k)) l ≡ Found.Nowhere
       → (i : ℕ) → used (getD l i d) ≡ true → equals (key (getD l i d)) k ≡ false
   found-nowhere n e i u =
-      rw u at (first-nowhere (λ (x : A). both (used x) (equals (key x) k)) d (rw n) l e i)
+      rw u at (first-nowhere (λ (x : A). (used x && equals (key x) k)) d (rw n) l e i)
 
 -- ---- stores
 -- what holds at each place after a store: of the new member there, and of the old ones at the other places

@@ -1,12 +1,11 @@
 -- How each mark of the history moves a file's part of the invariant, and a session's.
 use Prim.Native.Nat.{ℕ, _+_}
 use mathlib.Core.Path.{_≡_, refl, sym, ap, _∙_}
-use mathlib.Core.Bool.{Bool, true, false, not}
+use mathlib.Core.Bool.{Bool, true, false, not, _&&_, _||_}
 use mathlib.Core.Option.{Option}
 use mathlib.Core.List.{List, [], _∷_, _++_, append-nil}
 use native.Mathlib.Nat.{add-zero}
 use lib.ListN.{length, length-append}
-use Rattle.octets.specs.Choice.{both, either}
 use Rattle.octets.specs.Slices.{equals}
 use Rattle.command.specs.Meaning.{idOf, fileIdOf}
 use Rattle.protocol.specs.Table.{fileAt}
@@ -126,7 +125,7 @@ none-onward : (k : Key) (x : Mark) (s : Option Stretch) → startStands k s ≡ 
 none-onward k x Option.none e = refl
 none-onward k x (Option.some s) e = go (allows (k .id) x)
   where
-    go : (b : Bool) → not (either b (allowedIn (k .id) (s .marks))) ≡ false
+    go : (b : Bool) → not (b || allowedIn (k .id) (s .marks)) ≡ false
     go true = refl
     go false = e
 
@@ -151,7 +150,7 @@ none-answered m k d a false ask e f = none-onward k (Mark.answer false (lastAsk 
 none-answered m k d a true ask e f = rw (ask, starts-other k d a e) (none-onward k (Mark.answer true (Question.asks d a)) (since k m) f)
 
 -- ---- a session
-pub holds-read : {i : List ℕ} {m : List Mark} (d : Command) (x : Option Heard) → both (isEnd d) (equals i (idOf d)) ≡ false
+pub holds-read : {i : List ℕ} {m : List Mark} (d : Command) (x : Option Heard) → (isEnd d && equals i (idOf d)) ≡ false
     → Holds false i m → Holds (isHeard x) i (hearingMark x (Mark.read d ∷ m))
 holds-read d Option.none e (standing h) = standing (rw e h)
 holds-read d (Option.some a) e (standing h) = standing (rw e h)

@@ -2,13 +2,12 @@
 -- agrees.
 use Prim.Native.Nat.{ℕ, _+_, _≤_}
 use mathlib.Core.Path.{_≡_, refl, sym, ap, _∙_}
-use mathlib.Core.Bool.{Bool, true, false}
+use mathlib.Core.Bool.{Bool, true, false, cond}
 use mathlib.Core.List.{List, []}
 use native.Mathlib.Omega.{arith}
 use lib.ListN.{length, take, drop, length-take, length-drop}
 use lib.Dec.{leb}
 use borrow.Author.Tests.{le-leb}
-use Rattle.octets.specs.Choice.{pick}
 use Rattle.octets.specs.Slices.{partOf}
 use Rattle.command.specs.Values.{Value}
 use Rattle.command.specs.Meaning.{Meaning, meaningOf, bytesIn, idOf, fileIdOf, dataOf, actionCode, fileTypeCode}
@@ -46,7 +45,7 @@ string-means l p = go (leb (p .start + p .len) (length l))
     part : List ℕ
     part = take (p .len) (drop (p .start) l)
 
-    go : (b : Bool) → pick b part [] ≡ bytesIn (pick b (Value.bytes part) Value.outside)
+    go : (b : Bool) → cond b part [] ≡ bytesIn (cond b (Value.bytes part) Value.outside)
     go true = refl
     go false = refl
 

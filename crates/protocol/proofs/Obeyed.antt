@@ -1,12 +1,11 @@
 -- What it is that a command, read while nothing is owed, keeps the invariant; and commands that change nothing, or drop a session.
 use Prim.Native.Nat.{ℕ, _<_}
 use mathlib.Core.Path.{_≡_, refl, sym, ap, _∙_}
-use mathlib.Core.Bool.{true, false}
+use mathlib.Core.Bool.{true, false, _&&_}
 use mathlib.Core.Option.{Option}
 use mathlib.Core.List.{List, [], _∷_}
 use native.Mathlib.Decide.{ℕ-discrete}
 use lib.ListN.{length, getD, set}
-use Rattle.octets.specs.Choice.{both}
 use Rattle.octets.specs.Slices.{equals}
 use Rattle.command.specs.Meaning as Meaning
 use Rattle.command.specs.declared.Command.{Command as PlacedCommand}
@@ -90,7 +89,7 @@ here {ss} {c} {text} means i e =
 
 module _ {ss : List Session} {m : List Mark} {d : Command} (ok : TableOK (idle ss) m) where
   -- the command ends nothing, and brings nothing to a started file
-  still : ((i : ℕ) → sessionIn ss i .state ≡ SessionState.Open → both (isEnd d) (equals (idOf (sessionIn ss i)) (Meaning.idOf d)) ≡ false)
+  still : ((i : ℕ) → sessionIn ss i .state ≡ SessionState.Open → (isEnd d && equals (idOf (sessionIn ss i)) (Meaning.idOf d)) ≡ false)
       → ((i j : ℕ) → sessionIn ss i .state ≡ SessionState.Open → fileAt (sessionIn ss i) j .state ≡ FileState.Started
       → contentFor (keyOf (sessionIn ss i) (fileAt (sessionIn ss i) j)) d ≡ [])
       → TableOK (idle ss) (Mark.read d ∷ m)

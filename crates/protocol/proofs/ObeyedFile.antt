@@ -1,7 +1,7 @@
 -- A file command in an open session keeps the invariant.
 use Prim.Native.Nat.{ℕ, _≤_, _<_}
 use mathlib.Core.Path.{_≡_, refl, sym, ap, _∙_}
-use mathlib.Core.Bool.{Bool, true, false}
+use mathlib.Core.Bool.{Bool, true, false, cond, _||_}
 use mathlib.Core.Option.{Option}
 use mathlib.Core.List.{List, _∷_}
 use native.Mathlib.Omega.{arith}
@@ -9,7 +9,6 @@ use lib.ListN.{length, set, length-set}
 use lib.Seq.{getD-set-same}
 use lib.Dec.{eqb}
 use borrow.Author.Tests.{eqb-false}
-use Rattle.octets.specs.Choice.{pick, either}
 use Rattle.pathname.specs.Name.{validName}
 use Rattle.command.specs.Meaning as Meaning
 use Rattle.command.specs.Slots as Slots
@@ -44,7 +43,7 @@ use Rattle.protocol.proofs.Puts.{table, put-session, put-file, asking-h
 use Rattle.protocol.proofs.Obeyed.{idle, sessionIn, Kept, status-silent, kept-same, Here, others, same-id, still-other}
 
 -- a free record is not past its opening
-free-past : (g : FileState) → pick (isUsed g) false true ≡ true → isPast g ≡ true → ⊥
+free-past : (g : FileState) → cond (isUsed g) false true ≡ true → isPast g ≡ true → ⊥
 free-past FileState.Free e p = no-way (sym p)
 free-past FileState.Opening e p = no-way (sym p)
 free-past FileState.Started e p = no-way (sym e)
@@ -136,9 +135,9 @@ module _ {ss : List Session} {c : PlacedCommand} {text scratch : List ℕ} {d : 
     where
       go : (x : Bool) → linkLike (c .«file_type») ≡ x → (y u v : Bool)
           → Kept ss m d scratch
-          (pick (either x y) (fileStatus (idle ss) (sessionIn ss i) c text Status.Enotsup)
-          (pick u (fileStatus (idle ss) (sessionIn ss i) c text Status.Einval)
-          (pick v (fileRoom (idle ss) i c text (first isFree (sessionIn ss i .files))) (fileStatus (idle ss) (sessionIn ss i) c text Status.Einval))))
+          (cond (x || y) (fileStatus (idle ss) (sessionIn ss i) c text Status.Enotsup)
+          (cond u (fileStatus (idle ss) (sessionIn ss i) c text Status.Einval)
+          (cond v (fileRoom (idle ss) i c text (first isFree (sessionIn ss i .files))) (fileStatus (idle ss) (sessionIn ss i) c text Status.Einval))))
       go true e y u v = status-kept Status.Enotsup
       go false e true u v = status-kept Status.Enotsup
       go false e false true v = status-kept Status.Einval
@@ -156,7 +155,7 @@ module _ {ss : List Session} {c : PlacedCommand} {text scratch : List ℕ} {d : 
     where
       go : (b : Bool) → eqb (length (fileIdIn c text)) 0 ≡ b
           → Kept ss m d scratch
-          (pick b (fileStatus (idle ss) (sessionIn ss i) c text Status.Einval)
+          (cond b (fileStatus (idle ss) (sessionIn ss i) c text Status.Einval)
           (fileKnown (idle ss) i c text scratch (findFile (sessionIn ss i) (fileIdIn c text))))
       go true e = status-kept Status.Einval
       go false e = known-kept (eqb-false _ _ e) (findFile (sessionIn ss i) (fileIdIn c text)) refl

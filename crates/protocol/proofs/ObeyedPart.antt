@@ -1,7 +1,7 @@
 -- A data or end_data command in an open session keeps the invariant.
 use Prim.Native.Nat.{ℕ, _+_, _≤_, _<_}
 use mathlib.Core.Path.{_≡_, refl, sym, ap, _∙_}
-use mathlib.Core.Bool.{Bool, true, false}
+use mathlib.Core.Bool.{Bool, true, false, cond}
 use mathlib.Core.Option.{Option}
 use mathlib.Core.List.{List, _∷_}
 use native.Mathlib.Decide.{ℕ-discrete}
@@ -9,7 +9,6 @@ use native.Mathlib.Omega.{arith}
 use lib.ListN.{length, set}
 use lib.Dec.{ltb}
 use borrow.Author.Tests.{ltb-false}
-use Rattle.octets.specs.Choice.{pick}
 use Rattle.octets.specs.Slices.{equals}
 use Rattle.command.specs.Meaning as Meaning
 use Rattle.command.specs.declared.Command.{Command as PlacedCommand}
@@ -130,8 +129,8 @@ module _ {ss : List Session} {c : PlacedCommand} {text scratch : List ℕ} {d : 
         where
           go : (x y : Bool) → ltb countLimit (fileAt (sessionIn ss i) j .count + c .payload .len) ≡ y
               → Kept ss m d scratch
-              (pick x (failedFile (idle ss) i j c text Status.Einval)
-              (pick y (failedFile (idle ss) i j c text Status.Efbig)
+              (cond x (failedFile (idle ss) i j c text Status.Einval)
+              (cond y (failedFile (idle ss) i j c text Status.Efbig)
               (stepped (withOwed (idle ss) (writeOwed last i j (c .payload .len))) (Told.Ask (writeAsk last (c .payload))) noReply)))
           go true y e = failed-kept Status.Einval
           go false true e = failed-kept Status.Efbig

@@ -1,13 +1,12 @@
 -- WHAT EVERY CALL PROMISES, of the receiver's own: a refused one changes nothing, a feed goes on, and no reply is over 124 bytes.
 use Prim.Native.Nat.{ℕ}
 use mathlib.Core.Path.{_≡_, refl, sym, _∙_}
-use mathlib.Core.Bool.{Bool, true, false}
+use mathlib.Core.Bool.{Bool, true, false, cond}
 use mathlib.Core.List.{List}
 use native.Mathlib.Omega.{arith}
 use lib.ListN.{length}
 use lib.Dec.{ltb}
 use borrow.Author.Tests.{ltb-false}
-use Rattle.octets.specs.Choice.{pick}
 use Rattle.octets.specs.Outcome.{outcome}
 use Rattle.frames.specs.Calls.{scanOf, textOf}
 use Rattle.frames.proofs.CallLaws.{call-report, consumed-le, consumes}
@@ -97,7 +96,7 @@ unfolding guarded
 call-promise r s reply leaves z = go (ltb (length reply) 124) refl
   where
     go : (b : Bool) → ltb (length reply) 124 ≡ b
-        → CallPromise r reply (pick b (outcome (answeredBy (r .framing) (refused (r .table) 9) 0) reply) (replied (r .framing) s reply))
+        → CallPromise r reply (cond b (outcome (answeredBy (r .framing) (refused (r .table) 9) 0) reply) (replied (r .framing) s reply))
     go true e = record { refused = λ _. (refl, refl, refl); short = omega arith }
     go false e =
         record {
@@ -144,7 +143,7 @@ module _ (r : Receiver) (h : Sized (r .table)) (piece carry scratch reply : List
   unfolding feedOf
   feed-promise = go (isShort carry scratch reply) refl (isOwed (r .table .owed))
     where
-      go : (s : Bool) → isShort carry scratch reply ≡ s → (b : Bool) → Keeps (pick s (no 9) (pick b (no 10) taken))
+      go : (s : Bool) → isShort carry scratch reply ≡ s → (b : Bool) → Keeps (cond s (no 9) (cond b (no 10) taken))
       go true e b = refused-promise 9 refl
       go false e true = refused-promise 10 refl
       go false e false = taken-promise e

@@ -2,14 +2,13 @@
 -- done by a store that puts no done one.
 use Prim.Native.Nat.{ℕ, _<_}
 use mathlib.Core.Path.{_≡_, refl, sym, _∙_}
-use mathlib.Core.Bool.{Bool, true, false}
+use mathlib.Core.Bool.{Bool, true, false, cond}
 use mathlib.Core.Logic.{_⊎_, inl, inr}
 use mathlib.Core.List.{List, _∷_}
 use native.Mathlib.Omega.{arith}
 use lib.ListN.{length, getD, set, length-set}
 use native.Mathlib.Decide.{ℕ-discrete}
 use lib.Seq.{getD-set-same, getD-set-other}
-use Rattle.octets.specs.Choice.{pick}
 use Rattle.command.specs.Meaning as Meaning
 use Rattle.protocol.specs.Table.{absentSession, noFile, noSession, sessionAt, fileAt, idOf, fileIdOf, putFile}
 use Rattle.protocol.specs.Calls.{isOwed}
@@ -38,7 +37,7 @@ table ss o = record { sessions = ss; owed = o }
 
 -- the marks after a console call's step, which is refused or adds the mark x
 abbrev pub notedMarks : List Mark → Mark → Stepped → List Mark
-notedMarks m x out = pick (isRefused (out .told)) m (x ∷ m)
+notedMarks m x out = cond (isRefused (out .told)) m (x ∷ m)
 
 -- states that differ
 pub absent-open : SessionState.Absent ≡ SessionState.Open → ⊥

@@ -2,13 +2,13 @@
 -- the session not empty.
 use Prim.Native.Nat.{ℕ, zero, suc, _+_, _≤_}
 use mathlib.Core.Path.{_≡_, refl}
-use mathlib.Core.Bool.{Bool, true, false}
+use mathlib.Core.Bool.{Bool, true, false, cond, _&&_, _||_}
 use mathlib.Core.List.{List, [], _∷_}
 use native.Mathlib.Omega.{arith}
 use lib.ListN.{length, getD, drop}
 use lib.Dec.{ltb, eqb, lit≤}
 use borrow.Author.Tests.{ltb-false, eqb-false}
-use Rattle.octets.specs.Choice.{pick, both, either, every}
+use Rattle.octets.specs.Members.{every}
 use Rattle.octets.specs.Ascii.{ascii}
 use Rattle.octets.specs.Slices.{equals, startsWith}
 use Rattle.octets.specs.Split.{split}
@@ -36,12 +36,12 @@ data Turns {S : Type 0} (P : S → Type 0) : Turn S → Type 0 where
 module _ {S : Type 0} (P : S → Type 0) (step : Step S) (keeps : (n at : ℕ) (v : List ℕ) (s : S) → P s → Turns P (step n at v s)) where
   field-turns : (at : ℕ) (f : List ℕ) (s : S) → P s → Turns P (fieldRead step at f s)
   unfolding fieldRead
-  field-turns at f s h = go (both (ltb (equalsSign f) (length f)) (isKey (keyOf f))) (ltb (numberOf keys (keyOf f)) (length keys))
+  field-turns at f s h = go (ltb (equalsSign f) (length f) && isKey (keyOf f)) (ltb (numberOf keys (keyOf f)) (length keys))
     where
       turn : Turn S
       turn = step (numberOf keys (keyOf f)) (at + (equalsSign f + 1)) (valueOf f) s
 
-      go : (a b : Bool) → Turns P (pick a (pick b turn (Turn.on s)) (Turn.off 4 s))
+      go : (a b : Bool) → Turns P (cond a (cond b turn (Turn.on s)) (Turn.off 4 s))
       go true true = keeps (numberOf keys (keyOf f)) (at + (equalsSign f + 1)) (valueOf f) s h
       go true false = on h
       go false b = off 4 (lit≤ tt)
@@ -63,7 +63,7 @@ module _ {S : Type 0} (P : S → Type 0) (step : Step S) (keeps : (n at : ℕ) (
       turn : Turn S
       turn = fieldsRead step 5 (split 59 (drop 5 t)) s
 
-      go : (a b c : Bool) → Turns P (pick a (Turn.off 1 s) (pick b (pick c turn (Turn.off 4 s)) (Turn.off 3 s)))
+      go : (a b c : Bool) → Turns P (cond a (Turn.off 1 s) (cond b (cond c turn (Turn.off 4 s)) (Turn.off 3 s)))
       go true b c = off 1 (lit≤ tt)
       go false true true = fields-turns 5 (split 59 (drop 5 t)) s h
       go false true false = off 4 (lit≤ tt)
@@ -90,7 +90,7 @@ alias-fits first ws aliases [] v = omega arith
 alias-fits first ws aliases (a ∷ more) v = go (equals v (a .text)) (alias-fits first ws aliases more v)
   where
     go : (b : Bool) → FitGot (Kind.word first ws aliases) (aliasRead more v)
-        → FitGot (Kind.word first ws aliases) (pick b (Got.got (Value.number (count (a .code)))) (aliasRead more v))
+        → FitGot (Kind.word first ws aliases) (cond b (Got.got (Value.number (count (a .code)))) (aliasRead more v))
     go true h = tt
     go false h = h
 
@@ -101,13 +101,13 @@ value-fits (Kind.word first ws aliases) v = go (ltb (placeIn ws v) (length ws))
     word : Got
     word = Got.got (Value.number (count (first + placeIn ws v)))
 
-    go : (b : Bool) → FitGot (Kind.word first ws aliases) (pick b word (aliasRead aliases v))
+    go : (b : Bool) → FitGot (Kind.word first ws aliases) (cond b word (aliasRead aliases v))
     go true = tt
     go false = alias-fits first ws aliases aliases v
 value-fits (Kind.safe short) v = go (every safeByte v) refl (over short v) refl
   where
     go : (a : Bool) → every safeByte v ≡ a → (b : Bool) → over short v ≡ b
-        → FitGot (Kind.safe short) (pick a (pick b (Got.refused 8) (Got.got (Value.bytes v))) (Got.refused 6))
+        → FitGot (Kind.safe short) (cond a (cond b (Got.refused 8) (Got.got (Value.bytes v))) (Got.refused 6))
     go true p true q = omega arith
     go true p false q = (p, λ e. ltb-false _ _ (rw e at q))
     go false p b q = omega arith
@@ -174,7 +174,7 @@ complete-named s d h e = go (eqb (actionCode v) 0) refl (eqb (length (idOf v)) 0
     v = valuesIn keys s
 
     go : (a : Bool) → eqb (actionCode v) 0 ≡ a → (b : Bool) → eqb (length (idOf v)) 0 ≡ b
-        → pick (either a b) (Meaning.refused 7) (Meaning.command v) ≡ Meaning.command d → Named d
+        → cond (a || b) (Meaning.refused 7) (Meaning.command v) ≡ Meaning.command d → Named d
     go true p b q w = let z : _≡_ {A = ℕ} 0 1 = cc in absurd (omega arith)
     go false p true q w = let z : _≡_ {A = ℕ} 0 1 = cc in absurd (omega arith)
     go false p false q w =
@@ -204,7 +204,7 @@ pub meaning-refusal : (t : List ℕ) (n : ℕ) → meaningOf t ≡ Meaning.refus
 unfolding meaningOf
 meaning-refusal t n e = go (read-turns t) e
   where
-    at-most : (b : Bool) (v : List Value) → pick b (Meaning.refused 7) (Meaning.command v) ≡ Meaning.refused n → n ≤ 8
+    at-most : (b : Bool) (v : List Value) → cond b (Meaning.refused 7) (Meaning.command v) ≡ Meaning.refused n → n ≤ 8
     at-most true v q = let z : 7 ≡ n = cc in omega arith
     at-most false v q = let z : _≡_ {A = ℕ} 0 1 = cc in absurd (omega arith)
 

@@ -1,7 +1,7 @@
 -- How a claim is refuted of a machine: a list of calls from a fresh receiver, and a test that computes to false at its end.
 use Prim.Native.Nat.{ℕ, zero, suc}
 use mathlib.Core.Path.{_≡_, refl, sym, ap, _∙_}
-use mathlib.Core.Bool.{Bool, true, false, not}
+use mathlib.Core.Bool.{Bool, true, false, not, _&&_, _||_}
 use mathlib.Core.Logic.{_⊎_, inl, inr}
 use mathlib.Core.Option.{Option}
 use mathlib.Core.List.{List, [], _∷_, _++_}
@@ -9,7 +9,7 @@ use native.Mathlib.Omega.{arith}
 use lib.ListN.{length, take, drop, getD, replicate}
 use lib.Dec.{eqb}
 use borrow.Author.Tests.{eq-eqb}
-use Rattle.octets.specs.Choice.{both, either, every}
+use Rattle.octets.specs.Members.{every}
 use Rattle.octets.specs.Slices.{equals}
 use Rattle.octets.proofs.Below.{both-test}
 use Rattle.octets.specs.Ascii.{ascii}
@@ -115,13 +115,13 @@ key = record { id = ascii "m"; file = ascii "a" }
 -- the open of a directory
 abbrev opensDirectory : Key → Question → Bool
 opensDirectory k Question.none = false
-opensDirectory k (Question.asks d Heard.opens) = both (isFile d) (both (isDirectory d) (isFor k d))
+opensDirectory k (Question.asks d Heard.opens) = isFile d && (isDirectory d && isFor k d)
 opensDirectory k (Question.asks d (Heard.writes p)) = false
 opensDirectory k (Question.asks d (Heard.writesLast p)) = false
 opensDirectory k (Question.asks d Heard.commits) = false
 
 abbrev isDirectoryDone : Key → List Mark → Bool
-isDirectoryDone k m = both (not (startStands k (since k m))) (opensDirectory k (lastAsk m))
+isDirectoryDone k m = not (startStands k (since k m)) && opensDirectory k (lastAsk m)
 
 directory-done : (k : Key) (m : List Mark) → DirectoryAsked k m → isDirectoryDone k m ≡ true
 directory-done k m d = rw (d .unstarted, d .asked, d .action, d .directory) (d .forIt)
@@ -140,7 +140,7 @@ last-asked k q l = rw (l .asked) (l .forIt)
 -- start, parts, contents and count
 abbrev isWhole : Key → Option Stretch → ℕ → Bool
 isWhole k Option.none n = false
-isWhole k (Option.some s) n = both (equals (parts k (s .marks)) (contents k (s .marks))) (eqb n (length (contents k (s .marks))))
+isWhole k (Option.some s) n = equals (parts k (s .marks)) (contents k (s .marks)) && eqb n (length (contents k (s .marks)))
 
 -- the reply's size: its frame taken off, its text read
 abbrev inner : List ℕ → List ℕ
@@ -165,7 +165,7 @@ sizeSent a = sizeMeant (meaningOf (inner (drop 2 (take (a .answer .«reply_len»
 size-sent : (k : Key) (s : ℕ) (a : Outcome Answered) → ClosingReply k s 0 a → sizeSent a ≡ s
 size-sent k s a r = rw (r .sent refl, inner-append (r .text), r .reads) (ap (λ (n : Number). n .magnitude) (r .size))
 
-either-right : (b : Bool) → either b true ≡ true
+either-right : (b : Bool) → (b || true) ≡ true
 either-right true = refl
 either-right false = refl
 
@@ -179,9 +179,9 @@ module _ (m : Machine) (cs : List Deed) where
   -- what `TurnedDone` asks of file a, closed with count n
   abbrev pub turnsRight : ℕ → Bool
   turnsRight n =
-      either (isDirectoryDone key (marksOf (w .history)))
-      (both (asksLast key (lastAsk (marksOf (w .history))))
-      (both (isWhole key (since key (marksOf (w′ .history))) n) (eqb (sizeSent (m .dones (w .receiver) reply₀)) n)))
+      isDirectoryDone key (marksOf (w .history)) ||
+      (asksLast key (lastAsk (marksOf (w .history))) &&
+      (isWhole key (since key (marksOf (w′ .history))) n && eqb (sizeSent (m .dones (w .receiver) reply₀)) n))
 
   -- the file a closes at a done, in a session that is not quiet
   pub record ClosesBadly : Type 0 where

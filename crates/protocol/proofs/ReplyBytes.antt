@@ -1,12 +1,11 @@
 -- The bytes of a reply in the lent buffer: at most 124, and none where no reply is due.
 use Prim.Native.Nat.{ℕ, _+_, _≤_}
 use mathlib.Core.Path.{_≡_}
-use mathlib.Core.Bool.{Bool, true, false}
+use mathlib.Core.Bool.{Bool, true, false, cond, _&&_}
 use mathlib.Core.List.{List, []}
 use native.Mathlib.Omega.{arith}
 use lib.ListN.{length, take, length-take}
 use borrow.Author.Tests.{le-leb}
-use Rattle.octets.specs.Choice.{pick, both}
 use Rattle.octets.specs.Outcome.{outcome}
 use Rattle.octets.proofs.Stores.{part-stored}
 use Rattle.protocol.specs.Table.{idRoom}
@@ -25,7 +24,7 @@ pub record SizedReply (r : Reply) : Type 0 where
 -- "No reply is longer than 124 bytes"
 pub reply-length : (r : Reply) → SizedReply r → length (replyBytes r) ≤ replyRoom
 unfolding replyBytes
-reply-length r h = go (both (r .due) (pick (isHeld (r .status) (r .quiet)) false true))
+reply-length r h = go (r .due && cond (isHeld (r .status) (r .quiet)) false true)
   where
     id : List ℕ
     id = take (r .«id_len») (r .id)
@@ -33,7 +32,7 @@ reply-length r h = go (both (r .due) (pick (isHeld (r .status) (r .quiet)) false
     file : List ℕ
     file = take (r .«file_id_len») (r .«file_id»)
 
-    go : (b : Bool) → length (pick b (framed (statusText id file (r .size) (statusWord (r .status)))) []) ≤ replyRoom
+    go : (b : Bool) → length (cond b (framed (statusText id file (r .size) (statusWord (r .status)))) []) ≤ replyRoom
     go true =
         status-length id file (r .size) (r .status) (omega (arith, h .id, length-take (r .«id_len») (r .id)))
         (omega (arith, h .file, length-take (r .«file_id_len») (r .«file_id»))) (h .size)

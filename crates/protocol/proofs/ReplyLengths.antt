@@ -1,12 +1,11 @@
 -- What a report does keeps ids in arrays of at most 32 bytes; and the buffers of a feed that is not refused with 9.
 use Prim.Native.Nat.{ℕ, _≤_}
 use mathlib.Core.Path.{_≡_, refl}
-use mathlib.Core.Bool.{Bool, true, false}
+use mathlib.Core.Bool.{Bool, true, false, _||_}
 use mathlib.Core.List.{List}
 use lib.ListN.{length}
 use lib.Dec.{ltb}
 use borrow.Author.Tests.{ltb-false}
-use Rattle.octets.specs.Choice.{either}
 use Rattle.octets.specs.Outcome.{Outcome}
 use Rattle.frames.specs.declared.Report.{Report}
 use Rattle.frames.specs.declared.Report.the-variants as Report
@@ -42,7 +41,7 @@ pub roomy : (carry scratch reply : List ℕ) → isShort carry scratch reply ≡
 roomy carry scratch reply e = go (ltb (length carry) 8192) refl (ltb (length scratch) 6144) refl (ltb (length reply) 124) refl e
   where
     go : (x : Bool) → ltb (length carry) 8192 ≡ x → (y : Bool) → ltb (length scratch) 6144 ≡ y → (z : Bool) → ltb (length reply) 124 ≡ z
-        → either x (either y z) ≡ false → Roomy carry scratch reply
+        → (x || (y || z)) ≡ false → Roomy carry scratch reply
     go true p y q z s e = no-way e
     go false p true q z s e = no-way e
     go false p false q true s e = no-way e

@@ -1,12 +1,11 @@
 -- Arrays of ids that have at most 32 bytes, as those of every receiver that code can make: each step of the rule keeps them so, and what it
 -- replies has ids of at most 32 bytes and a size of at most 2^40. With it, what a command can tell.
 use Prim.Native.Nat.{ℕ, _+_, _≤_}
-use mathlib.Core.Bool.{Bool, true, false}
+use mathlib.Core.Bool.{Bool, true, false, cond}
 use mathlib.Core.List.{List, _++_}
 use native.Mathlib.Omega.{arith}
 use lib.ListN.{length, length-take}
 use lib.Dec.{ltb, eqb}
-use Rattle.octets.specs.Choice.{pick}
 use Rattle.pathname.specs.Name.{validName}
 use Rattle.command.specs.declared.Command.{Command}
 use Rattle.protocol.specs.Table.{zeros, freeFile, absentSession, emptyTable, noFile, noSession, sessionAt, fileAt, padded, findSession, findFile, first, isAbsent, isFree, isStarted, withOwed, putSession, withState, putFile, moved, putFileAt, dropAt}
@@ -118,8 +117,8 @@ module _ (t : Table) (h : Sized t) (c : Command) (text scratch : List ℕ) where
     unfolding fileChecked
     checked-sized = go (unsupported c) (badPermissions (c .permissions)) (validName (stringIn scratch (c .name)))
       where
-        go : (x y z : Bool) → Obeyed c (pick x (fileStatus t (sessionAt t i) c text Status.Enotsup) (pick y (fileStatus t (sessionAt t i) c text Status.Einval)
-            (pick z (fileRoom t i c text (first isFree (sessionAt t i .files))) (fileStatus t (sessionAt t i) c text Status.Einval))))
+        go : (x y z : Bool) → Obeyed c (cond x (fileStatus t (sessionAt t i) c text Status.Enotsup) (cond y (fileStatus t (sessionAt t i) c text Status.Einval)
+            (cond z (fileRoom t i c text (first isFree (sessionAt t i .files))) (fileStatus t (sessionAt t i) c text Status.Einval))))
         go true y z = status-sized t Status.Enotsup h
         go false true z = status-sized t Status.Einval h
         go false false true = room-sized (first isFree (sessionAt t i .files))
@@ -133,7 +132,7 @@ module _ (t : Table) (h : Sized t) (c : Command) (text scratch : List ℕ) where
     unfolding fileOf
     file-command = go (eqb (length (fileIdIn c text)) 0)
       where
-        go : (b : Bool) → Obeyed c (pick b (fileStatus t (sessionAt t i) c text Status.Einval)
+        go : (b : Bool) → Obeyed c (cond b (fileStatus t (sessionAt t i) c text Status.Einval)
             (fileKnown t i c text scratch (findFile (sessionAt t i) (fileIdIn c text))))
         go true = status-sized t Status.Einval h
         go false = known-sized (findFile (sessionAt t i) (fileIdIn c text))
@@ -145,7 +144,7 @@ module _ (t : Table) (h : Sized t) (c : Command) (text scratch : List ℕ) where
     unfolding partAsked
     asked-sized j last = go (ltb 4096 (c .payload .len)) (ltb countLimit (fileAt (sessionAt t i) j .count + c .payload .len))
       where
-        go : (x y : Bool) → Obeyed c (pick x (failedFile t i j c text Status.Einval) (pick y (failedFile t i j c text Status.Efbig)
+        go : (x y : Bool) → Obeyed c (cond x (failedFile t i j c text Status.Einval) (cond y (failedFile t i j c text Status.Efbig)
             (stepped (withOwed t (writeOwed last i j (c .payload .len))) (Told.Ask (writeAsk last (c .payload))) noReply)))
         go true y = record-failed j Status.Einval
         go false true = record-failed j Status.Efbig

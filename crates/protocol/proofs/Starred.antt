@@ -1,7 +1,7 @@
 -- The starred cases hold: each by computing the definitions.
 use mathlib.Core.Path.{refl}
 use Rattle.bytes.specs.Bytes.{indexOf, indexAfter}
-use Rattle.octets.specs.Choice.{every}
+use Rattle.octets.specs.Members.{every}
 use Rattle.octets.specs.Slices.{equals, startsWith, partOf}
 use Rattle.octets.specs.Split.{split, onto, join}
 use Rattle.base64.specs.Alphabet as Alphabet

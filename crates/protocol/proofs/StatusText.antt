@@ -1,13 +1,13 @@
 -- The text of a reply: it is canonical, reads as the command that its fields say, and has at most 124 bytes with opener and closer.
 use Prim.Native.Nat.{ℕ, suc, _+_, _^_, _≤_, _<_}
 use mathlib.Core.Path.{_≡_, refl}
-use mathlib.Core.Bool.{Bool, true, false}
+use mathlib.Core.Bool.{Bool, true, false, cond}
 use mathlib.Core.List.{List, [], _∷_, _++_}
 use native.Mathlib.Omega.{arith}
 use lib.ListN.{length, length-append}
 use lib.Dec.{eqb, lit≤}
 use borrow.Author.Tests.{le-ltb, ne-eqb}
-use Rattle.octets.specs.Choice.{pick, every}
+use Rattle.octets.specs.Members.{every}
 use Rattle.octets.specs.Ascii.{ascii}
 use Rattle.octets.specs.Split.{split, onto, join}
 use Rattle.base64.specs.Encode as Base64
@@ -72,7 +72,7 @@ size-shown : (n : ℕ) → n ≤ countLimit → shown Kind.integer (Value.number
 unfolding shown integerShown Decimal.writable
 size-shown n h = rw (le-ltb 9223372036854775807 n (omega arith)) (go (eqb n 0))
   where
-    go : (b : Bool) → pick b Shown.leftOut (Shown.text (Decimal.textOf (count n))) ≡ textOr (pick b [] (Decimal.textOf (count n)))
+    go : (b : Bool) → cond b Shown.leftOut (Shown.text (Decimal.textOf (count n))) ≡ textOr (cond b [] (Decimal.textOf (count n)))
     go true = refl
     go false = rw (text-some (Decimal.textOf (count n)) (text-length (count n) .0))
 
@@ -124,7 +124,7 @@ size-length : (n : ℕ) → n ≤ countLimit → length (sizeText n) ≤ 13
 unfolding Decimal.textOf
 size-length n h = go (eqb n 0) (Decimal.writable (count n))
   where
-    go : (b w : Bool) → length (pick b [] (pick w (Decimal.textOf (count n)) [])) ≤ 13
+    go : (b w : Bool) → length (cond b [] (cond w (Decimal.textOf (count n)) [])) ≤ 13
     go true w = omega arith
     go false false = omega arith
     go false true =

@@ -1,11 +1,10 @@
 -- The invariant of a world: what a fresh receiver has, and a console call keeps.
 use Prim.Native.Nat.{ℕ}
 use mathlib.Core.Path.{_≡_, refl, sym, _∙_}
-use mathlib.Core.Bool.{Bool, true, false}
+use mathlib.Core.Bool.{Bool, true, false, cond}
 use mathlib.Core.List.{List, [], _∷_}
 use lib.ListN.{length}
 use lib.Dec.{ltb}
-use Rattle.octets.specs.Choice.{pick}
 use Rattle.octets.specs.Outcome.{Outcome, outcome}
 use Rattle.frames.specs.Stream.{stream}
 use Rattle.frames.specs.Follows.{Follows}
@@ -51,7 +50,7 @@ by-guard P w s reply short taken = go (ltb (length reply) 124)
     no : Outcome Answered
     no = outcome (answeredBy (w .receiver .framing) (refused (w .receiver .table) 9) 0) reply
 
-    go : (b : Bool) → P (pick b no (replied (w .receiver .framing) s reply) .answer)
+    go : (b : Bool) → P (cond b no (replied (w .receiver .framing) s reply) .answer)
     go true = short
     go false = taken (repliedOf (s .reply) reply .answer)
 
@@ -62,12 +61,12 @@ module _ {w : World} (ok : WorldOK w) (e : Event) (x : Mark) (bytes : bytesOf (e
       → WorldOK (afterCall w (answeredBy (w .receiver .framing) s n) (noted (s .told) e (w .history)))
   noted-ok s n t = record { follows = kept (isRefused (s .told)); table = moved (isRefused (s .told)) t }
     where
-      kept : (b : Bool) → Follows (w .receiver .framing) (w .carry) (modeAfter (pick b (w .history) (e ∷ w .history)))
+      kept : (b : Bool) → Follows (w .receiver .framing) (w .carry) (modeAfter (cond b (w .history) (e ∷ w .history)))
       kept true = ok .follows
       kept false = rw (modeAfter, bytes) (ok .follows)
 
-      moved : (b : Bool) → TableOK (s .table) (pick b (marksOf (w .history)) (x ∷ marksOf (w .history)))
-          → TableOK (s .table) (marksOf (pick b (w .history) (e ∷ w .history)))
+      moved : (b : Bool) → TableOK (s .table) (cond b (marksOf (w .history)) (x ∷ marksOf (w .history)))
+          → TableOK (s .table) (marksOf (cond b (w .history) (e ∷ w .history)))
       moved true h = h
       moved false h = rw marks h
 

@@ -1,9 +1,8 @@
 -- The action table, "the whole rule for the three session states".
 use Prim.Native.Nat.{ℕ}
-use mathlib.Core.Bool.{Bool, true, false}
+use mathlib.Core.Bool.{Bool, true, false, cond, _&&_}
 use mathlib.Core.List.{List, [], _∷_}
 use lib.Dec.{eqb}
-use Rattle.octets.specs.Choice.{pick, both}
 use Rattle.command.specs.Slots.{actionCode}
 use Rattle.command.specs.declared.Action.{Action}
 use Rattle.command.specs.declared.Action.the-variants as Action
@@ -49,19 +48,19 @@ rows =
 
 abbrev pub oneOf : List Action → Action → Bool
 oneOf [] a = false
-oneOf (x ∷ xs) a = pick (eqb (actionCode x) (actionCode a)) true (oneOf xs a)
+oneOf (x ∷ xs) a = cond (eqb (actionCode x) (actionCode a)) true (oneOf xs a)
 
 abbrev pub among : Commands → Action → Bool
 among (these xs) a = oneOf xs a
 among others a = true
 
 abbrev pub applies : Row → SessionState → Action → Bool
-applies r s a = both (eqb (stateNumber (r .session)) (stateNumber s)) (among (r .commands) a)
+applies r s a = eqb (stateNumber (r .session)) (stateNumber s) && among (r .commands) a
 
 -- the first row that applies; a command without an action, which no text gives, is ignored
 unfoldable pub resultIn : List Row → SessionState → Action → Kind
 resultIn [] s a = Kind.Ignore
-resultIn (r ∷ rs) s a = pick (applies r s a) (r .result) (resultIn rs s a)
+resultIn (r ∷ rs) s a = cond (applies r s a) (r .result) (resultIn rs s a)
 
 unfoldable pub kindOf : SessionState → Action → Kind
 kindOf s Action.None = Kind.Ignore

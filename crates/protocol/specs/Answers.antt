@@ -1,9 +1,8 @@
 -- The console's calls on the table: done, failed, allow, deny, drop.
 use Prim.Native.Nat.{ℕ, _+_, min}
-use mathlib.Core.Bool.{Bool, true, false}
+use mathlib.Core.Bool.{Bool, true, false, cond}
 use mathlib.Core.List.{List}
 use lib.Dec.{eqb}
-use Rattle.octets.specs.Choice.{pick}
 use Rattle.protocol.specs.Table.{sessionAt, fileAt, findSession, putSession, putFileAt, withOwed, withState, moved, dropAt}
 use Rattle.protocol.specs.Replies.{failureStatus, noReply, sessionReply, fileReply}
 use Rattle.protocol.specs.Files.{stepped, countLimit}
@@ -93,11 +92,11 @@ denyFound t (Found.At i) = denyState t i (sessionAt t i .state)
 -- "what that session owed is cleared"
 abbrev pub cleared : ℕ → Owed → Owed
 cleared i Owed.Nothing = Owed.Nothing
-cleared i (Owed.OpenFile k j) = pick (eqb k i) Owed.Nothing (Owed.OpenFile k j)
-cleared i (Owed.OpenDirectory k j) = pick (eqb k i) Owed.Nothing (Owed.OpenDirectory k j)
-cleared i (Owed.Write k j n) = pick (eqb k i) Owed.Nothing (Owed.Write k j n)
-cleared i (Owed.WriteLast k j n) = pick (eqb k i) Owed.Nothing (Owed.WriteLast k j n)
-cleared i (Owed.Commit k) = pick (eqb k i) Owed.Nothing (Owed.Commit k)
+cleared i (Owed.OpenFile k j) = cond (eqb k i) Owed.Nothing (Owed.OpenFile k j)
+cleared i (Owed.OpenDirectory k j) = cond (eqb k i) Owed.Nothing (Owed.OpenDirectory k j)
+cleared i (Owed.Write k j n) = cond (eqb k i) Owed.Nothing (Owed.Write k j n)
+cleared i (Owed.WriteLast k j n) = cond (eqb k i) Owed.Nothing (Owed.WriteLast k j n)
+cleared i (Owed.Commit k) = cond (eqb k i) Owed.Nothing (Owed.Commit k)
 
 -- "The console may drop any session present, with no reply"
 abbrev pub dropFound : Table → Found → Stepped

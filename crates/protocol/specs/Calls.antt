@@ -1,10 +1,9 @@
 -- The calls: for any receiver and any lent buffers, the answer and every buffer afterwards.
 use Prim.Native.Nat.{ℕ}
-use mathlib.Core.Bool.{Bool, true, false}
+use mathlib.Core.Bool.{Bool, true, false, cond, _||_}
 use mathlib.Core.List.{List}
 use lib.ListN.{length}
 use lib.Dec.{ltb}
-use Rattle.octets.specs.Choice.{pick, either}
 use Rattle.octets.specs.Outcome.{Outcome, outcome}
 use Rattle.frames.specs.Stream.{textLimit}
 use Rattle.frames.specs.Calls.{refusalNumber, scanOf, textOf}
@@ -110,13 +109,13 @@ scannedFeed t piece k scratch reply =
 -- "carry under 8,192, scratch under 6,144 or reply buffer under 124 bytes"
 abbrev pub isShort : List ℕ → List ℕ → List ℕ → Bool
 isShort carry scratch reply =
-    either (ltb (length carry) textLimit) (either (ltb (length scratch) scratchRoom) (ltb (length reply) replyRoom))
+    ltb (length carry) textLimit || (ltb (length scratch) scratchRoom || ltb (length reply) replyRoom)
 
 -- 9 first, then 10: "feed while an answer is owed"
 unfoldable pub feedOf : Receiver → List ℕ → List ℕ → List ℕ → List ℕ → Feeding
 feedOf r piece carry scratch reply =
-    pick (isShort carry scratch reply) (feeding (feedRefused r 9) carry scratch reply)
-    (pick (isOwed (r .table .owed)) (feeding (feedRefused r 10) carry scratch reply)
+    cond (isShort carry scratch reply) (feeding (feedRefused r 9) carry scratch reply)
+    (cond (isOwed (r .table .owed)) (feeding (feedRefused r 10) carry scratch reply)
     (scannedFeed (r .table) piece (scanOf (r .framing) piece carry) scratch reply))
 
 -- ---- the console's calls
@@ -130,7 +129,7 @@ replied f s reply = let b = repliedOf (s .reply) reply in outcome (answeredBy f 
 -- 9 first: "reply buffer under 124 bytes"
 unfoldable pub guarded : Receiver → Stepped → List ℕ → Outcome Answered
 guarded r s reply =
-    pick (ltb (length reply) replyRoom)
+    cond (ltb (length reply) replyRoom)
     (outcome (answeredBy (r .framing) (refused (r .table) 9) 0) reply)
     (replied (r .framing) s reply)
 

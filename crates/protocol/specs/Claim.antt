@@ -1,13 +1,12 @@
 -- Demand 3, of a machine: every list of calls from a fresh receiver, and what holds at each of them.
 use Prim.Native.Nat.{ℕ, _+_, _≤_, _<_}
 use mathlib.Core.Path.{_≡_}
-use mathlib.Core.Bool.{Bool, true, false}
+use mathlib.Core.Bool.{Bool, true, false, cond, _&&_}
 use mathlib.Core.Logic.{_⊎_}
 use mathlib.Core.Option.{Option}
 use mathlib.Core.List.{List, [], _∷_}
 use lib.ListN.{length, take}
 use lib.Dec.{eqb}
-use Rattle.octets.specs.Choice.{pick, both}
 use Rattle.octets.specs.Ascii.{ascii}
 use Rattle.octets.specs.Slices.{equals}
 use Rattle.octets.specs.Outcome.{Outcome}
@@ -36,8 +35,8 @@ isDone FileState.Failed = false
 -- the record f of the session s has these ids, and is done with count n; the session has that quiet
 abbrev pub isDoneAs : Key → ℕ → ℕ → Session → FileRecord → Bool
 isDoneAs k n quiet s f =
-    both (isDone (f .state)) (both (equals (Table.idOf s) (k .id))
-    (both (equals (Table.fileIdOf f) (k .file)) (both (eqb (f .count) n) (eqb (s .quiet) quiet))))
+    isDone (f .state) && (equals (Table.idOf s) (k .id) &&
+    (equals (Table.fileIdOf f) (k .file) && (eqb (f .count) n && eqb (s .quiet) quiet)))
 
 -- how many there are: a sum over the sessions, of sums over their files
 abbrev pub total : {A : Type 0} → (A → ℕ) → List A → ℕ
@@ -45,7 +44,7 @@ total g [] = 0
 total g (x ∷ xs) = g x + total g xs
 
 abbrev pub doneIn : Key → ℕ → ℕ → Session → ℕ
-doneIn k n quiet s = total (λ (f : FileRecord). pick (isDoneAs k n quiet s f) 1 0) (s .files)
+doneIn k n quiet s = total (λ (f : FileRecord). cond (isDoneAs k n quiet s f) 1 0) (s .files)
 
 abbrev pub doneAs : Key → ℕ → ℕ → Table → ℕ
 doneAs k n quiet t = total (doneIn k n quiet) (t .sessions)

@@ -1,11 +1,10 @@
 -- "The reports, places apart, are the same however the bytes are cut, given the same console calls after the same reports."
 use Prim.Native.Nat.{ℕ, suc}
 use mathlib.Core.Path.{_≡_}
-use mathlib.Core.Bool.{Bool, true, false}
+use mathlib.Core.Bool.{Bool, true, false, cond}
 use mathlib.Core.List.{List, [], _∷_, _++_}
 use lib.ListN.{length, take}
 use lib.Dec.{ltb}
-use Rattle.octets.specs.Choice.{pick}
 use Rattle.octets.specs.Outcome.{Outcome}
 use Rattle.frames.specs.Calls.{textOf}
 use Rattle.frames.specs.declared.Report.{Report}
@@ -91,12 +90,12 @@ abbrev pub reportOf : List ℕ → Feeding → List Output
 reportOf piece f =
     let text = textOf piece (f .carry) (f .fed .report) in
     let command = valuesOf (f .fed .command) text (f .scratch) in
-    pick (isReport (f .fed .report)) (reporting text command (saying (f .fed .told) (f .scratch)) (take (f .fed .«reply_len») (f .reply)) ∷ []) []
+    cond (isReport (f .fed .report)) (reporting text command (saying (f .fed .told) (f .scratch)) (take (f .fed .«reply_len») (f .reply)) ∷ []) []
 
 -- of a console call that was lent that buffer: its answer; none of one refused with 9
 abbrev pub answerOf : Move → List ℕ → Outcome Answered → List Output
 answerOf m lent a =
-    pick (ltb (length lent) replyRoom) [] (answering m (a .answer .told) (take (a .answer .«reply_len») (a .buffer)) ∷ [])
+    cond (ltb (length lent) replyRoom) [] (answering m (a .answer .told) (take (a .answer .«reply_len») (a .buffer)) ∷ [])
 
 abbrev pub given : Machine → World → Call → List Output
 given m w (Call.feed piece carry scratch reply) = reportOf piece (m .feeds (w .receiver) piece carry scratch reply)
@@ -123,7 +122,7 @@ AllLent m w (c ∷ cs) = Lent m w c × AllLent m (step m w c) cs
 -- "the same console calls after the same reports": the console's calls alone, each with the number of reports before it, n of them so far
 abbrev pub consoleCalls : ℕ → List Output → List (ℕ × Move)
 consoleCalls n [] = []
-consoleCalls n (o ∷ os) = pick (isReportMove (o .move)) (consoleCalls (suc n) os) ((n, o .move) ∷ consoleCalls n os)
+consoleCalls n (o ∷ os) = cond (isReportMove (o .move)) (consoleCalls (suc n) os) ((n, o .move) ∷ consoleCalls n os)
 
 -- two lists of calls, from a fresh receiver and any first carry each, that consume the same bytes, and in which the console makes the same
 -- calls after as many reports: they give the same, reports and answers, and leave the same receiver

@@ -1,10 +1,9 @@
 -- The rules for file, data, end_data and finish in an open session.
 use Prim.Native.Nat.{ℕ, _+_}
-use mathlib.Core.Bool.{Bool, true, false}
+use mathlib.Core.Bool.{Bool, true, false, cond, _&&_, _||_}
 use mathlib.Core.List.{List}
 use lib.ListN.{length}
 use lib.Dec.{ltb, eqb}
-use Rattle.octets.specs.Choice.{pick, both, either}
 use Rattle.octets.specs.Slices.{partOf}
 use Rattle.decimal.specs.declared.Number.{Number}
 use Rattle.pathname.specs.Name.{validName}
@@ -71,11 +70,11 @@ isRsync Transmission.Simple = false
 isRsync Transmission.Rsync = true
 
 abbrev pub unsupported : Command → Bool
-unsupported c = either (linkLike (c .«file_type»)) (isRsync (c .transmission))
+unsupported c = linkLike (c .«file_type») || isRsync (c .transmission)
 
 -- "prm outside 0 to 4095"
 abbrev pub badPermissions : Number → Bool
-badPermissions n = either (n .negative) (ltb 4095 (n .magnitude))
+badPermissions n = n .negative || ltb 4095 (n .magnitude)
 
 -- what is owed for the open of a file type
 abbrev pub openOwed : FileType → ℕ → ℕ → Owed
@@ -96,9 +95,9 @@ fileRoom t i c text (Found.At j) =
 -- "symlink, link or rsync ENOTSUP; prm outside 0 to 4095 EINVAL; bad name EINVAL"
 unfoldable pub fileChecked : Table → ℕ → Command → List ℕ → List ℕ → Stepped
 fileChecked t i c text scratch =
-    pick (unsupported c) (fileStatus t (sessionAt t i) c text Status.Enotsup)
-    (pick (badPermissions (c .permissions)) (fileStatus t (sessionAt t i) c text Status.Einval)
-    (pick (validName (stringIn scratch (c .name)))
+    cond (unsupported c) (fileStatus t (sessionAt t i) c text Status.Enotsup)
+    (cond (badPermissions (c .permissions)) (fileStatus t (sessionAt t i) c text Status.Einval)
+    (cond (validName (stringIn scratch (c .name)))
     (fileRoom t i c text (first isFree (sessionAt t i .files)))
     (fileStatus t (sessionAt t i) c text Status.Einval)))
 
@@ -110,7 +109,7 @@ fileKnown t i c text scratch (Found.At j) = fileStatus t (sessionAt t i) c text 
 -- "empty fid EINVAL"
 unfoldable pub fileOf : Table → ℕ → Command → List ℕ → List ℕ → Stepped
 fileOf t i c text scratch =
-    pick (eqb (length (fileIdIn c text)) 0) (fileStatus t (sessionAt t i) c text Status.Einval)
+    cond (eqb (length (fileIdIn c text)) 0) (fileStatus t (sessionAt t i) c text Status.Einval)
     (fileKnown t i c text scratch (findFile (sessionAt t i) (fileIdIn c text)))
 
 -- ---- data, end_data
@@ -140,8 +139,8 @@ countLimit = 1099511627776
 -- "Over 4,096 decoded bytes: record failed, EINVAL. Count would pass 2^40: record failed, EFBIG. Else a write is asked."
 unfoldable pub partAsked : Table → ℕ → ℕ → Bool → Command → List ℕ → Stepped
 partAsked t i j last c text =
-    pick (ltb partLimit (c .payload .len)) (failedFile t i j c text Status.Einval)
-    (pick (ltb countLimit (fileAt (sessionAt t i) j .count + c .payload .len)) (failedFile t i j c text Status.Efbig)
+    cond (ltb partLimit (c .payload .len)) (failedFile t i j c text Status.Einval)
+    (cond (ltb countLimit (fileAt (sessionAt t i) j .count + c .payload .len)) (failedFile t i j c text Status.Efbig)
     (stepped (withOwed t (writeOwed last i j (c .payload .len))) (Told.Ask (writeAsk last (c .payload))) noReply))
 
 -- "no such record, or not started: ignored, no reply"

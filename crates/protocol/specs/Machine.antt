@@ -1,12 +1,11 @@
 -- A machine is six calls; and what a list of calls on it does, one after another.
 use Prim.Native.Nat.{ℕ}
 use mathlib.Core.Path.{_≡_}
-use mathlib.Core.Bool.{Bool, true, false}
+use mathlib.Core.Bool.{Bool, true, false, cond, _||_}
 use mathlib.Core.Option.{Option}
 use mathlib.Core.List.{List, [], _∷_}
 use lib.ListN.{take}
 use lib.Dec.{eqb}
-use Rattle.octets.specs.Choice.{pick, either}
 use Rattle.octets.specs.Outcome.{Outcome}
 use Rattle.protocol.specs.Table.{freshReceiver}
 use Rattle.protocol.specs.Calls.{Feeding, feedOf, allowOf, denyOf, dropOf, doneOf, failedOf}
@@ -63,7 +62,7 @@ isUnfed w = go (refusalTold w)
   where
     go : Option ℕ → Bool
     go Option.none = false
-    go (Option.some n) = either (eqb n 9) (eqb n 10)
+    go (Option.some n) = eqb n 9 || eqb n 10
 
 -- of any other call: every one
 abbrev pub isRefused : Told → Bool
@@ -78,13 +77,13 @@ abbrev pub afterFeed : World → List ℕ → Feeding → World
 afterFeed w piece f =
     record {
       receiver = f .fed .receiver;
-      carry = pick (isUnfed (f .fed .told)) (w .carry) (f .carry);
+      carry = cond (isUnfed (f .fed .told)) (w .carry) (f .carry);
       history = Event.fed (take (f .fed .consumed) piece) (hearing (f .fed .told) (f .scratch)) ∷ w .history;
     }
 
 -- "deny, and any of these refused, adds nothing"
 abbrev pub noted : Told → Event → List Event → List Event
-noted t e h = pick (isRefused t) h (e ∷ h)
+noted t e h = cond (isRefused t) h (e ∷ h)
 
 abbrev pub afterCall : World → Answered → List Event → World
 afterCall w a h = record { receiver = a .receiver; carry = w .carry; history = h }

@@ -1,10 +1,9 @@
 -- Replies: their words, when quiet holds them back, and their bytes.
 use Prim.Native.Nat.{ℕ}
-use mathlib.Core.Bool.{Bool, true, false}
+use mathlib.Core.Bool.{Bool, true, false, cond, _&&_, _||_}
 use mathlib.Core.List.{List, [], _∷_, _++_}
 use lib.ListN.{take, length}
 use lib.Dec.{leb, eqb}
-use Rattle.octets.specs.Choice.{pick, both, either}
 use Rattle.octets.specs.Ascii.{ascii}
 use Rattle.octets.specs.Split.{join}
 use Rattle.octets.specs.Outcome.{Outcome, storedAt}
@@ -61,7 +60,7 @@ isProgress Status.Efbig = false
 
 -- "quiet 2 holds back all"
 abbrev pub isHeld : Status → ℕ → Bool
-isHeld s quiet = either (leb 2 quiet) (both (leb 1 quiet) (isProgress s))
+isHeld s quiet = leb 2 quiet || (leb 1 quiet && isProgress s)
 
 -- "No reply is longer than 124 bytes": what a reply buffer has at least
 abbrev pub replyRoom : ℕ
@@ -90,7 +89,7 @@ unlessEmpty name (x ∷ v) fs = (name ++ 61 ∷ x ∷ v) ∷ fs
 
 -- the digits of a size; none for 0, nor for a size that is no integer "within signed 64 bits"
 abbrev pub sizeText : ℕ → List ℕ
-sizeText n = pick (eqb n 0) [] (pick (Decimal.writable (count n)) (Decimal.textOf (count n)) [])
+sizeText n = cond (eqb n 0) [] (cond (Decimal.writable (count n)) (Decimal.textOf (count n)) [])
 
 abbrev pub statusFields : List ℕ → List ℕ → ℕ → List ℕ → List (List ℕ)
 statusFields id file size word =
@@ -118,7 +117,7 @@ framed t = 0x1B ∷ 0x5D ∷ t ++ 0x1B ∷ 0x5C ∷ []
 -- the bytes of a reply: none where none is due or quiet holds it back
 unfoldable pub replyBytes : Reply → List ℕ
 replyBytes r =
-    pick (both (r .due) (pick (isHeld (r .status) (r .quiet)) false true))
+    cond (r .due && cond (isHeld (r .status) (r .quiet)) false true)
     (framed (statusText (take (r .«id_len») (r .id)) (take (r .«file_id_len») (r .«file_id»)) (r .size) (statusWord (r .status))))
     []
 

@@ -1,11 +1,10 @@
 -- A file in the history: what was read, handed over and answered for it since its latest start, and whether its session stands.
 use Prim.Native.Nat.{ℕ}
 use mathlib.Core.Path.{_≡_}
-use mathlib.Core.Bool.{Bool, true, false, not}
+use mathlib.Core.Bool.{Bool, true, false, not, cond, _&&_, _||_}
 use mathlib.Core.Option.{Option}
 use mathlib.Core.List.{List, [], _∷_, _++_}
 use lib.Dec.{eqb}
-use Rattle.octets.specs.Choice.{pick, both, either}
 use Rattle.octets.specs.Slices.{equals}
 use Rattle.command.specs.Meaning.{actionCode, fileTypeCode, idOf, fileIdOf, dataOf}
 use Rattle.protocol.specs.History.{Command, Heard, Mark, Question, lastRead}
@@ -16,17 +15,17 @@ pub record Key : Type 0 where
   pub file : List ℕ
 
 abbrev pub isFor : Key → Command → Bool
-isFor k c = both (equals (k .id) (idOf c)) (equals (k .file) (fileIdOf c))
+isFor k c = equals (k .id) (idOf c) && equals (k .file) (fileIdOf c)
 
 -- codes of the words, as `command`'s table counts them: "file", "data", "end_data", "finish", "cancel"; "regular", "directory"
 abbrev pub isData : Command → Bool
-isData c = either (eqb (actionCode c) 4) (eqb (actionCode c) 5)
+isData c = eqb (actionCode c) 4 || eqb (actionCode c) 5
 
 abbrev pub isFile : Command → Bool
 isFile c = eqb (actionCode c) 3
 
 abbrev pub isEnd : Command → Bool
-isEnd c = either (eqb (actionCode c) 6) (eqb (actionCode c) 7)
+isEnd c = eqb (actionCode c) 6 || eqb (actionCode c) 7
 
 abbrev pub isRegular : Command → Bool
 isRegular c = eqb (fileTypeCode c) 0
@@ -37,7 +36,7 @@ isDirectory c = eqb (fileTypeCode c) 1
 -- "A regular file starts when the open for its file command is answered done"
 abbrev pub startsFor : Key → Question → Bool
 startsFor k Question.none = false
-startsFor k (Question.asks c Heard.opens) = both (isFile c) (both (isRegular c) (isFor k c))
+startsFor k (Question.asks c Heard.opens) = isFile c && (isRegular c && isFor k c)
 startsFor k (Question.asks c (Heard.writes p)) = false
 startsFor k (Question.asks c (Heard.writesLast p)) = false
 startsFor k (Question.asks c Heard.commits) = false
@@ -46,13 +45,13 @@ startsFor k (Question.asks c Heard.commits) = false
 abbrev pub partFor : Key → Question → List ℕ
 partFor k Question.none = []
 partFor k (Question.asks c Heard.opens) = []
-partFor k (Question.asks c (Heard.writes p)) = pick (isFor k c) p []
-partFor k (Question.asks c (Heard.writesLast p)) = pick (isFor k c) p []
+partFor k (Question.asks c (Heard.writes p)) = cond (isFor k c) p []
+partFor k (Question.asks c (Heard.writesLast p)) = cond (isFor k c) p []
 partFor k (Question.asks c Heard.commits) = []
 
 -- "Content is the decoded d" of a data or end_data command read for the file
 abbrev pub contentFor : Key → Command → List ℕ
-contentFor k c = pick (both (isData c) (isFor k c)) (dataOf c) []
+contentFor k c = cond (isData c && isFor k c) (dataOf c) []
 
 -- ---- "since its latest start"
 -- the command that started a file, and the marks since, newest first
@@ -68,7 +67,7 @@ startAt k (Mark.allow i) = Option.none
 startAt k (Mark.drop i) = Option.none
 startAt k (Mark.answer false q) = Option.none
 startAt k (Mark.answer true Question.none) = Option.none
-startAt k (Mark.answer true (Question.asks c a)) = pick (startsFor k (Question.asks c a)) (Option.some c) Option.none
+startAt k (Mark.answer true (Question.asks c a)) = cond (startsFor k (Question.asks c a)) (Option.some c) Option.none
 
 -- one mark more
 abbrev pub longer : Mark → Stretch → Stretch
@@ -116,7 +115,7 @@ allows i (Mark.answer b q) = false
 
 abbrev pub allowedIn : List ℕ → List Mark → Bool
 allowedIn i [] = false
-allowedIn i (x ∷ l) = either (allows i x) (allowedIn i l)
+allowedIn i (x ∷ l) = allows i x || allowedIn i l
 
 -- a regular start of the file stands: its session was not allowed anew since
 abbrev pub startStands : Key → Option Stretch → Bool
@@ -126,10 +125,10 @@ startStands k (Option.some s) = not (allowedIn (k .id) (s .marks))
 -- "A session is allowed by a noted allow and stands until a noted drop, or until a cancel or finish is read for it"
 abbrev pub stands : List ℕ → List Mark → Bool
 stands i [] = false
-stands i (Mark.read c ∷ m) = pick (both (isEnd c) (equals i (idOf c))) false (stands i m)
+stands i (Mark.read c ∷ m) = cond (isEnd c && equals i (idOf c)) false (stands i m)
 stands i (Mark.asked a ∷ m) = stands i m
-stands i (Mark.allow j ∷ m) = pick (equals i j) true (stands i m)
-stands i (Mark.drop j ∷ m) = pick (equals i j) false (stands i m)
+stands i (Mark.allow j ∷ m) = cond (equals i j) true (stands i m)
+stands i (Mark.drop j ∷ m) = cond (equals i j) false (stands i m)
 stands i (Mark.answer b q ∷ m) = stands i m
 
 -- "No part is handed over outside a session that the user allowed and that still stands": at an ask, and at every one so far

@@ -1,9 +1,8 @@
 -- The table of sessions: room, ids, finding, and what is put back.
 use Prim.Native.Nat.{ℕ, zero, suc}
-use mathlib.Core.Bool.{Bool, true, false}
+use mathlib.Core.Bool.{Bool, true, false, cond, _&&_}
 use mathlib.Core.List.{List, [], _∷_, _++_}
 use lib.ListN.{take, getD, set, replicate}
-use Rattle.octets.specs.Choice.{pick, both}
 use Rattle.octets.specs.Slices.{equals}
 use Rattle.frames.specs.declared.Framing.the-variants as Framing
 use Rattle.protocol.specs.declared.FileState.{FileState}
@@ -89,7 +88,7 @@ isPresent SessionState.Asked = true
 isPresent SessionState.Open = true
 
 abbrev pub isAbsent : Session → Bool
-isAbsent s = pick (isPresent (s .state)) false true
+isAbsent s = cond (isPresent (s .state)) false true
 
 abbrev pub isUsed : FileState → Bool
 isUsed FileState.Free = false
@@ -99,7 +98,7 @@ isUsed FileState.Done = true
 isUsed FileState.Failed = true
 
 abbrev pub isFree : FileRecord → Bool
-isFree f = pick (isUsed (f .state)) false true
+isFree f = cond (isUsed (f .state)) false true
 
 abbrev pub isStartedState : FileState → Bool
 isStartedState FileState.Free = false
@@ -113,10 +112,10 @@ isStarted f = isStartedState (f .state)
 
 -- "Ids match only if length and all bytes agree"
 abbrev pub hasId : List ℕ → Session → Bool
-hasId k s = both (isPresent (s .state)) (equals (idOf s) k)
+hasId k s = isPresent (s .state) && equals (idOf s) k
 
 abbrev pub hasFileId : List ℕ → FileRecord → Bool
-hasFileId k f = both (isUsed (f .state)) (equals (fileIdOf f) k)
+hasFileId k f = isUsed (f .state) && equals (fileIdOf f) k
 
 -- the place of a session by its id, and of a file of it by its id
 abbrev pub findSession : Table → List ℕ → Found

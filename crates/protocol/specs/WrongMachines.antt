@@ -1,9 +1,9 @@
 -- Wrong receivers, made by wrapping our calls, each with one error. A claim that held of one of them would be worth nothing; `Teeth` says
 -- that the claims are false of each.
+use mathlib.Core.Bool.{cond}
 use Prim.Native.Nat.{ℕ, zero, suc}
 use mathlib.Core.List.{List, [], _∷_}
 use lib.ListN.{length}
-use Rattle.octets.specs.Choice.{pick}
 use Rattle.octets.specs.Ascii.{ascii}
 use Rattle.octets.specs.Outcome.{Outcome, outcome}
 use Rattle.octets.specs.Slices.{equals}
@@ -98,7 +98,7 @@ replying n f =
 abbrev pub mistaking : List ℕ → List ℕ → (Receiver → Receiver) → Machine
 mistaking one other f =
     feedingBy (λ r piece carry scratch reply.
-    pick (equals piece one) (consuming (length one) (feedOf (f r) other carry scratch reply)) (feedOf r piece carry scratch reply))
+    cond (equals piece one) (consuming (length one) (feedOf (f r) other carry scratch reply)) (feedOf r piece carry scratch reply))
 
 -- done answers as if the table were another
 abbrev pub answeringOf : (Table → Owed → Table) → Machine
@@ -190,7 +190,7 @@ deaf = mistaking cancelPiece statusPiece (λ r. r)
 abbrev pub closerLost : Machine
 closerLost =
     feedingBy (λ r piece carry scratch reply.
-    pick (equals piece (0x5C ∷ [])) (feedOf (record { framing = Framing.Plain; table = r .table }) piece carry scratch reply)
+    cond (equals piece (0x5C ∷ [])) (feedOf (record { framing = Framing.Plain; table = r .table }) piece carry scratch reply)
     (feedOf r piece carry scratch reply))
 
 -- ---- single calls
@@ -199,14 +199,14 @@ abbrev pub hungry : Machine
 hungry =
     feedingBy (λ r piece carry scratch reply.
     let f = feedOf r piece carry scratch reply in
-    pick (isUnfed (f .fed .told)) (consuming 1 f) f)
+    cond (isUnfed (f .fed .told)) (consuming 1 f) f)
 
 -- a feed that is refused answers a reply
 abbrev pub talking : Machine
 talking =
     feedingBy (λ r piece carry scratch reply.
     let f = feedOf r piece carry scratch reply in
-    pick (isUnfed (f .fed .told)) (replying 1 f) f)
+    cond (isUnfed (f .fed .told)) (replying 1 f) f)
 
 -- a feed that is not refused takes none
 abbrev pub stalling : Machine

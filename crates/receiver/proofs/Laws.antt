@@ -1,11 +1,10 @@
 -- What a console's loop needs of a feed: it consumes no more than its piece.
 use Prim.Native.Nat.{ℕ, _≤_}
 use mathlib.Core.Path.{_≡_, ap}
-use mathlib.Core.Bool.{Bool, true, false}
+use mathlib.Core.Bool.{Bool, true, false, cond}
 use mathlib.Core.List.{List}
 use native.Mathlib.Omega.{arith}
 use lib.ListN.{length}
-use Rattle.octets.specs.Choice.{pick}
 use Rattle.frames.specs.Calls.{scanOf}
 use Rattle.frames.proofs.CallLaws.{consumed-le}
 use Rattle.protocol.specs.Calls.{Feeding, feeding, feedRefused, isShort, isOwed, scannedFeed, feedOf}
@@ -17,8 +16,8 @@ unfolding feedOf scannedFeed
 feed-consumed r piece carry scratch reply = go (isShort carry scratch reply) (isOwed (r .table .owed))
   where
     go : (s o : Bool)
-        → pick s (feeding (feedRefused r 9) carry scratch reply)
-        (pick o (feeding (feedRefused r 10) carry scratch reply)
+        → cond s (feeding (feedRefused r 9) carry scratch reply)
+        (cond o (feeding (feedRefused r 10) carry scratch reply)
         (scannedFeed (r .table) piece (scanOf (r .framing) piece carry) scratch reply)) .fed .consumed
         ≤ length piece
     go true o = omega arith

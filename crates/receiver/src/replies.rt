@@ -1,8 +1,8 @@
 // A step's end: its reply stored in the lent buffer, and the answer put together.
+ghost use mathlib.Core.Bool.{_||_};
 ghost use mathlib.Core.Path.{_≡_};
 ghost use Prim.Native.Nat.{ℕ};
 ghost use lib.Dec.{ltb};
-ghost use Rattle.octets.specs.Choice.{either};
 ghost use Rattle.octets.specs.Outcome.{outcome};
 ghost use Rattle.frames.specs.Stream.{textLimit};
 ghost use Rattle.command.specs.Read.{scratchRoom};
@@ -24,7 +24,7 @@ use protocol::Told;
 
 // Whether a buffer is too short for a feed.
 pub(crate) fn is_short(carry: usize, scratch: usize, reply: usize) -> bool
-    ensures { λ r. ⌜ r ≡ either (ltb carry textLimit) (either (ltb scratch scratchRoom) (ltb reply replyRoom)) ⌝ }
+    ensures { λ r. ⌜ r ≡ (ltb carry textLimit || (ltb scratch scratchRoom || ltb reply replyRoom)) ⌝ }
 {
     if carry < Framing::TEXT_LIMIT {
         return true;

@@ -1,11 +1,10 @@
 -- The parts of a reply, one after another, are its bytes.
 use Prim.Native.Nat.{ℕ, _+_}
 use mathlib.Core.Path.{_≡_, refl, sym}
-use mathlib.Core.Bool.{Bool, true, false}
+use mathlib.Core.Bool.{Bool, true, false, cond, _&&_}
 use mathlib.Core.List.{List, [], _∷_, _++_, append-assoc, append-nil}
 use native.Mathlib.Omega.{arith}
 use lib.ListN.{length, length-append, take}
-use Rattle.octets.specs.Choice.{pick, both}
 use Rattle.octets.specs.Ascii.{ascii}
 use Rattle.octets.specs.Split.{join}
 use Rattle.base64.specs.Encode as Base64
@@ -70,6 +69,6 @@ pub held : (r : Reply) → isHeld (r .status) (r .quiet) ≡ true → replyBytes
 unfolding replyBytes
 held r h = rw h (none (r .due) _)
   where
-    none : (t : Bool) (bs : List ℕ) → pick (both t false) bs [] ≡ []
+    none : (t : Bool) (bs : List ℕ) → cond (t && false) bs [] ≡ []
     none true bs = refl
     none false bs = refl

@@ -1,7 +1,7 @@
 -- Parts put one after another are their bytes stored at once.
 use Prim.Native.Nat.{ℕ, _+_, _≤_, _<_}
 use mathlib.Core.Path.{_≡_, refl, _∙_, ap}
-use mathlib.Core.Bool.{Bool, true, false}
+use mathlib.Core.Bool.{Bool, true, false, cond}
 use mathlib.Core.List.{List, [], _∷_, _++_}
 use native.Mathlib.Omega.{arith}
 use native.Mathlib.Nat.{add-zero}
@@ -9,7 +9,6 @@ use lib.ListN.{length, length-append}
 use lib.Seq.{sets, length-sets}
 use lib.Dec.{leb}
 use borrow.Author.Tests.{le-leb, lt-leb}
-use Rattle.octets.specs.Choice.{pick}
 use Rattle.octets.specs.Outcome.{Outcome, outcome}
 use Rattle.octets.specs.Slices.{copyAt}
 use Rattle.octets.specs.declared.Stored.{Stored}
@@ -28,8 +27,8 @@ put-copied part buf at o e = ap placed e ∙ go (leb (at + length part) (length 
     placed : Outcome Stored → Outcome ℕ
     placed q = outcome (placeAfter (q .answer) at) (q .buffer)
 
-    go : (t : Bool) → placed (pick t (outcome (Stored.End (at + length part)) (sets buf at part)) (outcome Stored.NoRoom buf))
-        ≡ pick t (outcome (at + length part) (sets buf at part)) (outcome at buf)
+    go : (t : Bool) → placed (cond t (outcome (Stored.End (at + length part)) (sets buf at part)) (outcome Stored.NoRoom buf))
+        ≡ cond t (outcome (at + length part) (sets buf at part)) (outcome at buf)
     go true = refl
     go false = refl
 
@@ -39,7 +38,7 @@ unfolding put
 put-length o p = go (leb (o .answer + length p) (length (o .buffer)))
   where
     go : (t : Bool)
-        → length (pick t (outcome (o .answer + length p) (sets (o .buffer) (o .answer) p)) (outcome (o .answer) (o .buffer)) .buffer)
+        → length (cond t (outcome (o .answer + length p) (sets (o .buffer) (o .answer) p)) (outcome (o .answer) (o .buffer)) .buffer)
         ≡ length (o .buffer)
     go true = length-sets (o .buffer) (o .answer) p
     go false = refl

@@ -1,12 +1,11 @@
 -- Texts made in an array: what `decimal::write` and `base64::encode` store from its start on, up to where it ends.
 use Prim.Native.Nat.{ℕ, _+_, _≤_}
 use mathlib.Core.Path.{_≡_, refl, _∙_, ap}
-use mathlib.Core.Bool.{Bool, true, false, not}
+use mathlib.Core.Bool.{Bool, true, false, not, cond, _&&_}
 use mathlib.Core.List.{List, []}
 use native.Mathlib.Omega.{arith}
 use lib.ListN.{length, take}
 use borrow.Author.Tests.{le-leb}
-use Rattle.octets.specs.Choice.{pick, both}
 use Rattle.octets.specs.Outcome.{Outcome, outcome, storedAt}
 use Rattle.octets.specs.declared.Stored.{Stored}
 use Rattle.octets.specs.declared.Stored.the-variants as Stored
@@ -36,14 +35,14 @@ abbrev pub toEnd : Outcome Written → List ℕ
 toEnd o = take (endOf (o .answer)) (o .buffer)
 
 -- none of a number that is refused
-pub digits : (n : Number) (l : List ℕ) → length (textOf n) ≤ length l → toEnd (writeOf n l 0) ≡ pick (writable n) (textOf n) []
+pub digits : (n : Number) (l : List ℕ) → length (textOf n) ≤ length l → toEnd (writeOf n l 0) ≡ cond (writable n) (textOf n) []
 unfolding writeOf writable
 digits n l h = go (negativeZero n) (outOfRange n)
   where
     go : (z r : Bool)
-        → toEnd (pick z (outcome Written.NegativeZero l) (pick r (outcome Written.OutOfRange l)
+        → toEnd (cond z (outcome Written.NegativeZero l) (cond r (outcome Written.OutOfRange l)
         (storedAt (Written.End (0 + length (textOf n))) Written.NoRoom (textOf n) l 0)))
-        ≡ pick (both (not z) (not r)) (textOf n) []
+        ≡ cond (not z && not r) (textOf n) []
     go true r = refl
     go false true = refl
     go false false = at-start endOf (Written.End (0 + length (textOf n))) Written.NoRoom (textOf n) l refl h

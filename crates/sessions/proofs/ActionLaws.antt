@@ -1,10 +1,10 @@
 -- The action table, as the rows of the definition give it: its entry for each state and action.
+use mathlib.Core.Bool.{cond}
 use Prim.Native.Nat.{ℕ, _-_}
 use mathlib.Core.Path.{_≡_, refl}
 use mathlib.Core.List.{List, [], _∷_, map}
 use lib.ListN.{getD}
 use lib.Dec.{eqb}
-use Rattle.octets.specs.Choice.{pick}
 use Rattle.command.specs.Slots.{actionCode}
 use Rattle.command.specs.declared.Action.{Action}
 use Rattle.command.specs.declared.Action.the-variants as Action
@@ -31,7 +31,7 @@ row-at f d SessionState.Absent = refl
 row-at f d SessionState.Asked = refl
 row-at f d SessionState.Open = refl
 
-column-at : {B : Type 0} (f : Action → B) (d : B) (a : Action) → pick (eqb (actionCode a) 0) (f Action.None) (getD (map f actions) (actionCode a - 1) d) ≡ f a
+column-at : {B : Type 0} (f : Action → B) (d : B) (a : Action) → cond (eqb (actionCode a) 0) (f Action.None) (getD (map f actions) (actionCode a - 1) d) ≡ f a
 column-at f d Action.None = refl
 column-at f d Action.Send = refl
 column-at f d Action.Receive = refl
@@ -44,6 +44,6 @@ column-at f d Action.Status = refl
 
 -- the entry that is looked up, which a command without an action is not
 pub entry : (t : List (List Kind)) → t ≡ tabulated → (s : SessionState) (a : Action)
-    → pick (eqb (actionCode a) 0) Kind.Ignore (getD (getD t (stateNumber s) []) (actionCode a - 1) Kind.Ignore) ≡ kindOf s a
+    → cond (eqb (actionCode a) 0) Kind.Ignore (getD (getD t (stateNumber s) []) (actionCode a - 1) Kind.Ignore) ≡ kindOf s a
 unfolding kindOf
 entry t e s a = rw (e, row-at (λ (x : SessionState). map (kindOf x) actions) [] s) (column-at (kindOf s) Kind.Ignore a)

@@ -1,13 +1,12 @@
 use Prim.Native.Nat.{_+_, _≤_}
 use mathlib.Core.Path.{_≡_, sym, _∙_}
-use mathlib.Core.Bool.{true}
+use mathlib.Core.Bool.{true, cond}
 use mathlib.Core.Logic.{⊎-elim}
 use native.Mathlib.Omega.{arith}
 use lib.ListN.{length}
 use lib.Seq.{sets}
 use borrow.Author.Needs.{needs}
 use borrow.Author.Tests.{lt-ltb, le-ltb, eq-eqb, ne-eqb, leb-true, not-true, not-false}
-use Rattle.octets.specs.Choice.{pick}
 use Rattle.octets.specs.Outcome.{outcome}
 use Rattle.decimal.specs.Write.{textOf, writable, writeOf}
 use Rattle.decimal.specs.declared.Written.the-variants.{End, NoRoom}
@@ -30,7 +29,7 @@ accepted c =
 -- so its text is stored, if it fits
 stored : (c : tie.After-fits2) → let a = c .before .before .before .before .args in
     writeOf (a .n) (a .out .now) (a .at)
-    ≡ pick (c .fits2 .result) (outcome (End (a .at + c .before .text-length .result)) (sets (a .out .now) (a .at) (textOf (a .n)))) (outcome NoRoom (a .out .now))
+    ≡ cond (c .fits2 .result) (outcome (End (a .at + c .before .text-length .result)) (sets (a .out .now) (a .at) (textOf (a .n)))) (outcome NoRoom (a .out .now))
 stored c =
     let a = c .before .before .before .before .args in
     write-stores (a .n) (a .out .now) (a .at) (accepted (c .before .before)) ∙ rw (← c .before .text-length .ensures, ← c .fits2 .ensures)

@@ -1,10 +1,10 @@
+use mathlib.Core.Bool.{_&&_}
 use Prim.Native.Nat.{_+_, _-_, _≤_}
 use mathlib.Core.Path.{_≡_, sym, _∙_}
 use native.Mathlib.Omega.{arith}
 use lib.ListN.{length, drop, length-drop}
 use Rattle.octets.proofs.Finds.{index-le}
 use Rattle.octets.proofs.Splits.{divides}
-use Rattle.octets.specs.Choice.{both}
 use borrow.Author.Needs.{needs}
 use borrow.Author.Tests.{le-leb, lt-leb, not-true, not-false}
 use Rattle.pathname.specs.Name.{validComponents}
@@ -27,7 +27,7 @@ within c =
 
 -- what the next component leaves
 turn : (c : tie.After-is-valid-component Inv-loop μ-loop) → let n = c .before .before .before .before .before .before .args .name .now in
-    validComponents n ≡ both (c .is-valid-component .result) (restValid n (c .before .before .find .result + 1))
+    validComponents n ≡ (c .is-valid-component .result && (restValid n (c .before .before .find .result + 1)))
 turn c =
     let n = c .before .before .before .before .before .before .args .name .now in
     let l = c .before .before .before .before .loop in

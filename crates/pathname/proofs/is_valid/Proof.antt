@@ -1,10 +1,10 @@
+use mathlib.Core.Bool.{_&&_}
 use mathlib.Core.Path.{_≡_, sym, _∙_}
 use native.Mathlib.Omega.{arith}
 use lib.ListN.{length}
 use borrow.Author.Needs.{needs}
 use borrow.Author.Tests.{le-leb, lt-leb, eq-eqb, ne-eqb, not-true, not-false}
 use Rattle.bytes.specs.Bytes.{indexOf}
-use Rattle.octets.specs.Choice.{both}
 use Rattle.octets.specs.Slices.{lacks}
 use Rattle.pathname.specs.Utf8.{utf8}
 use Rattle.pathname.specs.Name.{nameLimit, rooted, validComponents, validName}
@@ -12,18 +12,18 @@ use Rattle.pathname.proofs.is_valid.Statement.{statement}
 use Rattle.pathname.proofs.is_valid.Tie as tie
 
 -- what each test leaves of the rule: the length
-sized : (c : tie.Else2) → let n = c .before .before .before .args .name .now in validName n ≡ both (utf8 n) (both (lacks 0 n) (both (rooted n) (validComponents n)))
+sized : (c : tie.Else2) → let n = c .before .before .before .args .name .now in validName n ≡ (utf8 n && (lacks 0 n && (rooted n && validComponents n)))
 unfolding validName
 sized c =
     let n = c .before .before .before .args .name .now in
     rw (le-leb 1 (length n) (omega arith), le-leb (length n) nameLimit (omega arith))
 
 -- UTF-8
-encoded : (c : tie.Else3) → let n = c .before .before .before .before .before .args .name .now in validName n ≡ both (lacks 0 n) (both (rooted n) (validComponents n))
+encoded : (c : tie.Else3) → let n = c .before .before .before .before .before .args .name .now in validName n ≡ (lacks 0 n && (rooted n && validComponents n))
 encoded c = sized (c .before .before) ∙ rw (← c .before .is-valid .ensures, not-false (c .before .is-valid .result) (c .if3 .left))
 
 -- no zero byte
-whole : (c : tie.Else4) → let n = c .before .before .before .before .before .before .before .args .name .now in validName n ≡ both (rooted n) (validComponents n)
+whole : (c : tie.Else4) → let n = c .before .before .before .before .before .before .before .args .name .now in validName n ≡ (rooted n && validComponents n)
 whole c =
     let n = c .before .before .before .before .before .before .before .args .name .now in
     encoded (c .before .before) ∙ rw (eq-eqb (indexOf 0 n) (length n) (omega (arith, c .before .find .ensures)))

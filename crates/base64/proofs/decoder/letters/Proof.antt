@@ -1,16 +1,17 @@
+use mathlib.Core.Bool.{_&&_}
 use Prim.Native.Nat.{_-_}
 use mathlib.Core.Path.{_≡_, refl, sym, _∙_}
 use native.Mathlib.Omega.{arith}
 use lib.ListN.{length, drop}
 use borrow.Author.Needs.{needs}
-use Rattle.octets.specs.Choice.{both, every}
+use Rattle.octets.specs.Members.{every}
 use Rattle.octets.proofs.Everys.{every-turn, every-told}
 use Rattle.base64.specs.Letters.{isLetter}
 use Rattle.base64.proofs.decoder.letters.Statement.{statement}
 use Rattle.base64.proofs.decoder.letters.Tie as tie
 
 abbrev Inv-loop : tie.InvT-loop
-Inv-loop s all₀ k₀ all k = every isLetter s ≡ both all (every isLetter (drop k s))
+Inv-loop s all₀ k₀ all k = every isLetter s ≡ (all && every isLetter (drop k s))
 
 abbrev μ-loop : tie.MeasureT-loop
 μ-loop s all₀ k₀ all k = length s - k

@@ -1,16 +1,17 @@
+use mathlib.Core.Bool.{_&&_}
 use Prim.Native.Nat.{_-_}
 use mathlib.Core.Path.{_≡_, refl, sym, _∙_}
 use native.Mathlib.Omega.{arith}
 use lib.ListN.{length, drop}
 use borrow.Author.Needs.{needs}
-use Rattle.octets.specs.Choice.{both, every}
+use Rattle.octets.specs.Members.{every}
 use Rattle.octets.proofs.Everys.{every-turn, every-told}
 use Rattle.command.specs.Classes.{byteOf}
 use Rattle.command.proofs.letters.all.Statement.{statement}
 use Rattle.command.proofs.letters.all.Tie as tie
 
 abbrev Inv-loop : tie.InvT-loop
-Inv-loop class s all₀ i₀ all i = every (byteOf class) s ≡ both all (every (byteOf class) (drop i s))
+Inv-loop class s all₀ i₀ all i = every (byteOf class) s ≡ (all && every (byteOf class) (drop i s))
 
 abbrev μ-loop : tie.MeasureT-loop
 μ-loop class s all₀ i₀ all i = length s - i

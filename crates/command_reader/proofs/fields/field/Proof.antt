@@ -1,12 +1,11 @@
 use Prim.Native.Nat.{ℕ, _-_, _≤_, _<_}
 use mathlib.Core.Path.{_≡_, sym, _∙_}
-use mathlib.Core.Bool.{true}
+use mathlib.Core.Bool.{true, _&&_}
 use mathlib.Core.List.{List}
 use native.Mathlib.Omega.{arith}
 use lib.ListN.{length, take, drop, length-take}
 use lib.Dec.{ltb}
 use borrow.Author.Tests.{not-true, not-false, ltb-true}
-use Rattle.octets.specs.Choice.{both}
 use Rattle.octets.proofs.Below.{both-test}
 use Rattle.command.specs.Fields.{isKey}
 use Rattle.command.specs.Read.{Reader}
@@ -28,7 +27,7 @@ start c = c .before .before .before .before
 
 -- it has a key, and so its `=`
 key : (c : tie.Else1) → let find = c .before .before in let f = part (start find) in
-    both (ltb (find .find .result) (length f)) (isKey (take (find .find .result) f)) ≡ true
+    (ltb (find .find .result) (length f) && isKey (take (find .find .result) f)) ≡ true
 key c = sym (c .before .has-key .ensures) ∙ not-false _ (c .if1 .left)
 
 inside : (c : tie.Else1) → let find = c .before .before in let s = start find in

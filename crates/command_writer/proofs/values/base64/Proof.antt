@@ -5,7 +5,7 @@ use native.Mathlib.Omega.{arith}
 use lib.ListN.{length}
 use lib.Dec.{leb}
 use borrow.Author.Tests.{leb-true, not-true, not-false}
-use Rattle.octets.specs.Choice.{every}
+use Rattle.octets.specs.Members.{every}
 use Rattle.base64.specs.Encode.{textOf}
 use Rattle.command.specs.Values.{base64Shown, shown}
 use Rattle.command_writer.specs.Table.{nameIn}

@@ -1,11 +1,10 @@
 use Prim.Native.Nat.{ℕ, _+_}
 use mathlib.Core.Path.{_≡_, refl, sym, _∙_}
-use mathlib.Core.Bool.{true}
+use mathlib.Core.Bool.{true, cond}
 use mathlib.Core.List.{List}
 use lib.ListN.{length}
 use lib.Dec.{leb}
 use borrow.Author.Tests.{leb-true, not-true, not-false}
-use Rattle.octets.specs.Choice.{pick}
 use Rattle.command.specs.Keys.{Kind}
 use Rattle.command.specs.Values.{Shown, over, textOr, safeShown, shown}
 use Rattle.command.specs.Slots.{bytesAt}
@@ -31,7 +30,7 @@ bytes c = c .bytes-at .result .now
 -- within, it is shown as its bytes are
 shown-by : (c : tie.After-all) → let b = c .before in let a = start b .args in
     shown (Kind.safe (a .short)) (bytesAt (a .text .now) (a .place))
-    ≡ pick (c .all .result) (pick (over (a .short) (bytes b)) (Shown.refused 8) (textOr (bytes b))) (Shown.refused 6)
+    ≡ cond (c .all .result) (cond (over (a .short) (bytes b)) (Shown.refused 8) (textOr (bytes b))) (Shown.refused 6)
 unfolding shown safeShown
 shown-by c =
     let b = c .before in
@@ -40,7 +39,7 @@ shown-by c =
 
 -- past the second test its bytes are safe
 shown-here : (c : tie.Else2) → let b = c .before .before in let a = start b .args in
-    shown (Kind.safe (a .short)) (bytesAt (a .text .now) (a .place)) ≡ pick (over (a .short) (bytes b)) (Shown.refused 8) (textOr (bytes b))
+    shown (Kind.safe (a .short)) (bytesAt (a .text .now) (a .place)) ≡ cond (over (a .short) (bytes b)) (Shown.refused 8) (textOr (bytes b))
 shown-here c = let all = c .before in shown-by all ∙ rw (not-false (all .all .result) (c .if2 .left))
 
 fits-requires : tie.Need-fits-requires

@@ -1,3 +1,4 @@
+use mathlib.Core.Bool.{cond}
 use Prim.Native.Nat.{ℕ, _+_, _-_, _*_, _^_, _≤_, _<_}
 use mathlib.Core.Path.{_≡_, refl, sym, _∙_, ap}
 use mathlib.Core.List.{List}
@@ -7,7 +8,6 @@ use lib.ListN.{length, getD, drop}
 use lib.Dec.{ltb}
 use borrow.Author.Needs.{needs}
 use borrow.Author.Tests.{lt-ltb, le-ltb}
-use Rattle.octets.specs.Choice.{pick}
 use Rattle.octets.proofs.Lists.{drop-at, drop-end}
 use Rattle.decimal.specs.Read.{digitsOf}
 use Rattle.decimal.specs.declared.reader.Run.the-variants.{NotDigits}
@@ -22,13 +22,13 @@ abbrev μ-loop : tie.MeasureT-loop
 μ-loop text value₀ i₀ value i = length text - i
 
 digits-at : (t : List ℕ) (i a : ℕ) → i < length t → let c = getD t i 0 in
-    digitsOf a (drop i t) ≡ pick (ltb c 48) NotDigits (pick (ltb 57 c) NotDigits (digitsOf (a * 10 + (c - 48)) (drop (i + 1) t)))
+    digitsOf a (drop i t) ≡ cond (ltb c 48) NotDigits (cond (ltb 57 c) NotDigits (digitsOf (a * 10 + (c - 48)) (drop (i + 1) t)))
 unfolding digitsOf
 digits-at t i a h = rw (drop-at t i h)
 
 -- what one byte more leaves
 turn : (c : tie.After-wide Inv-loop μ-loop) → let t = c .before .before .before .before .before .args .text .now in let l = c .before .before .before .loop in
-    digitsOf 0 t ≡ pick (ltb (c .wide .result) 48) NotDigits (pick (ltb 57 (c .wide .result)) NotDigits (digitsOf (l .value * 10 + (c .wide .result - 48)) (drop (l .i + 1) t)))
+    digitsOf 0 t ≡ cond (ltb (c .wide .result) 48) NotDigits (cond (ltb 57 (c .wide .result)) NotDigits (digitsOf (l .value * 10 + (c .wide .result - 48)) (drop (l .i + 1) t)))
 turn c =
     let l = c .before .before .before .loop in
     sym (l .inv .2) ∙ digits-at (c .before .before .before .before .before .args .text .now) (l .i) (l .value) (omega arith) ∙ rw (← c .wide .ensures)

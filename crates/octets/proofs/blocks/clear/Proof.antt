@@ -1,16 +1,15 @@
 use Prim.Native.Nat.{_-_}
-use mathlib.Core.Bool.{false}
+use mathlib.Core.Bool.{false, cond}
 use mathlib.Core.Path.{_≡_, refl, sym, _∙_}
 use lib.ListN.{length, drop}
 use borrow.Author.Needs.{needs}
 use Rattle.octets.specs.Slices.{lacks}
-use Rattle.octets.specs.Choice.{pick}
 use Rattle.octets.proofs.Passes.{clear-turn, clear-end}
 use Rattle.octets.proofs.blocks.clear.Statement.{statement}
 use Rattle.octets.proofs.blocks.clear.Tie as tie
 
 abbrev Inv-loop : tie.InvT-loop
-Inv-loop s b hit₀ k₀ hit k = lacks b s ≡ pick hit false (lacks b (drop k s))
+Inv-loop s b hit₀ k₀ hit k = lacks b s ≡ cond hit false (lacks b (drop k s))
 
 abbrev μ-loop : tie.MeasureT-loop
 μ-loop s b hit₀ k₀ hit k = length s - k

@@ -2,10 +2,9 @@ use Prim.Native.Nat.{_+_, _-_, _≤_}
 use mathlib.Core.Path.{_≡_, refl, sym, _∙_}
 use mathlib.Core.Logic.{⊎-elim}
 use native.Mathlib.Omega.{arith}
-use mathlib.Core.Bool.{false}
+use mathlib.Core.Bool.{false, cond}
 use lib.ListN.{length, getD, drop}
 use lib.Dec.{ltb, eqb}
-use Rattle.octets.specs.Choice.{pick}
 use borrow.Author.Needs.{needs}
 use borrow.Author.Tests.{lt-ltb, le-ltb, eq-eqb, ne-eqb}
 use Rattle.pathname.specs.Utf8.{sequences, utf8}
@@ -21,14 +20,14 @@ abbrev μ-loop : tie.MeasureT-loop
 
 -- what a first byte leaves
 at-first : (c : tie.After-followers-of Inv-loop μ-loop) → let s = c .before .before .before .before .before .before .args .s .now in
-    utf8 s ≡ pick (eqb (c .followers-of .result) 4) false (sequences (c .followers-of .result) (drop (c .before .before .before .before .loop .i + 1) s))
+    utf8 s ≡ cond (eqb (c .followers-of .result) 4) false (sequences (c .followers-of .result) (drop (c .before .before .before .before .loop .i + 1) s))
 at-first c =
     let l = c .before .before .before .before .loop in
     sym (l .inv .1) ∙ rw (c .before .if1 .taken) (first-at (c .before .before .before .before .before .before .args .s .now) (l .i) (omega arith) ∙ rw (← c .followers-of .ensures .0))
 
 -- what a byte that is due leaves
 at-next : (c : tie.Else1 Inv-loop μ-loop) → let s = c .before .before .before .before .before .args .s .now in let l = c .before .before .before .loop in
-    utf8 s ≡ pick (ltb (getD s (l .i) 0) 0x80) false (pick (ltb 0xBF (getD s (l .i) 0)) false (sequences (l .due - 1) (drop (l .i + 1) s)))
+    utf8 s ≡ cond (ltb (getD s (l .i) 0) 0x80) false (cond (ltb 0xBF (getD s (l .i) 0)) false (sequences (l .due - 1) (drop (l .i + 1) s)))
 at-next c =
     let l = c .before .before .before .loop in
     sym (l .inv .1) ∙ next-at (l .due) (c .before .before .before .before .before .args .s .now) (l .i) (omega arith) (omega arith)
