@@ -9,6 +9,7 @@ use lib.ListN.{length, take, drop, length-append, length-take}
 use lib.Seq.{take-all, append-snoc}
 use lib.Dec.{ltb, leb, eqb}
 use borrow.Author.Tests.{le-leb, lt-leb, leb-true, leb-false, ne-eqb}
+use Rattle.octets.specs.Slices.{partOf}
 use Rattle.octets.specs.Outcome.{Outcome}
 use Rattle.frames.specs.Stream.{Told, textLimit, afterEscape}
 use Rattle.frames.specs.Framings.{cap, cappedOf, count, framingOf}
@@ -99,7 +100,7 @@ read-text : (c xs : List ℕ) (e n : ℕ) → e ≤ length xs → textLimit ≤ 
     → toldOf (cond t (Report.InPiece (e - n) n) (Report.InCarry n))
     (textOf xs (carryOf c xs (cond t (heldAt 0 0) (heldAt e n) .end) (cond t (heldAt 0 0) (heldAt e n) .count)) (cond t (Report.InPiece (e - n) n) (Report.InCarry n)))
     ≡ Told.command (take textLimit (textAt c xs e n)) ∷ []
-unfolding textOf
+unfolding textOf partOf
 read-text c xs e n l h k true o =
     let g : n ≤ e = leb-true n e o in
     let z : length (take n (drop (e - n) xs)) ≤ textLimit = simp length-take (omega arith) in

@@ -1,10 +1,11 @@
 -- One call on a piece with a carry: its answer and the carry afterwards; and the text of its report.
 use mathlib.Core.Bool.{cond}
-use Prim.Native.Nat.{ℕ, _+_, _-_}
+use Prim.Native.Nat.{ℕ, _-_}
 use mathlib.Core.List.{List, []}
-use lib.ListN.{length, take, drop}
+use lib.ListN.{length}
 use lib.Dec.{ltb, leb}
 use Rattle.octets.specs.Outcome.{Outcome, outcome}
+use Rattle.octets.specs.Slices.{partOf}
 use Rattle.frames.specs.Stream.{textLimit}
 use Rattle.frames.specs.Framings.{cappedOf}
 use Rattle.frames.specs.Steps.{framingAfter, endOf, walkFrom}
@@ -56,11 +57,8 @@ scanOf f xs c =
     (outcome (record { consumed = 0; framing = f; report = Report.ShortCarry }) c)
     (takenOf f xs c)
 
--- the n bytes from place `start` on; "where the report's place passes the end of that buffer, it is empty"
-abbrev pub partOf : List ℕ → ℕ → ℕ → List ℕ
-partOf s start n = cond (leb (start + n) (length s)) (take n (drop start s)) []
-
--- the text of a report, given the piece xs and the carry c of its call
+-- the text of a report, given the piece xs and the carry c of its call; "where the report's place passes the end of that buffer, it
+-- is empty"
 unfoldable pub textOf : List ℕ → List ℕ → Report → List ℕ
 textOf xs c Report.Nothing = []
 textOf xs c (Report.InPiece start n) = partOf xs start n

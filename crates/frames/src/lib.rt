@@ -15,7 +15,7 @@ ghost use Prim.Native.Nat.{_≤_};
 ghost use lib.ListN.{length};
 ghost use Rattle.octets.specs.Outcome.{outcome};
 ghost use Rattle.frames.specs.Stream.{textLimit};
-ghost use Rattle.frames.specs.Calls.{placeOf, reportOf, takenOf, scanOf, partOf, textOf};
+ghost use Rattle.frames.specs.Calls.{placeOf, reportOf, takenOf, scanOf, textOf};
 ghost use Rattle.frames.specs.Claims.{TellsTheStream, SameHoweverCut, Consumes, RefusesShort};
 use carry::held_of;
 use carry::keep;
@@ -101,25 +101,12 @@ pub fn text<'a>(piece: &'a [u8], carry: &'a [u8], report: Report) -> &'a [u8]
 {
     match report {
         Report::Nothing => &piece[..0],
-        Report::InPiece(start, n) => part(piece, start, n),
-        Report::InCarry(n) => part(carry, 0, n),
+        Report::InPiece(start, n) => octets::part(piece, start, n),
+        Report::InCarry(n) => octets::part(carry, 0, n),
         Report::TooLong => &piece[..0],
         Report::Abandoned => &piece[..0],
         Report::ShortCarry => &piece[..0],
     }
-}
-
-// The n bytes of s from `start` on; none where they pass its end.
-fn part(s: &[u8], start: usize, n: usize) -> &[u8]
-    ensures { λ t. ⌜ now t ≡ partOf (now (s .entry)) start n ⌝ }
-{
-    if start > s.len() {
-        return &s[..0];
-    }
-    if n > s.len() - start {
-        return &s[..0];
-    }
-    &s[start..start + n]
 }
 
 fn report_of(event: Event, used: usize) -> Report
