@@ -2,11 +2,14 @@
 ghost use Prim.Native.Nat.{_≤_};
 use crate::line;
 use crate::script;
+use command::Command;
+use frames::Framing;
 use frames::Report;
 use protocol::Answered;
 use protocol::Failure;
 use protocol::Fed;
 use protocol::Receiver;
+use protocol::Reply;
 use streams::Run;
 
 // How the run stands, the receiver, how much of each buffer is lent, and the latest feed: its piece's
@@ -22,14 +25,23 @@ pub struct Console {
     pub report: Report,
 }
 
+impl Console {
+    // Each buffer is longer than a call needs.
+    pub const CARRY: usize = Framing::TEXT_LIMIT + 64;
+
+    pub const SCRATCH: usize = Command::SCRATCH_ROOM + 64;
+
+    pub const REPLY: usize = Reply::ROOM + 68;
+}
+
 // A fresh receiver, every buffer lent whole, no feed made yet.
 pub(crate) fn fresh(run: Run) -> Console {
     Console {
         run: run,
         receiver: Receiver::fresh(),
-        carry: 8256,
-        scratch: 6208,
-        reply: 192,
+        carry: Console::CARRY,
+        scratch: Console::SCRATCH,
+        reply: Console::REPLY,
         piece: 0,
         piece_len: 0,
         report: Report::Nothing,
@@ -154,17 +166,17 @@ fn fill(buffer: &mut [u8]) {
 fn lend(console: Console, letter: u8, n: usize) -> Console {
     Console {
         carry: if letter == b'c' {
-            least(n, 8256)
+            least(n, Console::CARRY)
         } else {
             console.carry
         },
         scratch: if letter == b's' {
-            least(n, 6208)
+            least(n, Console::SCRATCH)
         } else {
             console.scratch
         },
         reply: if letter == b'r' {
-            least(n, 192)
+            least(n, Console::REPLY)
         } else {
             console.reply
         },

@@ -4,12 +4,16 @@ mod console;
 mod line;
 mod script;
 
+use console::Console;
 use streams::Got;
 use streams::Run;
 
-// A script has at most 65,536 bytes; one more is read, so that a longer one is seen.
+// How many bytes a script has at most.
+const SCRIPT_LIMIT: usize = 65536;
+
+// One byte more is read, so that a longer script is seen.
 fn main() {
-    let mut bytes = [0u8; 65537];
+    let mut bytes = [0u8; SCRIPT_LIMIT + 1];
     let run = match streams::read_all(&mut bytes) {
         Got::Bytes(n) => play(&bytes[..n]),
         Got::Failed => Run::NotRead,
@@ -19,12 +23,12 @@ fn main() {
 
 // Makes the script's calls one after another, until something fails.
 fn play(bytes: &[u8]) -> Run {
-    if bytes.len() > 65536 {
+    if bytes.len() > SCRIPT_LIMIT {
         return line::bad_script(Run::Well);
     }
-    let mut carry = [0xA5u8; 8256];
-    let mut scratch = [0xA5u8; 6208];
-    let mut reply = [0xA5u8; 192];
+    let mut carry = [0xA5u8; Console::CARRY];
+    let mut scratch = [0xA5u8; Console::SCRATCH];
+    let mut reply = [0xA5u8; Console::REPLY];
     let mut state = console::fresh(Run::Well);
     let mut at = 0;
     while at < bytes.len() {

@@ -1,9 +1,11 @@
 // The command text: its refusal or 0, the scratch that reading leaves, and the text written again.
 ghost use Prim.Native.Nat.{_≤_};
+use crate::ROOM;
 use command::Command;
 use command::Reading;
 use command::Refusal;
 use command::Written;
+use frames::Framing;
 use streams::Run;
 
 pub(crate) fn run(run: Run) -> Run {
@@ -13,11 +15,12 @@ pub(crate) fn run(run: Run) -> Run {
 // Texts of the longest length, and one byte more.
 fn texts(before: Run) -> Run {
     let mut run = before;
-    run = filled(run, b"", b'A', 8193, b"");
-    run = filled(run, b"", b'A', 8192, b"");
-    run = filled(run, b"5113;ac=receive;id=z;x=", b'A', 8168, b"");
-    run = filled(run, b"5113;ac=receive;id=z;x=", b'A', 8169, b"");
-    filled(run, b"5113;ac=receive;id=z;x=", b'A', 8170, b"")
+    run = filled(run, b"", b'A', Framing::TEXT_LIMIT + 1, b"");
+    run = filled(run, b"", b'A', Framing::TEXT_LIMIT, b"");
+    let rest = Framing::TEXT_LIMIT - 23;
+    run = filled(run, b"5113;ac=receive;id=z;x=", b'A', rest - 1, b"");
+    run = filled(run, b"5113;ac=receive;id=z;x=", b'A', rest, b"");
+    filled(run, b"5113;ac=receive;id=z;x=", b'A', rest + 1, b"")
 }
 
 // Ids of 32 and 33 bytes, beside other faults.
@@ -37,15 +40,15 @@ fn values(before: Run) -> Run {
     let mut run = before;
     run = filled(run, b"5113;ac=send;id=m;pw=", b'i', 3000, b"");
     run = filled(run, b"5113;d=AQID;fid=", b'i', 33, b";ac=file;id=m");
-    filled(run, b"5113;d=", b'A', 8188, b"")
+    filled(run, b"5113;d=", b'A', Framing::TEXT_LIMIT - 4, b"")
 }
 
 // A text that is n times the byte `fill` between two strings.
 fn filled<'a>(run: Run, before: &'a [u8], fill: u8, n: usize, after: &'a [u8]) -> Run {
-    let mut text = [fill; 8256];
+    let mut text = [fill; ROOM];
     octets::copy_at(before, &mut text, 0);
     let start = least(before.len(), 64);
-    let end = start + least(n, 8256);
+    let end = start + least(n, ROOM);
     octets::copy_at(after, &mut text, end);
     let asked = run.text(b"read ")
         .text(before)
@@ -70,7 +73,7 @@ pub(crate) fn read(run: Run, text: &[u8]) -> Run {
 
 // What reading a text gives, and the text written again.
 fn answer(run: Run, text: &[u8]) -> Run {
-    let mut scratch = [0xA5u8; 6144];
+    let mut scratch = [0xA5u8; Command::SCRATCH_ROOM];
     let r = command_reader::read(text, &mut scratch);
     let told = tell(run, r, &scratch);
     match r {
@@ -107,7 +110,7 @@ fn refused(run: Run, refusal: Refusal) -> Run {
 }
 
 fn write<'a>(run: Run, c: Command, text: &'a [u8], scratch: &'a [u8]) -> Run {
-    let mut again = [0u8; 8192];
+    let mut again = [0u8; Framing::TEXT_LIMIT];
     let told = match command_writer::write(c, text, scratch, &mut again) {
         Written::Length(n) => written(run, octets::part(&again, 0, n)),
         Written::Refused(refusal) => refused(run, refusal),

@@ -1,6 +1,7 @@
-// Frames: two pieces, what is reported on the way, and the carry; texts of 8,192 and 8,193 bytes cut at
-// each edge.
+// Frames: two pieces, what is reported on the way, and the carry; texts of the longest length, and one
+// byte longer, cut at each edge.
 ghost use Prim.Native.Nat.{_≤_};
+use crate::ROOM;
 use frames::Framing;
 use frames::Report;
 use streams::Run;
@@ -12,7 +13,7 @@ struct Turn {
 }
 
 pub(crate) fn run(run: Run) -> Run {
-    cuts(cuts(run, 8192), 8193)
+    cuts(cuts(run, Framing::TEXT_LIMIT), Framing::TEXT_LIMIT + 1)
 }
 
 // Two pieces, parted by a bar.
@@ -28,7 +29,7 @@ fn rest(s: &[u8], n: usize) -> &[u8] {
 
 // The reports of two pieces, fed one after the other, and the carry's first bytes.
 fn pair<'a>(run: Run, first: &'a [u8], second: &'a [u8]) -> Run {
-    let mut buffer = [0x2Eu8; 8256];
+    let mut buffer = [0x2Eu8; ROOM];
     let asked = run.text(b"carry ").hex(first).text(b" | ").hex(second);
     let told = both(asked, first, second, &mut buffer);
     told.text(b" ")
@@ -45,19 +46,19 @@ fn cuts(before: Run, n: usize) -> Run {
     run = cut(run, n, 2);
     run = cut(run, n, 3);
     run = cut(run, n, 7);
-    run = cut(run, n, 8193);
-    run = cut(run, n, 8194);
-    run = cut(run, n, 8195);
-    run = cut(run, n, 8196);
-    cut(run, n, 8197)
+    run = cut(run, n, Framing::TEXT_LIMIT + 1);
+    run = cut(run, n, Framing::TEXT_LIMIT + 2);
+    run = cut(run, n, Framing::TEXT_LIMIT + 3);
+    run = cut(run, n, Framing::TEXT_LIMIT + 4);
+    cut(run, n, Framing::TEXT_LIMIT + 5)
 }
 
 fn cut(run: Run, n: usize, at: usize) -> Run {
-    let mut buffer = [0x2Eu8; 8256];
-    let mut frame = [0x41u8; 8256];
+    let mut buffer = [0x2Eu8; ROOM];
+    let mut frame = [0x41u8; ROOM];
     octets::copy_at(b"\x1B]5113;", &mut frame, 0);
-    octets::copy_at(b"\x1B\\", &mut frame, 2 + least(n, 8200));
-    let end = 4 + least(n, 8200);
+    octets::copy_at(b"\x1B\\", &mut frame, 2 + least(n, ROOM));
+    let end = 4 + least(n, ROOM);
     let asked = run.text(b"text of ")
         .number(n)
         .text(b" bytes, cut at ")

@@ -10,8 +10,12 @@ mod decimal_cases;
 mod frame_cases;
 mod name_cases;
 
+use frames::Framing;
 use streams::Got;
 use streams::Run;
+
+// Room for a text one byte too long, its frame, and some bytes more.
+pub(crate) const ROOM: usize = Framing::TEXT_LIMIT + 64;
 
 fn main() {
     let mut bytes = io::large_buffer();

@@ -1,16 +1,22 @@
 // Names.
+use pathname::NAME_LIMIT;
 use streams::Run;
 
-// A slash and 255 or 256 bytes; 4,096 and 4,097 slashes.
+// A slash and 255 or 256 bytes; slashes of the longest length, and one more.
 pub(crate) fn run(before: Run) -> Run {
     let mut component = [0x78u8; 257];
     component[0] = 47;
-    let slashes = [47u8; 4097];
+    let slashes = [47u8; NAME_LIMIT + 1];
     let mut run = before;
     run = verdict(run.text(b"name / and 255 bytes: "), &component[..256]);
     run = verdict(run.text(b"name / and 256 bytes: "), &component);
-    run = verdict(run.text(b"name of 4096 slashes: "), &slashes[..4096]);
-    verdict(run.text(b"name of 4097 slashes: "), &slashes)
+    run = several(run, &slashes[..NAME_LIMIT]);
+    several(run, &slashes)
+}
+
+fn several(run: Run, slashes: &[u8]) -> Run {
+    let asked = run.text(b"name of ").number(slashes.len());
+    verdict(asked.text(b" slashes: "), slashes)
 }
 
 pub(crate) fn name(run: Run, bytes: &[u8]) -> Run {

@@ -1,13 +1,17 @@
-use Prim.Native.Nat.{_-_, _≤_}
+use Prim.Native.Nat.{_+_, _-_, _≤_}
 use mathlib.Core.Path.{_≡_}
 use lib.ListN.{length}
 use borrow.Author.Needs.{needs}
+use Rattle.frames.specs.Stream.{textLimit}
+use Rattle.command.specs.Read.{scratchRoom}
+use Rattle.protocol.specs.Replies.{replyRoom}
 use Rattle.drive.proofs.play.Statement.{statement}
 use Rattle.drive.proofs.play.Tie as tie
 
 abbrev Inv-loop : tie.InvT-loop
 Inv-loop bytes carry₀ scratch₀ reply₀ state₀ at₀ carry scratch reply state at =
-    (at ≤ length bytes) × (8256 ≡ length carry) × (6208 ≡ length scratch) × (192 ≡ length reply)
+    (at ≤ length bytes) × (textLimit + 64 ≡ length carry) × (scratchRoom + 64 ≡ length scratch)
+    × (replyRoom + 68 ≡ length reply)
 
 abbrev μ-loop : tie.MeasureT-loop
 μ-loop bytes carry₀ scratch₀ reply₀ state₀ at₀ carry scratch reply state at = length bytes - at

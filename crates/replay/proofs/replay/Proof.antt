@@ -1,13 +1,16 @@
 use mathlib.Core.Path.{_≡_}
 use lib.ListN.{length}
 use borrow.Author.Needs.{needs}
+use Rattle.frames.specs.Stream.{textLimit}
+use Rattle.command.specs.Read.{scratchRoom}
+use Rattle.protocol.specs.Replies.{replyRoom}
 use Rattle.streams.proofs.Laws.{held}
 use Rattle.replay.proofs.replay.Statement.{statement}
 use Rattle.replay.proofs.replay.Tie as tie
 
 abbrev Inv-loop : tie.InvT-loop
 Inv-loop piece₀ carry₀ scratch₀ reply₀ receiver₀ turns₀ piece carry scratch reply receiver turns =
-    (65536 ≡ length piece) × (8192 ≡ length carry) × (6144 ≡ length scratch) × (124 ≡ length reply)
+    (65536 ≡ length piece) × (textLimit ≡ length carry) × (scratchRoom ≡ length scratch) × (replyRoom ≡ length reply)
 
 abbrev μ-loop : tie.MeasureT-loop
 μ-loop piece₀ carry₀ scratch₀ reply₀ receiver₀ turns₀ piece carry scratch reply receiver turns = turns

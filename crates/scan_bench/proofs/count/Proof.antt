@@ -1,12 +1,13 @@
 use mathlib.Core.Path.{_≡_}
 use lib.ListN.{length}
 use borrow.Author.Needs.{needs}
+use Rattle.frames.specs.Stream.{textLimit}
 use Rattle.streams.proofs.Laws.{held}
 use Rattle.scan_bench.proofs.count.Statement.{statement}
 use Rattle.scan_bench.proofs.count.Tie as tie
 
 abbrev Inv-loop : tie.InvT-loop
-Inv-loop piece₀ carry₀ tally₀ turns₀ t7 piece carry tally turns = (65536 ≡ length piece) × (8192 ≡ length carry)
+Inv-loop piece₀ carry₀ tally₀ turns₀ t7 piece carry tally turns = (65536 ≡ length piece) × (textLimit ≡ length carry)
 
 abbrev μ-loop : tie.MeasureT-loop
 μ-loop piece₀ carry₀ tally₀ turns₀ t7 piece carry tally turns = turns
