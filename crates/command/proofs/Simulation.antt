@@ -98,7 +98,7 @@ finished-means : {t scratch : List ℕ} {at : ℕ} {x : Turn Reader} {y : Turn (
     → meaningIn t (Read.finished x) ≡ Meaning.finished y
 unfolding commandOf
 finished-means {t} enough (on {s} r) =
-    complete-means t (s .scratch) (commandOf (s .slots)) (string-slot (each-at 4 (lit< tt) (r .each)) .0)
+    complete-means t (s .scratch) (commandOf (s .slots)) (string-slot (each-at 4 (lit< tt) (r .each)))
     ∙ ap Meaning.complete (command-values t (s .scratch) (s .used) (omega (arith, r .fits, r .size)) (r .each))
 finished-means enough (off r) = refl
 

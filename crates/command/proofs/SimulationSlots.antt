@@ -6,7 +6,7 @@ use mathlib.Core.List.{List, [], _∷_}
 use native.Mathlib.Omega.{arith}
 use lib.ListN.{length, getD, set}
 use lib.Dec.{eqb, lit<}
-use borrow.Author.Tests.{ltb-false, eqb-true}
+use borrow.Author.Tests.{eqb-true}
 use Rattle.octets.specs.Split.{onto, split}
 use Rattle.octets.proofs.Below
 use Rattle.command.specs.Keys.{Alias, Kind, Key, keys, keyAt}
@@ -55,9 +55,9 @@ module _ {t scratch : List ℕ} {used : ℕ} {name : List ℕ} where
   word-slot h (full at from v a (as-word l) w e) = (refl, l)
 
   pub string-slot : {s : Slot} {f : Field} {short : Bool} → Holds t scratch used (record { name = name; kind = Kind.safe short }) s f
-      → (s .place .start + s .place .len ≤ length t) × (short ≡ true → s .place .len ≤ 32)
-  string-slot empty = (omega arith, λ q. omega arith)
-  string-slot (full at from v a (as-string o) w e) = (a .within, λ q. ltb-false _ _ (rw q at o))
+      → s .place .start + s .place .len ≤ length t
+  string-slot empty = omega arith
+  string-slot (full at from v a as-string w e) = a .within
 
   pub bytes-slot : {s : Slot} {f : Field} → Holds t scratch used (record { name = name; kind = Kind.base64 }) s f
       → s .place .start + s .place .len ≤ used

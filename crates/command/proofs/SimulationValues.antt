@@ -37,7 +37,7 @@ codesEnd end (a ∷ more) = max (suc (a .code)) (codesEnd end more)
 pub data Reads : Kind → List ℕ → Got → Type 0 where
   as-word : {first : ℕ} {ws : List (List ℕ)} {aliases : List Alias} {v : List ℕ} {c : ℕ} → c < codesEnd (first + length ws) aliases
       → Reads (Kind.word first ws aliases) v (Got.got (Value.number (count c)))
-  as-string : {short : Bool} {v : List ℕ} → over short v ≡ false → Reads (Kind.safe short) v (Got.got (Value.bytes v))
+  as-string : {short : Bool} {v : List ℕ} → Reads (Kind.safe short) v (Got.got (Value.bytes v))
   as-integer : {v : List ℕ} {n : Number} → Reads Kind.integer v (Got.got (Value.number n))
   as-bytes : {v : List ℕ} {padding : ℕ} → verdictOf v ≡ Verdict.Valid padding → Reads Kind.base64 v (Got.got (Value.bytes (bytesOf v)))
   refused : {k : Kind} {v : List ℕ} {r : ℕ} → Reads k v (Got.refused r)
@@ -75,13 +75,13 @@ word-reads first ws aliases v = go (ltb (placeIn ws v) (length ws)) refl
 pub reads : (k : Kind) (v : List ℕ) → Reads k v (valueRead k v)
 unfolding valueRead safeRead
 reads (Kind.word first ws aliases) v = word-reads first ws aliases v
-reads (Kind.safe short) v = go (every safeByte v) (over short v) refl
+reads (Kind.safe short) v = go (every safeByte v) (over short v)
   where
-    go : (a b : Bool) → over short v ≡ b
+    go : (a b : Bool)
         → Reads (Kind.safe short) v (cond a (cond b (Got.refused 8) (Got.got (Value.bytes v))) (Got.refused 6))
-    go true true e = refused
-    go true false e = as-string e
-    go false b e = refused
+    go true true = refused
+    go true false = as-string
+    go false b = refused
 reads Kind.integer v = go (parseOf v)
   where
     go : (p : Parsed) → Reads Kind.integer v (integerRead p)
@@ -97,7 +97,7 @@ reads Kind.base64 v = go (verdictOf v) refl
 -- a value's bytes in the scratch are at most three for four of its text
 pub stored-room : {k : Kind} {v : List ℕ} {x : Value} → Reads k v (Got.got x) → 4 * length (storedFor k x) ≤ 3 * length v
 stored-room (as-word h) = omega arith
-stored-room (as-string h) = omega arith
+stored-room as-string = omega arith
 stored-room as-integer = omega arith
 stored-room (as-bytes {v} {padding} e) = omega (arith, length-valid v padding e .1)
 
@@ -140,7 +140,7 @@ module _ (t scratch : List ℕ) (used : ℕ) (room : used ≤ length scratch) wh
   full-value : {k : Kind} {v : List ℕ} {x : Value} (at from : ℕ) → At t at v → Reads k v (Got.got x) → from + length (storedFor k x) ≤ used
       → take (length (storedFor k x)) (drop from scratch) ≡ storedFor k x → valueAt k (slotFor k at from x) t scratch ≡ x
   full-value at from a (as-word h) w e = refl
-  full-value at from a (as-string {short} {v} h) w e = bytes-at t at v (a .within) (rw (a .cut) (take-append-seam v (a .rest)))
+  full-value at from a (as-string {short} {v}) w e = bytes-at t at v (a .within) (rw (a .cut) (take-append-seam v (a .rest)))
   full-value at from a as-integer w e = refl
   full-value at from a (as-bytes {v} h) w e = bytes-at scratch from (bytesOf v) (omega arith) e
 

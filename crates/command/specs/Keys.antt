@@ -3,7 +3,7 @@ use Prim.Native.Nat.{ℕ, suc}
 use Prim.Native.String.{String}
 use mathlib.Core.Bool.{Bool, true, false, cond}
 use mathlib.Core.List.{List, [], _∷_}
-use lib.ListN.{length, getD}
+use lib.ListN.{getD}
 use Rattle.octets.specs.Ascii.{ascii}
 use Rattle.octets.specs.Slices.{equals}
 use Rattle.octets.specs.Split.{split}
