@@ -27,15 +27,21 @@ pub call-taken : (f : Framing) (xs c : List ℕ) → textLimit ≤ length c → 
 unfolding scanOf
 call-taken f xs c h = rw (le-ltb (length c) textLimit h)
 
+-- a property that each report of a closed text has
+by-closed : (P : Report → Type 0) (n u : ℕ) → ((start : ℕ) → P (Report.InPiece start n)) → P (Report.InCarry n) → P Report.TooLong
+    → P (reportOf (Closed n) u)
+unfolding reportOf
+by-closed P n u piece carry long =
+    by-cond P (leb n textLimit) (λ _. by-cond P (leb n (u - 2)) (λ _. piece (u - 2 - n)) (λ _. carry)) (λ _. long)
+
 -- and these report no refusal with 9
 report-taken : (e : Event) (u : ℕ) → reportOf e u ≡ Report.ShortCarry → ⊥
 unfolding reportOf
 report-taken (On g) u q = let z : _≡_ {A = ℕ} 0 1 = cc in omega arith
 report-taken (Closed n) u q =
-    let P : Report → Type 0 = λ r. r ≡ Report.ShortCarry → ⊥ in
-    by-cond P (leb n textLimit)
-    (λ _. by-cond P (leb n (u - 2)) (λ _ e. let z : _≡_ {A = ℕ} 0 1 = cc in omega arith) (λ _ e. let z : _≡_ {A = ℕ} 0 1 = cc in omega arith))
-    (λ _ e. let z : _≡_ {A = ℕ} 0 1 = cc in omega arith) q
+    by-closed (λ r. r ≡ Report.ShortCarry → ⊥) n u
+    (λ start e. let z : _≡_ {A = ℕ} 0 1 = cc in omega arith) (λ e. let z : _≡_ {A = ℕ} 0 1 = cc in omega arith)
+    (λ e. let z : _≡_ {A = ℕ} 0 1 = cc in omega arith) q
 report-taken (Abandoned n g) u q = let z : _≡_ {A = ℕ} 0 1 = cc in omega arith
 
 pub call-report : (f : Framing) (xs c : List ℕ) → textLimit ≤ length c → scanOf f xs c .answer .report ≡ Report.ShortCarry → ⊥
@@ -87,12 +93,10 @@ used-some f i (b ∷ xs) = by (stepOf f b) (λ g. used-some g (i + 1) xs)
 
 -- with nothing to report, all of the piece
 report-some : (n u : ℕ) → reportOf (Closed n) u ≡ Report.Nothing → ⊥
-unfolding reportOf
 report-some n u =
-    let P : Report → Type 0 = λ r. r ≡ Report.Nothing → ⊥ in
-    by-cond P (leb n textLimit)
-    (λ _. by-cond P (leb n (u - 2)) (λ _ e. let z : _≡_ {A = ℕ} 0 1 = cc in omega arith) (λ _ e. let z : _≡_ {A = ℕ} 0 1 = cc in omega arith))
-    (λ _ e. let z : _≡_ {A = ℕ} 0 1 = cc in omega arith)
+    by-closed (λ r. r ≡ Report.Nothing → ⊥) n u
+    (λ start e. let z : _≡_ {A = ℕ} 0 1 = cc in omega arith) (λ e. let z : _≡_ {A = ℕ} 0 1 = cc in omega arith)
+    (λ e. let z : _≡_ {A = ℕ} 0 1 = cc in omega arith)
 
 abbrev silent : Walked → Type 0
 silent w = reportOf (w .event) (w .used) ≡ Report.Nothing

@@ -36,15 +36,18 @@ keep-whole c xs src e n m p h q =
     rw (le-leb n e h, take-length, r)
 
 -- a text whose first bytes are in the carry, with room for more
-pub keep-part : (c xs src : List ℕ) (e n m : ℕ) → m ≡ min e (textLimit - (n - e)) → e < n → n - e < textLimit → textLimit ≤ length c → src ≡ take m xs
-    → take (n - e) c ++ ((take (length src) src ++ drop (length src) (take (length c - (n - e)) (drop (n - e) c))) ++ drop (length c - (n - e)) (drop (n - e) c))
-    ≡ carryOf c xs e n
+pub keep-part : (c xs src : List ℕ) (e n m : ℕ) → m ≡ min e (textLimit - (n - e)) → e < n → n - e < textLimit → textLimit ≤ length c
+    → src ≡ take m xs
+    → let rest = drop (n - e) c in
+    let room = length c - (n - e) in
+    take (n - e) c ++ ((take (length src) src ++ drop (length src) (take room rest)) ++ drop room rest) ≡ carryOf c xs e n
 unfolding carryOf
 keep-part c xs src e n m p h l k q =
     let z : ℕ = n - e in
     let lt : length (take z c) ≡ z = length-take-le z c (omega arith) in
     let r : take (textLimit - z) (take e xs) ≡ src = take-min (textLimit - z) e xs ∙ rw (min-comm (textLimit - z) e, ← p) (sym q) in
-    let t : take textLimit (take z c ++ take e xs) ≡ take z c ++ src = take-joined textLimit (take z c) (take e xs) (omega arith) ∙ rw (lt, r) in
+    let t : take textLimit (take z c ++ take e xs) ≡ take z c ++ src =
+    take-joined textLimit (take z c) (take e xs) (omega arith) ∙ rw (lt, r) in
     let b : drop (length c - z) (drop z c) ≡ [] = drop-end (drop z c) (length c - z) (omega (arith, length-drop z c)) in
     rw (lt-leb n e h, t, part-rest, b, append-nil, take-length, append-assoc, length-append, lt, drop-drop)
 
@@ -52,6 +55,8 @@ keep-part c xs src e n m p h l k q =
 pub keep-full : (c xs : List ℕ) (e n : ℕ) → e < n → textLimit ≤ n - e → textLimit ≤ length c → c ≡ carryOf c xs e n
 unfolding carryOf
 keep-full c xs e n h l k =
-    let f : textLimit ≤ length (take (n - e) c) = simp length-take (omega arith) in
-    let t : take textLimit (take (n - e) c ++ take e xs) ≡ take textLimit c = take-append-le textLimit (take (n - e) c) (take e xs) f ∙ take-take textLimit (n - e) c l in
+    let kept : List ℕ = take (n - e) c in
+    let f : textLimit ≤ length kept = simp length-take (omega arith) in
+    let t : take textLimit (kept ++ take e xs) ≡ take textLimit c =
+    take-append-le textLimit kept (take e xs) f ∙ take-take textLimit (n - e) c l in
     rw (lt-leb n e h, t, length-take-le textLimit c k) (sym (take-append-drop textLimit c))

@@ -30,26 +30,30 @@ pub fresh-follows : (c : List ℕ) → Follows Plain c Mode.outside
 fresh-follows c = record { framing = refl; text = refl }
 
 -- ---- capped framings
-mode-capped : (m : Mode) → cappedOf (framingOf m) ≡ framingOf m
+abbrev Capped : Framing → Type 0
+Capped f = cappedOf f ≡ f
+
+mode-capped : (m : Mode) → Capped (framingOf m)
 mode-capped Mode.outside = refl
 mode-capped Mode.escape = refl
-mode-capped (Mode.inside t) = by-cond (λ (f : Framing). cappedOf f ≡ f) (mayBeCommand t) (λ _. cap-cap (Text (length t))) (λ _. refl)
-mode-capped (Mode.insideEscape t) = by-cond (λ (f : Framing). cappedOf f ≡ f) (isCommand t) (λ _. cap-cap (TextEscape (length t))) (λ _. refl)
+mode-capped (Mode.inside t) = by-cond Capped (mayBeCommand t) (λ _. cap-cap (Text (length t))) (λ _. refl)
+mode-capped (Mode.insideEscape t) = by-cond Capped (isCommand t) (λ _. cap-cap (TextEscape (length t))) (λ _. refl)
 
-call-capped : (f : Framing) (xs c : List ℕ) → cappedOf f ≡ f → cappedOf (scanOf f xs c .answer .framing) ≡ scanOf f xs c .answer .framing
-call-capped f xs c e = by-call (λ o. cappedOf (o .answer .framing) ≡ o .answer .framing) f xs c e (λ _. cap-cap (framingAfter (walkFrom (cappedOf f) 0 xs .event)))
+call-capped : (f : Framing) (xs c : List ℕ) → Capped f → Capped (scanOf f xs c .answer .framing)
+call-capped f xs c e =
+    by-call (λ o. Capped (o .answer .framing)) f xs c e (λ _. cap-cap (framingAfter (walkFrom (cappedOf f) 0 xs .event)))
 
 calls-capped : {f : Framing} {c bs : List ℕ} {ts : List Told} {f′ : Framing} {c′ : List ℕ}
-    → Calls f c bs ts f′ c′ → cappedOf f ≡ f → cappedOf f′ ≡ f′
+    → Calls f c bs ts f′ c′ → Capped f → Capped f′
 calls-capped Calls.none e = e
 calls-capped (Calls.call f c xs rest) e = calls-capped rest (call-capped f xs c e)
 
 -- ---- calls follow
-follows-capped : {f : Framing} {c : List ℕ} {m : Mode} → Follows f c m → cappedOf f ≡ f
+follows-capped : {f : Framing} {c : List ℕ} {m : Mode} → Follows f c m → Capped f
 follows-capped {f} {c} {m} w = rw (w .framing) (mode-capped m)
 
 runs-follow : {f : Framing} {c : List ℕ} {m : Mode} (bs : List ℕ) {ts : List Told} {f′ : Framing} {c′ : List ℕ}
-    → Follows f c m → cappedOf f′ ≡ f′ → run (stateAt f c) bs ≡ (ts, stateAt f′ c′) → (stream m bs .0 ≡ ts) × Follows f′ c′ (stream m bs .1)
+    → Follows f c m → Capped f′ → run (stateAt f c) bs ≡ (ts, stateAt f′ c′) → (stream m bs .0 ≡ ts) × Follows f′ c′ (stream m bs .1)
 runs-follow {f} {c} {m} bs w k e =
     let s : stateAt f c ≡ stateOf m = rw (follows-capped w, w .text, w .framing) in
     let r = sym (mode-runs m bs) ∙ sym (ap (λ (s : State). run s bs) s) ∙ e in (

@@ -18,44 +18,46 @@ use Rattle.frames.specs.declared.Framing.{Framing}
 use Rattle.frames.specs.declared.Framing.the-variants.{Plain, Escape, Text, TextEscape}
 use Rattle.frames.proofs.Choices.{by-cond}
 
+-- the walk from f goes on from g after k bytes
+abbrev Passes : Framing → ℕ → List ℕ → Framing → ℕ → Type 0
+Passes f i ys g k = walkFrom f i ys ≡ walkFrom g (i + k) (drop k ys)
+
 -- outside of texts they do nothing
-past-plain : (i : ℕ) (ys : List ℕ) → walkFrom Plain i ys ≡ walkFrom Plain (i + indexOf 0x1B ys) (drop (indexOf 0x1B ys) ys)
+past-plain : (i : ℕ) (ys : List ℕ) → Passes Plain i ys Plain (indexOf 0x1B ys)
 unfolding walkFrom stepOf indexOf indexAfter
 past-plain i [] = rw add-zero
 past-plain i (y ∷ ys) = by (eqb y 0x1B) refl (past-plain (i + 1) ys)
   where
-    by : (t : Bool) → eqb y 0x1B ≡ t → walkFrom Plain (i + 1) ys ≡ walkFrom Plain ((i + 1) + indexOf 0x1B ys) (drop (indexOf 0x1B ys) ys)
-        → walkFrom (cond t Escape Plain) (i + 1) ys ≡ walkFrom Plain (i + indexAfter t (indexOf 0x1B ys)) (drop (indexAfter t (indexOf 0x1B ys)) (y ∷ ys))
+    by : (t : Bool) → eqb y 0x1B ≡ t → Passes Plain (i + 1) ys Plain (indexOf 0x1B ys)
+        → let k = indexAfter t (indexOf 0x1B ys) in
+        walkFrom (cond t Escape Plain) (i + 1) ys ≡ walkFrom Plain (i + k) (drop k (y ∷ ys))
     by true e ih = rw (add-zero, e)
     by false e ih =
         let a : (i + 1) + indexOf 0x1B ys ≡ i + suc (indexOf 0x1B ys) = omega arith in
         ih ∙ rw a
 
 -- in a command they count
-past-text : (n i : ℕ) (ys : List ℕ) → 5 ≤ n
-    → walkFrom (Text n) i ys ≡ walkFrom (Text (n + indexOf 0x1B ys)) (i + indexOf 0x1B ys) (drop (indexOf 0x1B ys) ys)
+past-text : (n i : ℕ) (ys : List ℕ) → 5 ≤ n → Passes (Text n) i ys (Text (n + indexOf 0x1B ys)) (indexOf 0x1B ys)
 unfolding walkFrom stepOf indexOf indexAfter
 past-text n i [] h = rw (add-zero i, add-zero n)
 past-text n i (y ∷ ys) h = rw (le-ltb n 5 h) (by (eqb y 0x1B) refl (past-text (n + 1) (i + 1) ys (omega arith)))
   where
-    by : (t : Bool) → eqb y 0x1B ≡ t
-        → walkFrom (Text (n + 1)) (i + 1) ys ≡ walkFrom (Text ((n + 1) + indexOf 0x1B ys)) ((i + 1) + indexOf 0x1B ys) (drop (indexOf 0x1B ys) ys)
-        → walkFrom (cond t (TextEscape n) (Text (n + 1))) (i + 1) ys
-        ≡ walkFrom (Text (n + indexAfter t (indexOf 0x1B ys))) (i + indexAfter t (indexOf 0x1B ys)) (drop (indexAfter t (indexOf 0x1B ys)) (y ∷ ys))
+    by : (t : Bool) → eqb y 0x1B ≡ t → Passes (Text (n + 1)) (i + 1) ys (Text ((n + 1) + indexOf 0x1B ys)) (indexOf 0x1B ys)
+        → let k = indexAfter t (indexOf 0x1B ys) in
+        walkFrom (cond t (TextEscape n) (Text (n + 1))) (i + 1) ys ≡ walkFrom (Text (n + k)) (i + k) (drop k (y ∷ ys))
     by true e ih = rw (add-zero i, add-zero n) (rw (le-ltb n 5 h, e))
     by false e ih =
         let a : (i + 1) + indexOf 0x1B ys ≡ i + suc (indexOf 0x1B ys) = omega arith in
         let b : (n + 1) + indexOf 0x1B ys ≡ n + suc (indexOf 0x1B ys) = omega arith in
         ih ∙ rw (a, b)
 
-past : (f : Framing) (i : ℕ) (ys : List ℕ) → walkFrom f i ys ≡ walkFrom (passedOf f (glideOf f ys)) (i + glideOf f ys) (drop (glideOf f ys) ys)
+past : (f : Framing) (i : ℕ) (ys : List ℕ) → Passes f i ys (passedOf f (glideOf f ys)) (glideOf f ys)
 past Plain i ys = past-plain i ys
 past Escape i ys = rw add-zero
 past (TextEscape n) i ys = rw add-zero
 past (Text n) i ys = by (ltb n 5) refl
   where
-    by : (t : Bool) → ltb n 5 ≡ t
-        → walkFrom (Text n) i ys ≡ walkFrom (Text (n + cond t 0 (indexOf 0x1B ys))) (i + cond t 0 (indexOf 0x1B ys)) (drop (cond t 0 (indexOf 0x1B ys)) ys)
+    by : (t : Bool) → ltb n 5 ≡ t → let k = cond t 0 (indexOf 0x1B ys) in Passes (Text n) i ys (Text (n + k)) k
     by true e = rw (add-zero i, add-zero n)
     by false e = past-text n i ys (ltb-false n 5 e)
 

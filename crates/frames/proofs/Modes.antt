@@ -30,8 +30,10 @@ starts-next t [] b h = absurd (omega arith)
 starts-next [] (y ∷ w) b h = by-cond (λ (u : Bool). u ≡ eqb b y) (eqb b y) (λ e. sym e) (λ e. sym e)
 starts-next (x ∷ t) (y ∷ w) b h = by (eqb x y) (starts-next t w b (omega arith))
   where
-    by : (u : Bool) → startsWith (t ++ (b ∷ [])) (take (suc (length t)) w) ≡ (startsWith t (take (length t) w) && eqb b (getD w (length t) 0))
-        → cond u (startsWith (t ++ (b ∷ [])) (take (suc (length t)) w)) false ≡ (cond u (startsWith t (take (length t) w)) false && eqb b (getD w (length t) 0))
+    by : (u : Bool) → let longer = startsWith (t ++ (b ∷ [])) (take (suc (length t)) w) in
+        let start = startsWith t (take (length t) w) in
+        let next = eqb b (getD w (length t) 0) in
+        longer ≡ (start && next) → cond u longer false ≡ (cond u start false && next)
     by true ih = ih
     by false ih = refl
 
@@ -116,7 +118,8 @@ other-byte : (t : List ℕ) (b : ℕ) → mayBeCommand t ≡ false → Same (run
 unfolding readByte stepOf
 other-byte t b e = by (eqb b 0x1B)
   where
-    by : (u : Bool) → Same (tell (cappedEvent (On (cond u Escape Plain))) [] b) ([], cond u (Mode.insideEscape t) (Mode.inside (t ++ (b ∷ []))))
+    by : (u : Bool)
+        → Same (tell (cappedEvent (On (cond u Escape Plain))) [] b) ([], cond u (Mode.insideEscape t) (Mode.inside (t ++ (b ∷ []))))
     by true = rw (may-not t b e .0)
     by false = rw (may-not t b e .1)
 
@@ -135,7 +138,8 @@ ended-byte t b e = by (eqb b 0x5C)
         let h = leb-false (length t) textLimit q in
         rw (lt-leb (cap (cap (length t))) textLimit (omega arith))
 
-    by : (u : Bool) → Same (tell (cappedEvent (cond u (Closed (cap (length t))) (Abandoned (cap (length t)) (framingOf (afterEscape b))))) (take textLimit t) b)
+    by : (u : Bool) → let ended = cond u (Closed (cap (length t))) (Abandoned (cap (length t)) (framingOf (afterEscape b))) in
+        Same (tell (cappedEvent ended) (take textLimit t) b)
         (cond u (closedTells t, Mode.outside) (abandonedTells t, afterEscape b))
     by true = rw e (ap (λ (a : Told). (a ∷ [], state Plain [])) (told (leb (length t) textLimit) refl))
     by false = rw e (ap (λ (s : State). (Told.abandoned ∷ [], s)) (escape-state b))
@@ -145,7 +149,8 @@ other-ended : (t : List ℕ) (b : ℕ) → isCommand t ≡ false → readByte (M
 unfolding readByte
 other-ended t b e = by (eqb b 0x5C) refl
   where
-    by : (u : Bool) → eqb b 0x5C ≡ u → _≡_ {A = List Told × Mode} (cond u (closedTells t, Mode.outside) (abandonedTells t, afterEscape b)) ([], afterEscape b)
+    by : (u : Bool) → eqb b 0x5C ≡ u
+        → _≡_ {A = List Told × Mode} (cond u (closedTells t, Mode.outside) (abandonedTells t, afterEscape b)) ([], afterEscape b)
     by true q = rw (e, eqb-true b 0x5C q)
     by false q = rw e
 
@@ -159,13 +164,14 @@ mode-byte Mode.outside b = by (eqb b 0x1B)
 mode-byte Mode.escape b = escape-byte b
 mode-byte (Mode.inside t) b = by (mayBeCommand t) refl
   where
-    by : (u : Bool) → mayBeCommand t ≡ u → Same (runByte (state (cond u (Text (cap (length t))) Plain) (cond u (take textLimit t) [])) b) (readByte (Mode.inside t) b)
+    by : (u : Bool) → mayBeCommand t ≡ u → let s = state (cond u (Text (cap (length t))) Plain) (cond u (take textLimit t) []) in
+        Same (runByte s b) (readByte (Mode.inside t) b)
     by true e = rw (cap-text (length t) b) (text-byte t b e)
     by false e = other-byte t b e
 mode-byte (Mode.insideEscape t) b = by (isCommand t) refl
   where
-    by : (u : Bool) → isCommand t ≡ u
-        → Same (runByte (state (cond u (TextEscape (cap (length t))) Escape) (cond u (take textLimit t) [])) b) (readByte (Mode.insideEscape t) b)
+    by : (u : Bool) → isCommand t ≡ u → let s = state (cond u (TextEscape (cap (length t))) Escape) (cond u (take textLimit t) []) in
+        Same (runByte s b) (readByte (Mode.insideEscape t) b)
     by true e = ended-byte t b e
     by false e = escape-byte b ∙ rw (other-ended t b e)
 

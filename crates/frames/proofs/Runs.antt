@@ -97,9 +97,9 @@ ends c p (TextEscape n) h = held-state c p (TextEscape (cap n)) (length p - 1) n
 
 -- it reports a command text, which comes from the piece or from the carry
 read-text : (c xs : List ℕ) (e n : ℕ) → e ≤ length xs → textLimit ≤ length c → n ≤ textLimit → (t : Bool) → leb n e ≡ t
-    → toldOf (cond t (Report.InPiece (e - n) n) (Report.InCarry n))
-    (textOf xs (carryOf c xs (cond t (heldAt 0 0) (heldAt e n) .end) (cond t (heldAt 0 0) (heldAt e n) .count)) (cond t (Report.InPiece (e - n) n) (Report.InCarry n)))
-    ≡ Told.command (take textLimit (textAt c xs e n)) ∷ []
+    → let held = cond t (heldAt 0 0) (heldAt e n) in
+    let report = cond t (Report.InPiece (e - n) n) (Report.InCarry n) in
+    toldOf report (textOf xs (carryOf c xs (held .end) (held .count)) report) ≡ Told.command (take textLimit (textAt c xs e n)) ∷ []
 unfolding textOf partOf
 read-text c xs e n l h k true o =
     let g : n ≤ e = leb-true n e o in
@@ -108,7 +108,8 @@ read-text c xs e n l h k true o =
 read-text c xs e n l h k false o =
     let m : length (carryOf c xs e n) ≡ length c = carry-length c xs e n l h in
     let z : min n textLimit ≡ n = omega arith in
-    rw (le-leb (0 + n) (length (carryOf c xs e n)) (omega arith)) (ap (λ (t : List ℕ). Told.command t ∷ []) (rw z at (carry-text c xs e n l h)))
+    let first : take n (carryOf c xs e n) ≡ take textLimit (textAt c xs e n) = rw z at (carry-text c xs e n l h) in
+    rw (le-leb (0 + n) (length (carryOf c xs e n)) (omega arith)) (ap (λ (t : List ℕ). Told.command t ∷ []) first)
 
 -- the call's last byte, after p, closes a text of n bytes
 closed-told : (c p q xs : List ℕ) (n : ℕ) → textLimit ≤ length c → p ++ q ≡ xs
@@ -116,16 +117,18 @@ closed-told : (c p q xs : List ℕ) (n : ℕ) → textLimit ≤ length c → p +
     ≡ cond (leb (cap n) textLimit) (Told.command (take textLimit (textAt c p (length p - 1) n))) Told.tooLong ∷ []
 unfolding heldOf reportOf
 closed-told c p q xs n h x =
-    let e : (length p + 1) - 2 ≡ length p - 1 = omega arith in
-    let m : textAt c xs (length p - 1) n ≡ textAt c p (length p - 1) n = rw (← x) (text-more c p q (length p - 1) n (sub-le (length p) 1)) in
+    let end : ℕ = length p - 1 in
+    let e : (length p + 1) - 2 ≡ end = omega arith in
+    let m : textAt c xs end n ≡ textAt c p end n = rw (← x) (text-more c p q end n (sub-le (length p) 1)) in
     let lx : length xs ≡ length p + length q = rw (← x) (length-append p q) in
-    let end = length p - 1 in
     let held : Held = cond (leb n end) (heldAt 0 0) (heldAt end n) in
     let P : Report → Type 0 = λ r. toldOf r (textOf xs (carryOf c xs (held .end) (held .count)) r)
     ≡ cond (leb (cap n) textLimit) (Told.command (take textLimit (textAt c xs end n))) Told.tooLong ∷ [] in
     rw (e, ← m)
     (by-cond P (leb n textLimit)
-    (λ o. let k = leb-true n textLimit o in rw (le-leb (cap n) textLimit (omega arith)) (read-text c xs end n (omega arith) h k (leb n end) refl))
+    (λ o.
+    let k = leb-true n textLimit o in
+    rw (le-leb (cap n) textLimit (omega arith)) (read-text c xs end n (omega arith) h k (leb n end) refl))
     (λ o. let k = leb-false n textLimit o in rw (lt-leb (cap n) textLimit (omega arith))))
 
 walks : (c : List ℕ) → textLimit ≤ length c → (f : Framing) (p ys xs : List ℕ) (i : ℕ) → length p ≡ i → p ++ ys ≡ xs

@@ -84,7 +84,8 @@ cap-text n b = by (ltb n 5) refl
         let h = ltb-false n 5 e in
         rw (le-ltb (cap n) 5 (omega arith), e) (grown (eqb b 0x1B))
 
-cap-ended : (n : ℕ) (g : Framing) (t : Bool) → cappedEvent (cond t (Closed (cap n)) (Abandoned (cap n) g)) ≡ cappedEvent (cond t (Closed n) (Abandoned n g))
+cap-ended : (n : ℕ) (g : Framing) (t : Bool)
+    → cappedEvent (cond t (Closed (cap n)) (Abandoned (cap n) g)) ≡ cappedEvent (cond t (Closed n) (Abandoned n g))
 cap-ended n g true = ap Closed (omega arith)
 cap-ended n g false = ap (λ (k : ℕ). Abandoned k g) (omega arith)
 

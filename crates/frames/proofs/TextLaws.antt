@@ -19,7 +19,8 @@ pub text-more : (c p q : List ℕ) (e n : ℕ) → e ≤ length p → textAt c (
 text-more c p q e n h = by (leb n e) refl
   where
     by : (t : Bool) → leb n e ≡ t
-        → cond t (take n (drop (e - n) (p ++ q))) (take (n - e) c ++ take e (p ++ q)) ≡ cond t (take n (drop (e - n) p)) (take (n - e) c ++ take e p)
+        → cond t (take n (drop (e - n) (p ++ q))) (take (n - e) c ++ take e (p ++ q))
+        ≡ cond t (take n (drop (e - n) p)) (take (n - e) c ++ take e p)
     by true k =
         let l : n ≤ length (drop (e - n) p) = simp length-drop (omega (arith, leb-true n e k)) in
         rw (drop-append-le (e - n) p q (omega arith), take-append-le n (drop (e - n) p) q l)
@@ -30,18 +31,32 @@ pub text-grows : (c p : List ℕ) (n b : ℕ) → textAt c (p ++ (b ∷ [])) (le
 text-grows c p n b = by (leb n (length p)) refl
   where
     by : (t : Bool) → leb n (length p) ≡ t
-        → textAt c (p ++ (b ∷ [])) (length p + 1) (n + 1) ≡ cond t (take n (drop (length p - n) p)) (take (n - length p) c ++ take (length p) p) ++ (b ∷ [])
+        → textAt c (p ++ (b ∷ [])) (length p + 1) (n + 1)
+        ≡ cond t (take n (drop (length p - n) p)) (take (n - length p) c ++ take (length p) p) ++ (b ∷ [])
     by true k =
         let h : n ≤ length p = leb-true n (length p) k in
         let e : (length p + 1) - (n + 1) ≡ length p - n = omega arith in
-        let l : length (drop (length p - n) p) ≤ n = simp length-drop (omega arith) in
-        let m : length (drop (length p - n) p ++ (b ∷ [])) ≤ n + 1 = simp (length-append, length-drop) (omega arith) in
-        rw (le-leb (n + 1) (length p + 1) (omega arith), e, drop-append-le (length p - n) p (b ∷ []) (sub-le (length p) n), take-all (n + 1) (drop (length p - n) p ++ (b ∷ [])) m, take-all n (drop (length p - n) p) l)
+        let last : List ℕ = drop (length p - n) p in
+        let l : length last ≤ n = simp length-drop (omega arith) in
+        let m : length (last ++ (b ∷ [])) ≤ n + 1 = simp (length-append, length-drop) (omega arith) in
+        rw (
+          le-leb (n + 1) (length p + 1) (omega arith),
+          e,
+          drop-append-le (length p - n) p (b ∷ []) (sub-le (length p) n),
+          take-all (n + 1) (last ++ (b ∷ [])) m,
+          take-all n last l,
+        )
     by false k =
         let h : length p < n = leb-false n (length p) k in
         let e : (n + 1) - (length p + 1) ≡ n - length p = omega arith in
         let m : length (p ++ (b ∷ [])) ≤ length p + 1 = simp length-append (omega arith) in
-        rw (lt-leb (n + 1) (length p + 1) (omega arith), e, take-all (length p + 1) (p ++ (b ∷ [])) m, take-all (length p) p (le-refl (length p)), append-assoc)
+        rw (
+          lt-leb (n + 1) (length p + 1) (omega arith),
+          e,
+          take-all (length p + 1) (p ++ (b ∷ [])) m,
+          take-all (length p) p (le-refl (length p)),
+          append-assoc,
+        )
 
 -- a byte more of a text that is cut at k bytes
 pub take-grows : (k : ℕ) (t : List ℕ) (b : ℕ) → take k (take k t ++ (b ∷ [])) ≡ take k (t ++ (b ∷ []))
@@ -55,7 +70,8 @@ take-grows k t b = by (leb (length t) k) refl
         rw (take-append-le k (take k t) (b ∷ []) l, take-append-le k t (b ∷ []) (le-of-lt h), take-take k k t (le-refl k))
 
 -- it has as many bytes as were counted, up to 8,192
-pub text-length : (c p : List ℕ) (e n : ℕ) → e ≤ length p → textLimit ≤ length c → length (take textLimit (textAt c p e n)) ≡ min n textLimit
+pub text-length : (c p : List ℕ) (e n : ℕ) → e ≤ length p → textLimit ≤ length c
+    → length (take textLimit (textAt c p e n)) ≡ min n textLimit
 text-length c p e n h k =
     by-cond (λ (t : List ℕ). length (take textLimit t) ≡ min n textLimit) (leb n e)
     (λ q. simp (length-take, length-drop) (omega (arith, leb-true n e q)))

@@ -69,7 +69,8 @@ after-used (Abandoned m g) i n k p h = p
 pub used-le : (f : Framing) (i : ℕ) (xs : List ℕ) → walkFrom f i xs .used ≤ i + length xs
 unfolding walkFrom
 used-le f i [] = omega arith
-used-le f i (b ∷ xs) = after-used (stepOf f b) (i + 1) (i + suc (length xs)) _ (omega arith) (λ g. le-trans (used-le g (i + 1) xs) (omega arith))
+used-le f i (b ∷ xs) =
+    after-used (stepOf f b) (i + 1) (i + suc (length xs)) _ (omega arith) (λ g. le-trans (used-le g (i + 1) xs) (omega arith))
 
 -- what is held ends within them
 reported-end : (u n : ℕ) → reportedAt u n .end ≤ u

@@ -25,7 +25,9 @@ returns c = rw (c .enum-told .given .1)
 
 returns-2 : tie.Need-returns-2
 unfolding reportOf
-returns-2 c = let n = c .before .before .before .event .given .0 .0 in rw (c .before .before .before .event .given .1, le-leb n textLimit (omega arith)) (c .place .ensures)
+returns-2 c =
+    let e = c .before .before .before .event .given in
+    rw (e .1, le-leb (e .0 .0) textLimit (omega arith)) (c .place .ensures)
 
 returns-3 : tie.Need-returns-3
 unfolding reportOf

@@ -43,11 +43,15 @@ returns-2 c = rw (c .before .before .before .event .given .1, c .enum-told2 .giv
 
 returns-3 : tie.Need-returns-3
 unfolding heldOf
-returns-3 c = rw (c .before .before .before .before .event .given .1, c .before .g .given .1)
+returns-3 c =
+    let g = c .before in
+    rw (g .before .before .before .event .given .1, g .g .given .1)
 
 returns-4 : tie.Need-returns-4
 unfolding heldOf
-returns-4 c = rw (c .before .before .before .before .before .event .given .1, c .before .before .g2 .given .1, c .less .ensures)
+returns-4 c =
+    let g = c .before .before in
+    rw (g .before .before .before .event .given .1, g .g2 .given .1, c .less .ensures)
 
 returns-5 : tie.Need-returns-5
 unfolding heldOf

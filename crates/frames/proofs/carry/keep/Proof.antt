@@ -53,16 +53,26 @@ same-length : tie.Need-same-length
 same-length c = search needs
 
 returns : tie.Need-returns
-returns c = c .before .before .copy .ensures .1 ∙ keep-whole _ _ _ _ _ _ (c .before .before .before .before .before .least .ensures) (c .before .before .before .before .before .before .if1 .taken) refl
+returns c =
+    let m = c .before .before .before .before .before in
+    c .before .before .copy .ensures .1 ∙ keep-whole _ _ _ _ _ _ (m .least .ensures) (m .before .if1 .taken) refl
 
 same-length-2 : tie.Need-same-length-2
 same-length-2 c = search needs
 
 returns-2 : tie.Need-returns-2
-returns-2 c = rw (c .before .before .copy2 .ensures .1) (keep-part _ _ _ _ _ _ (c .before .before .before .before .before .least2 .ensures) (c .before .before .before .before .before .before .before .if1 .left) (c .before .before .before .before .before .before .if2 .taken) (c .before .before .before .before .before .before .before .before .before .before .pre .1) refl)
+returns-2 c =
+    let m = c .before .before .before .before .before in
+    let room = m .before in
+    let held = room .before in
+    let lent = held .before .before .before .pre .1 in
+    rw (c .before .before .copy2 .ensures .1)
+    (keep-part _ _ _ _ _ _ (m .least2 .ensures) (held .if1 .left) (room .if2 .taken) lent refl)
 
 returns-3 : tie.Need-returns-3
-returns-3 c = keep-full _ _ _ _ (c .before .if1 .left) (c .if2 .left) (c .before .before .before .before .pre .1)
+returns-3 c =
+    let held = c .before in
+    keep-full _ _ _ _ (held .if1 .left) (c .if2 .left) (held .before .before .before .pre .1)
 
 pub keep-spec : {M : Type 1} → statement M
 keep-spec =

@@ -48,7 +48,9 @@ returns-5 c = rw (c .before .before .f2 .given .1) (search tests)
 
 returns-6 : tie.Need-returns-6
 unfolding stepOf
-returns-6 c = rw (c .before .before .before .f2 .given .1, ne-eqb _ _ (c .before .if2 .left), c .after-escape2 .ensures)
+returns-6 c =
+    let other = c .before in
+    rw (other .before .before .f2 .given .1, ne-eqb _ _ (other .if2 .left), c .after-escape2 .ensures)
 
 pub step-spec : {M : Type 1} → statement M
 step-spec =

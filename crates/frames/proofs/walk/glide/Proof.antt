@@ -33,7 +33,9 @@ returns-3 : tie.Need-returns-3
 returns-3 c = rw (c .before .before .f .given .1, lt-ltb _ _ (c .if1 .taken)) (sym (add-zero _))
 
 returns-4 : tie.Need-returns-4
-returns-4 c = rw (c .before .before .before .f .given .1, le-ltb _ _ (c .before .if1 .left)) (c .find2 .ensures)
+returns-4 c =
+    let long = c .before in
+    rw (long .before .before .f .given .1, le-ltb _ _ (long .if1 .left)) (c .find2 .ensures)
 
 returns-5 : tie.Need-returns-5
 returns-5 c = rw (c .enum-told3 .given .1) (sym (add-zero _))

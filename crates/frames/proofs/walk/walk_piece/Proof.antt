@@ -43,12 +43,19 @@ glide-requires : tie.Need-glide-requires Inv-loop μ-loop
 glide-requires c κs = search needs
 
 -- where the bytes end that this turn passes
-ending : (c : tie.After-glide Inv-loop μ-loop) → (c .before .before .before .before .before .before .before .loop .i + 1 ≤ c .glide .result) × (c .glide .result ≤ length (c .before .before .before .before .before .before .before .before .before .before .args .piece .now))
-ending c = glide-ends (c .before .before .e .given .0 .0) (c .before .before .before .before .before .before .before .loop .i + 1) (c .glide .result) _ (omega arith) (c .glide .ensures)
+ending : (c : tie.After-glide Inv-loop μ-loop) → let l = c .before .before .before .before .before .before .before in
+    (l .loop .i + 1 ≤ c .glide .result) × (c .glide .result ≤ length (l .before .before .before .args .piece .now))
+ending c =
+    let l = c .before .before .before .before .before .before .before in
+    glide-ends (c .before .before .e .given .0 .0) (l .loop .i + 1) (c .glide .result) _ (omega arith) (c .glide .ensures)
 
 -- the count after this turn's byte
-counted : (c : tie.After-step Inv-loop μ-loop) {g : Framing} → c .step .result ≡ On g → count g ≤ count (c .before .before .before .loop .f) + 1
-counted c {g} e = grows-on (c .before .before .before .loop .f) (getD (c .before .before .before .before .before .before .args .piece .now) (c .before .before .before .loop .i) 0) _ g (c .step .ensures) e
+counted : (c : tie.After-step Inv-loop μ-loop) {g : Framing} → c .step .result ≡ On g
+    → count g ≤ count (c .before .before .before .loop .f) + 1
+counted c {g} e =
+    let l = c .before .before .before in
+    let piece = l .before .before .before .args .piece .now in
+    grows-on (l .loop .f) (getD piece (l .loop .i) 0) _ g (c .step .ensures) e
 
 sub-passed : tie.Need-sub-passed Inv-loop μ-loop
 sub-passed c = ending c .0
@@ -66,17 +73,21 @@ loop-again c =
     let l = s .before .before .before in
     let e = g .before .before .e .given in (
       ending g .1,
-      rw (c .passed .ensures) (le-trans (passed-le (e .0 .0) (g .glide .result - (l .loop .i + 1))) (omega (arith, ending g, counted s (e .1)))),
-      l .loop .inv .2 ∙ turn _ _ _ _ (s .before .before .loop-test .taken) (s .step .ensures) ∙ rw (e .1) (glide-on (e .0 .0) (c .passed .result) _ _ _ (g .glide .ensures) (c .passed .ensures)),
+      rw (c .passed .ensures)
+          (le-trans (passed-le (e .0 .0) (g .glide .result - (l .loop .i + 1))) (omega (arith, ending g, counted s (e .1)))),
+      l .loop .inv .2 ∙ turn _ _ _ _ (s .before .before .loop-test .taken) (s .step .ensures)
+          ∙ rw (e .1) (glide-on (e .0 .0) (c .passed .result) _ _ _ (g .glide .ensures) (c .passed .ensures)),
     )
 
 enum-told : tie.Need-enum-told Inv-loop μ-loop
 enum-told c = search needs
 
 -- the walk of the piece is what this turn's event makes of the rest
-turned : (c : tie.After-step Inv-loop μ-loop) → walkFrom (cappedOf (c .before .before .before .before .before .before .args .framing)) 0 (c .before .before .before .before .before .before .args .piece .now)
-    ≡ after (c .step .result) (c .before .before .before .loop .i + 1)
-    (λ (g : Framing). walkFrom g (c .before .before .before .loop .i + 1) (drop (c .before .before .before .loop .i + 1) (c .before .before .before .before .before .before .args .piece .now)))
+turned : (c : tie.After-step Inv-loop μ-loop) → let l = c .before .before .before in
+    let a = l .before .before .before .args in
+    let next = l .loop .i + 1 in
+    walkFrom (cappedOf (a .framing)) 0 (a .piece .now)
+    ≡ after (c .step .result) next (λ (g : Framing). walkFrom g next (drop next (a .piece .now)))
 turned c =
     let l = c .before .before .before in
     rw (← l .before .capped .ensures)
@@ -93,7 +104,9 @@ returns-2 c = sym (turned (c .before .before) ∙ rw (c .enum-told2 .given .1))
 
 returns-3 : tie.Need-returns-3 Inv-loop μ-loop
 unfolding walkFrom
-returns-3 c = rw (← c .before .before .capped .ensures) (sym (c .before .loop .inv .2 ∙ rw (drop-end _ _ (c .loop-test .left))))
+returns-3 c =
+    let l = c .before in
+    rw (← l .before .capped .ensures) (sym (l .loop .inv .2 ∙ rw (drop-end _ _ (c .loop-test .left))))
 
 pub walk-piece-spec : {M : Type 1} → statement M
 walk-piece-spec =
