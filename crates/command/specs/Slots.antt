@@ -45,7 +45,8 @@ actionCode Action.Status = 8
 unfoldable pub actionOf : ℕ → Action
 actionOf n =
     cond (eqb n 1) Action.Send (cond (eqb n 2) Action.Receive (cond (eqb n 3) Action.File (cond (eqb n 4) Action.Data
-    (cond (eqb n 5) Action.EndData (cond (eqb n 6) Action.Finish (cond (eqb n 7) Action.Cancel (cond (eqb n 8) Action.Status Action.None)))))))
+    (cond (eqb n 5) Action.EndData (cond (eqb n 6) Action.Finish (cond (eqb n 7) Action.Cancel
+    (cond (eqb n 8) Action.Status Action.None)))))))
 
 abbrev pub fileTypeCode : FileType → ℕ
 fileTypeCode FileType.Regular = 0

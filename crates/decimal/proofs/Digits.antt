@@ -53,7 +53,8 @@ read-fixed (suc w) a n =
     ∙ ap Value (rw (pow-succ' 10 w, mod-mul n {m = 10} {c = 10 ^ w} (lit< tt) (ten-pos w)) (omega arith))
 
 -- what reads begins with a digit, and the others read after it
-pub digits-first : (a c : ℕ) (r : List ℕ) (m : ℕ) → digitsOf a (c ∷ r) ≡ Value m → (48 ≤ c) × (c ≤ 57) × (digitsOf (a * 10 + (c - 48)) r ≡ Value m)
+pub digits-first : (a c : ℕ) (r : List ℕ) (m : ℕ) → digitsOf a (c ∷ r) ≡ Value m
+    → (48 ≤ c) × (c ≤ 57) × (digitsOf (a * 10 + (c - 48)) r ≡ Value m)
 unfolding digitsOf
 digits-first a c r m e = go (ltb c 48) refl (ltb 57 c) refl
   where

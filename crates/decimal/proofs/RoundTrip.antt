@@ -103,7 +103,9 @@ write-again s c r n h e =
 -- each canonical text that reads is the text of what it reads as
 pub written-read : {t : List ℕ} (n : Number) → Canonical t → parseOf t ≡ Integer n → textOf n ≡ t
 unfolding parseOf startsWith
-written-read n C.zero e = unfold magnitudeOf digitsOf rangedOf textOf fixed widthFrom in (let q : n ≡ record { negative = false; magnitude = 0 } = cc in rw q)
+written-read n C.zero e =
+    unfold magnitudeOf digitsOf rangedOf textOf fixed widthFrom in
+    (let q : n ≡ record { negative = false; magnitude = 0 } = cc in rw q)
 written-read n (C.positive {c} {r} l u) e = write-again false c r n l (rw (ne-eqb c 45 (λ q. omega arith)) at e)
 written-read n (C.negative {c} {r} l u) e = write-again true c r n l e
 

@@ -15,7 +15,8 @@ use Rattle.decimal.proofs.parse.Tie as tie
 -- a text that begins with `-` has a first byte
 long : (c : tie.Then1) → 1 ≤ length (c .before .before .before .before .args .text .now)
 long c =
-    let e = starts-sound (c .before .before .before .before .args .text .now) (ascii "-") (sym (c .before .starts-with .ensures) ∙ c .if1 .taken) in
+    let s = c .before in
+    let e = starts-sound (s .before .before .before .args .text .now) (ascii "-") (sym (s .starts-with .ensures) ∙ c .if1 .taken) in
     omega (arith, ap length e)
 
 slice-aggregate-starts-with : tie.Need-slice-aggregate-starts-with

@@ -28,8 +28,8 @@ accepted c =
 
 -- so its text is stored, if it fits
 stored : (c : tie.After-fits2) → let a = c .before .before .before .before .args in
-    writeOf (a .n) (a .out .now) (a .at)
-    ≡ cond (c .fits2 .result) (outcome (End (a .at + c .before .text-length .result)) (sets (a .out .now) (a .at) (textOf (a .n)))) (outcome NoRoom (a .out .now))
+    let put = outcome (End (a .at + c .before .text-length .result)) (sets (a .out .now) (a .at) (textOf (a .n))) in
+    writeOf (a .n) (a .out .now) (a .at) ≡ cond (c .fits2 .result) put (outcome NoRoom (a .out .now))
 stored c =
     let a = c .before .before .before .before .args in
     write-stores (a .n) (a .out .now) (a .at) (accepted (c .before .before)) ∙ rw (← c .before .text-length .ensures, ← c .fits2 .ensures)
@@ -47,7 +47,9 @@ returns c = (rw (c .before .before .if1 .taken, eq-eqb _ _ (c .if2 .taken)), cla
 
 returns-2 : tie.Need-returns-2
 unfolding writeOf
-returns-2 c = (rw (c .before .before .before .before .if1 .taken, ne-eqb _ _ (c .before .before .if2 .left), lt-ltb _ _ (c .if3 .taken)), claims)
+returns-2 c =
+    let some = c .before .before in
+    (rw (some .before .before .if1 .taken, ne-eqb _ _ (some .if2 .left), lt-ltb _ _ (c .if3 .taken)), claims)
 
 returns-3 : tie.Need-returns-3
 unfolding writeOf

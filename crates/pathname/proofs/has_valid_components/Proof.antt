@@ -26,12 +26,14 @@ within c =
     omega (arith, c .find .ensures, index-le 47 (drop at n), length-drop at n)
 
 -- what the next component leaves
-turn : (c : tie.After-is-valid-component Inv-loop μ-loop) → let n = c .before .before .before .before .before .before .args .name .now in
-    validComponents n ≡ (c .is-valid-component .result && (restValid n (c .before .before .find .result + 1)))
+turn : (c : tie.After-is-valid-component Inv-loop μ-loop) → let f = c .before .before in
+    let n = f .before .before .before .before .args .name .now in
+    validComponents n ≡ (c .is-valid-component .result && (restValid n (f .find .result + 1)))
 turn c =
-    let n = c .before .before .before .before .before .before .args .name .now in
-    let l = c .before .before .before .before .loop in
-    sym (l .inv .1) ∙ rest-at n (l .at) (c .before .before .find .result) (omega arith) (c .before .before .find .ensures) ∙ rw (← c .is-valid-component .ensures)
+    let f = c .before .before in
+    let n = f .before .before .before .before .args .name .now in
+    let l = f .before .before .loop in
+    sym (l .inv .1) ∙ rest-at n (l .at) (f .find .result) (omega arith) (f .find .ensures) ∙ rw (← c .is-valid-component .ensures)
 
 loop-holds : tie.Need-loop-holds Inv-loop μ-loop
 unfolding validComponents
@@ -62,7 +64,9 @@ loop-less : tie.Need-loop-less Inv-loop μ-loop
 loop-less c = omega arith
 
 loop-again : tie.Need-loop-again Inv-loop μ-loop
-loop-again c = (omega (arith, within (c .before .before .before)), sym (turn (c .before) ∙ rw (not-false (c .before .is-valid-component .result) (c .if1 .left))))
+loop-again c =
+    let v = c .before in
+    (omega (arith, within (v .before .before)), sym (turn v ∙ rw (not-false (v .is-valid-component .result) (c .if1 .left))))
 
 returns-2 : tie.Need-returns-2 Inv-loop μ-loop
 returns-2 c =

@@ -12,18 +12,23 @@ use Rattle.pathname.proofs.is_valid.Statement.{statement}
 use Rattle.pathname.proofs.is_valid.Tie as tie
 
 -- what each test leaves of the rule: the length
-sized : (c : tie.Else2) → let n = c .before .before .before .args .name .now in validName n ≡ (utf8 n && (lacks 0 n && (rooted n && validComponents n)))
+sized : (c : tie.Else2) → let n = c .before .before .before .args .name .now in
+    validName n ≡ (utf8 n && (lacks 0 n && (rooted n && validComponents n)))
 unfolding validName
 sized c =
     let n = c .before .before .before .args .name .now in
     rw (le-leb 1 (length n) (omega arith), le-leb (length n) nameLimit (omega arith))
 
 -- UTF-8
-encoded : (c : tie.Else3) → let n = c .before .before .before .before .before .args .name .now in validName n ≡ (lacks 0 n && (rooted n && validComponents n))
-encoded c = sized (c .before .before) ∙ rw (← c .before .is-valid .ensures, not-false (c .before .is-valid .result) (c .if3 .left))
+encoded : (c : tie.Else3) → let n = c .before .before .before .before .before .args .name .now in
+    validName n ≡ (lacks 0 n && (rooted n && validComponents n))
+encoded c =
+    let v = c .before in
+    sized (v .before) ∙ rw (← v .is-valid .ensures, not-false (v .is-valid .result) (c .if3 .left))
 
 -- no zero byte
-whole : (c : tie.Else4) → let n = c .before .before .before .before .before .before .before .args .name .now in validName n ≡ (rooted n && validComponents n)
+whole : (c : tie.Else4) → let n = c .before .before .before .before .before .before .before .args .name .now in
+    validName n ≡ (rooted n && validComponents n)
 whole c =
     let n = c .before .before .before .before .before .before .before .args .name .now in
     encoded (c .before .before) ∙ rw (eq-eqb (indexOf 0 n) (length n) (omega (arith, c .before .find .ensures)))
@@ -42,7 +47,9 @@ is-valid-requires : tie.Need-is-valid-requires
 is-valid-requires c κs = search needs
 
 returns-3 : tie.Need-returns-3
-returns-3 c = sym (sized (c .before .before) ∙ rw (← c .before .is-valid .ensures, not-true (c .before .is-valid .result) (c .if3 .taken)))
+returns-3 c =
+    let v = c .before in
+    sym (sized (v .before) ∙ rw (← v .is-valid .ensures, not-true (v .is-valid .result) (c .if3 .taken)))
 
 find-requires : tie.Need-find-requires
 find-requires c κs = search needs
@@ -56,7 +63,9 @@ is-rooted-requires : tie.Need-is-rooted-requires
 is-rooted-requires c κs = search needs
 
 returns-5 : tie.Need-returns-5
-returns-5 c = sym (whole (c .before .before) ∙ rw (← c .before .is-rooted .ensures, not-true (c .before .is-rooted .result) (c .if5 .taken)))
+returns-5 c =
+    let r = c .before in
+    sym (whole (r .before) ∙ rw (← r .is-rooted .ensures, not-true (r .is-rooted .result) (c .if5 .taken)))
 
 has-valid-components-requires : tie.Need-has-valid-components-requires
 has-valid-components-requires c κs = search needs

@@ -27,11 +27,17 @@ unfolding digitsOf
 digits-at t i a h = rw (drop-at t i h)
 
 -- what one byte more leaves
-turn : (c : tie.After-wide Inv-loop μ-loop) → let t = c .before .before .before .before .before .args .text .now in let l = c .before .before .before .loop in
-    digitsOf 0 t ≡ cond (ltb (c .wide .result) 48) NotDigits (cond (ltb 57 (c .wide .result)) NotDigits (digitsOf (l .value * 10 + (c .wide .result - 48)) (drop (l .i + 1) t)))
+turn : (c : tie.After-wide Inv-loop μ-loop) → let at = c .before .before .before in
+    let t = at .before .before .args .text .now in
+    let l = at .loop in
+    let b = c .wide .result in
+    digitsOf 0 t
+    ≡ cond (ltb b 48) NotDigits (cond (ltb 57 b) NotDigits (digitsOf (l .value * 10 + (b - 48)) (drop (l .i + 1) t)))
 turn c =
-    let l = c .before .before .before .loop in
-    sym (l .inv .2) ∙ digits-at (c .before .before .before .before .before .args .text .now) (l .i) (l .value) (omega arith) ∙ rw (← c .wide .ensures)
+    let at = c .before .before .before in
+    let t = at .before .before .args .text .now in
+    let l = at .loop in
+    sym (l .inv .2) ∙ digits-at t (l .i) (l .value) (omega arith) ∙ rw (← c .wide .ensures)
 
 -- fewer than 19 digits came before, so one more fits
 fits : (c : tie.Else2 Inv-loop μ-loop) → 10 ^ (c .before .before .before .before .before .loop .i) ≤ 10 ^ 18

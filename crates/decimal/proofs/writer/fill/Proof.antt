@@ -21,15 +21,21 @@ add-digits c = search needs
 digits-requires : tie.Need-digits-requires
 unfolding textOf
 digits-requires c κs =
-    simp length-set (omega (arith, rw (c .before .if1 .taken, length-fixed) at (c .before .before .before .before .pre), c .before .before .width .ensures .0))
+    let below = c .before in
+    let w = below .before in
+    simp length-set (omega (arith, rw (below .if1 .taken, length-fixed) at (w .before .before .pre), w .width .ensures .0))
 
 digits-requires-2 : tie.Need-digits-requires-2
 unfolding textOf
 digits-requires-2 c κs =
-    omega (arith, rw (c .before .if1 .left, length-fixed) at (c .before .before .before .before .pre), c .before .before .width .ensures .0)
+    let above = c .before in
+    let w = above .before in
+    omega (arith, rw (above .if1 .left, length-fixed) at (w .before .before .pre), w .width .ensures .0)
 
 same-length : tie.Need-same-length
-same-length c = let a = c .before .before .before .before .before .before .before .args in omega (arith, length-set (a .out .now) (a .at) 45)
+same-length c =
+    let a = c .before .before .before .before .before .before .before .args in
+    omega (arith, length-set (a .out .now) (a .at) 45)
 
 returns : tie.Need-returns
 unfolding textOf

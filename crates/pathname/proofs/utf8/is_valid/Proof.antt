@@ -19,18 +19,26 @@ abbrev μ-loop : tie.MeasureT-loop
 μ-loop s due₀ i₀ due i = length s - i
 
 -- what a first byte leaves
-at-first : (c : tie.After-followers-of Inv-loop μ-loop) → let s = c .before .before .before .before .before .before .args .s .now in
-    utf8 s ≡ cond (eqb (c .followers-of .result) 4) false (sequences (c .followers-of .result) (drop (c .before .before .before .before .loop .i + 1) s))
+at-first : (c : tie.After-followers-of Inv-loop μ-loop) → let at = c .before .before .before .before in
+    let s = at .before .before .args .s .now in
+    let more = c .followers-of .result in
+    utf8 s ≡ cond (eqb more 4) false (sequences more (drop (at .loop .i + 1) s))
 at-first c =
-    let l = c .before .before .before .before .loop in
-    sym (l .inv .1) ∙ rw (c .before .if1 .taken) (first-at (c .before .before .before .before .before .before .args .s .now) (l .i) (omega arith) ∙ rw (← c .followers-of .ensures .0))
+    let at = c .before .before .before .before in
+    let s = at .before .before .args .s .now in
+    let l = at .loop in
+    sym (l .inv .1) ∙ rw (c .before .if1 .taken) (first-at s (l .i) (omega arith) ∙ rw (← c .followers-of .ensures .0))
 
 -- what a byte that is due leaves
-at-next : (c : tie.Else1 Inv-loop μ-loop) → let s = c .before .before .before .before .before .args .s .now in let l = c .before .before .before .loop in
-    utf8 s ≡ cond (ltb (getD s (l .i) 0) 0x80) false (cond (ltb 0xBF (getD s (l .i) 0)) false (sequences (l .due - 1) (drop (l .i + 1) s)))
+at-next : (c : tie.Else1 Inv-loop μ-loop) → let at = c .before .before .before in
+    let s = at .before .before .args .s .now in
+    let l = at .loop in
+    let b = getD s (l .i) 0 in
+    utf8 s ≡ cond (ltb b 0x80) false (cond (ltb 0xBF b) false (sequences (l .due - 1) (drop (l .i + 1) s)))
 at-next c =
-    let l = c .before .before .before .loop in
-    sym (l .inv .1) ∙ next-at (l .due) (c .before .before .before .before .before .args .s .now) (l .i) (omega arith) (omega arith)
+    let at = c .before .before .before in
+    let l = at .loop in
+    sym (l .inv .1) ∙ next-at (l .due) (at .before .before .args .s .now) (l .i) (omega arith) (omega arith)
 
 loop-holds : tie.Need-loop-holds Inv-loop μ-loop
 loop-holds c = (omega arith, refl)
@@ -63,13 +71,21 @@ loop-again : tie.Need-loop-again Inv-loop μ-loop
 loop-again c = (
   omega arith,
   ⊎-elim
-      (λ w. rw (w .3) (sym (at-first (record { before = record { before = c .before; if1 = w .0 }; followers-of = w .1 }) ∙ rw (ne-eqb _ _ (w .2 .left)))))
+      (λ w.
+      let first : tie.After-followers-of Inv-loop μ-loop = record {
+        before = record { before = c .before; if1 = w .0 };
+        followers-of = w .1;
+      } in
+      rw (w .3) (sym (at-first first ∙ rw (ne-eqb _ _ (w .2 .left)))))
       (λ w. rw (w .3) (sym (at-next (record { before = c .before; if1 = w .0 }) ∙ rw (le-ltb _ _ (w .1 .left), le-ltb _ _ (w .2 .left)))))
       (c .if1 .came),
 )
 
 returns-4 : tie.Need-returns-4 Inv-loop μ-loop
-returns-4 c = sym (none-at (c .before .loop .due) (c .before .before .before .args .s .now) (c .before .loop .i) (omega arith)) ∙ c .before .loop .inv .1
+returns-4 c =
+    let at = c .before in
+    let l = at .loop in
+    sym (none-at (l .due) (at .before .before .args .s .now) (l .i) (omega arith)) ∙ l .inv .1
 
 pub is-valid-spec : {M : Type 1} → statement M
 is-valid-spec =
