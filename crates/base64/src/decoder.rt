@@ -43,7 +43,8 @@ pub(crate) fn check(text: &[u8]) -> Verdict
 
 // Passes blocks of letters: a place from which on the text is what it is from its start on.
 fn pass_letters(text: &[u8]) -> usize
-    ensures { λ r. ⌜ (r ≤ length (now (text .entry))) × (scan (valueBefore (now (text .entry)) r) (drop r (now (text .entry))) ≡ scan 0 (now (text .entry))) ⌝ }
+    ensures { λ r. ⌜ (r ≤ length (now (text .entry)))
+        × (scan (valueBefore (now (text .entry)) r) (drop r (now (text .entry))) ≡ scan 0 (now (text .entry))) ⌝ }
 {
     let mut i = 0;
     while text.len() - i >= BLOCK {

@@ -30,7 +30,8 @@ pub(crate) fn fill(data: &[u8], out: &mut [u8], at: usize)
 
 // Stores the text of the last bytes, fewer than three, from place i on.
 fn tail(data: &[u8], i: usize, out: &mut [u8], o: usize)
-    requires { ⌜ (i ≤ length (now «data»)) × (length (now «data») < i + 3) × (o + length (textOf (drop i (now «data»))) ≤ length (now out)) ⌝ }
+    requires { ⌜ (i ≤ length (now «data»)) × (length (now «data») < i + 3)
+        × (o + length (textOf (drop i (now «data»))) ≤ length (now out)) ⌝ }
     ensures { λ _. ⌜ now (out .exit) ≡ sets (now (out .entry)) o (textOf (drop i (now («data» .entry)))) ⌝ }
 {
     let left = data.len() - i;

@@ -44,7 +44,8 @@ pub struct Turn {
 // Reads the fields of a text that starts `5113;`, and puts the command together.
 pub(crate) fn read_fields(text: &[u8], scratch: &mut [u8]) -> Reading
     requires { ⌜ (5 ≤ length (now text)) × (length (now text) ≤ textLimit) × (scratchRoom ≤ length (now scratch)) ⌝ }
-    ensures { λ r. ⌜ outcome (answered r) (now (scratch .exit)) ≡ finished (fieldsRead kept 5 (split 59 (drop 5 (now (text .entry)))) (begun (now (scratch .entry)))) ⌝ }
+    ensures { λ r. ⌜ outcome (answered r) (now (scratch .exit))
+        ≡ finished (fieldsRead kept 5 (split 59 (drop 5 (now (text .entry)))) (begun (now (scratch .entry)))) ⌝ }
 {
     let mut state = fresh();
     let mut at = 5;
@@ -87,8 +88,10 @@ fn fresh() -> State
 
 // Reads the field from place `at` up to `end`. An unknown key is ignored.
 fn field(state: State, text: &[u8], at: usize, end: usize, scratch: &mut [u8]) -> Turn
-    requires { ⌜ (at ≤ end) × (end ≤ length (now text)) × (length (now text) ≤ textLimit) × (scratchRoom ≤ length (now scratch)) × (4 * state .used ≤ 3 * at) ⌝ }
-    ensures { λ r. ⌜ turned r (now (scratch .exit)) ≡ fieldRead kept at (take (end - at) (drop at (now (text .entry)))) (readerOf state (now (scratch .entry))) ⌝ }
+    requires { ⌜ (at ≤ end) × (end ≤ length (now text)) × (length (now text) ≤ textLimit)
+        × (scratchRoom ≤ length (now scratch)) × (4 * state .used ≤ 3 * at) ⌝ }
+    ensures { λ r. ⌜ turned r (now (scratch .exit))
+        ≡ fieldRead kept at (take (end - at) (drop at (now (text .entry)))) (readerOf state (now (scratch .entry))) ⌝ }
 {
     let f = &text[at..end];
     let e = octets::find(f, 0, b'=');

@@ -29,7 +29,8 @@ pub(crate) fn put_fields<'a>(
     scratch: &'a [u8],
     out: &mut [u8],
 ) -> Written
-    ensures { λ r. ⌜ PutOr (checkedOf keys (valuesOf command (now (text .entry)) (now (scratch .entry)))) (whole (valuesOf command (now (text .entry)) (now (scratch .entry)))) (now (out .entry)) 0 r (now (out .exit)) ⌝ }
+    ensures { λ r. ⌜ PutOr (checkedOf keys (valuesOf command (now (text .entry)) (now (scratch .entry))))
+        (whole (valuesOf command (now (text .entry)) (now (scratch .entry)))) (now (out .entry)) 0 r (now (out .exit)) ⌝ }
 {
     let slots = slots(command);
     let mut at = put(b"5113", out, 0);
@@ -58,7 +59,8 @@ fn put_field<'a>(
     at: usize,
 ) -> Written
     requires { ⌜ k < 15 ⌝ }
-    ensures { λ r. ⌜ FieldPut (keyAt k .name) (shown (kindAt keys k) (valueAt (kindAt keys k) slot (now (text .entry)) (now (scratch .entry)))) (now (out .entry)) at r (now (out .exit)) ⌝ }
+    ensures { λ r. ⌜ FieldPut (keyAt k .name) (shown (kindAt keys k) (valueAt (kindAt keys k) slot (now (text .entry)) (now (scratch .entry))))
+        (now (out .entry)) at r (now (out .exit)) ⌝ }
 {
     let row = part(&ROWS, b';', k);
     match kind_at(k) {

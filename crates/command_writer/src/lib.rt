@@ -29,7 +29,8 @@ use frames::Framing;
 // A refusal leaves out as before. What is written is exactly the canonical texts, and a command that is
 // written and read again is the same command.
 pub fn write<'a>(command: Command, text: &'a [u8], scratch: &'a [u8], out: &mut [u8]) -> Written
-    ensures { λ r. ⌜ outcome (answered r) (now (out .exit)) ≡ writeOf (valuesOf command (now (text .entry)) (now (scratch .entry))) (now (out .entry)) ⌝ }
+    ensures { λ r. ⌜ outcome (answered r) (now (out .exit))
+        ≡ writeOf (valuesOf command (now (text .entry)) (now (scratch .entry))) (now (out .entry)) ⌝ }
     ensures { λ _. ⌜ WrittenThenRead × WritesCanonical ⌝ }
 {
     let mut empty = [0u8; 0];
@@ -47,8 +48,10 @@ fn write_measured<'a>(
     out: &mut [u8],
     n: usize,
 ) -> Written
-    requires { ⌜ (checkedOf keys (valuesOf command (now text) (now scratch)) ≡ Checked.fine) × (spare n ≡ spare (length (whole (valuesOf command (now text) (now scratch))))) ⌝ }
-    ensures { λ r. ⌜ outcome (answered r) (now (out .exit)) ≡ writeOf (valuesOf command (now (text .entry)) (now (scratch .entry))) (now (out .entry)) ⌝ }
+    requires { ⌜ (checkedOf keys (valuesOf command (now text) (now scratch)) ≡ Checked.fine)
+        × (spare n ≡ spare (length (whole (valuesOf command (now text) (now scratch))))) ⌝ }
+    ensures { λ r. ⌜ outcome (answered r) (now (out .exit))
+        ≡ writeOf (valuesOf command (now (text .entry)) (now (scratch .entry))) (now (out .entry)) ⌝ }
 {
     let missing = lacks(command);
     let short = no_room(n, out.len());

@@ -55,7 +55,8 @@ pub(crate) fn put_base64(bytes: &[u8], out: &mut [u8], at: usize) -> usize
 
 // Puts the text of a number. A negative zero, or a number past signed 64 bits, is refused.
 pub(crate) fn put_number(n: Number, out: &mut [u8], at: usize) -> Written
-    ensures { λ r. ⌜ PutOr (cond (Decimal.writable n) Checked.fine (Checked.fault 6)) (Decimal.textOf n) (now (out .entry)) at r (now (out .exit)) ⌝ }
+    ensures { λ r. ⌜ PutOr (cond (Decimal.writable n) Checked.fine (Checked.fault 6)) (Decimal.textOf n)
+        (now (out .entry)) at r (now (out .exit)) ⌝ }
 {
     match decimal::write(n, out, at) {
         decimal::Written::End(end) => Written::Length(end),

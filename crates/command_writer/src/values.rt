@@ -31,7 +31,8 @@ pub(crate) fn word(
     at: usize,
 ) -> Written
     requires { ⌜ (first ≤ 1) × (length (wordsIn (now row)) ≡ count) ⌝ }
-    ensures { λ r. ⌜ FieldPut (nameIn (now (row .entry))) (wordShown first (wordsIn (now (row .entry))) n) (now (out .entry)) at r (now (out .exit)) ⌝ }
+    ensures { λ r. ⌜ FieldPut (nameIn (now (row .entry))) (wordShown first (wordsIn (now (row .entry))) n)
+        (now (out .entry)) at r (now (out .exit)) ⌝ }
 {
     if n.negative {
         return Written::Refused(Refusal::BadValue);
@@ -70,7 +71,8 @@ pub(crate) fn safe(
     out: &mut [u8],
     at: usize,
 ) -> Written
-    ensures { λ r. ⌜ FieldPut (nameIn (now (row .entry))) (shown (Kind.safe short) (bytesAt (now (text .entry)) place)) (now (out .entry)) at r (now (out .exit)) ⌝ }
+    ensures { λ r. ⌜ FieldPut (nameIn (now (row .entry))) (shown (Kind.safe short) (bytesAt (now (text .entry)) place))
+        (now (out .entry)) at r (now (out .exit)) ⌝ }
 {
     if !octets::fits(place.start, place.len, text.len()) {
         return Written::Refused(Refusal::BadValue);
@@ -101,7 +103,8 @@ fn over(short: bool, len: usize) -> bool
 
 // The Base64 of bytes, which stand in the scratch.
 pub(crate) fn base64(row: &[u8], scratch: &[u8], place: Place, out: &mut [u8], at: usize) -> Written
-    ensures { λ r. ⌜ FieldPut (nameIn (now (row .entry))) (shown Kind.base64 (bytesAt (now (scratch .entry)) place)) (now (out .entry)) at r (now (out .exit)) ⌝ }
+    ensures { λ r. ⌜ FieldPut (nameIn (now (row .entry))) (shown Kind.base64 (bytesAt (now (scratch .entry)) place))
+        (now (out .entry)) at r (now (out .exit)) ⌝ }
 {
     if !octets::fits(place.start, place.len, scratch.len()) {
         return Written::Refused(Refusal::BadValue);

@@ -12,7 +12,8 @@ const BLOCK: usize = 128;
 // Passes blocks without b: a place from which on the search for b finds what it finds from `from` on.
 pub(crate) fn pass(s: &[u8], from: usize, b: u8) -> usize
     requires { ⌜ from ≤ length (now s) ⌝ }
-    ensures { λ r. ⌜ (r ≤ length (now (s .entry))) × (r + indexOf b (drop r (now (s .entry))) ≡ from + indexOf b (drop from (now (s .entry)))) ⌝ }
+    ensures { λ r. ⌜ (r ≤ length (now (s .entry)))
+        × (r + indexOf b (drop r (now (s .entry))) ≡ from + indexOf b (drop from (now (s .entry)))) ⌝ }
 {
     let mut i = from;
     while s.len() - i >= BLOCK {
