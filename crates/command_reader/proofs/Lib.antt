@@ -1,4 +1,4 @@
-pub mod Cuts
+pub mod WordPlaces
 pub mod Room
 pub mod Answers
 pub mod Table

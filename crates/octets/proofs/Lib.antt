@@ -6,4 +6,5 @@ pub mod Everys
 mod Passes
 pub mod Compare
 pub mod Splits
+pub mod Cuts
 pub mod Below

@@ -5,10 +5,10 @@ use native.Mathlib.Omega.{arith}
 use lib.ListN.{length, take, drop}
 use borrow.Author.Needs.{needs}
 use Rattle.octets.specs.Split.{split}
+use Rattle.octets.proofs.Cuts.{cut-within, cut-length, cut-last, cut-more, cut-first}
 use Rattle.command.specs.Fields.{andThen, fieldsRead}
 use Rattle.command.specs.Read.{Reader, begun, kept}
 use Rattle.command_reader.specs.States.{readerOf, turned}
-use Rattle.command_reader.proofs.Cuts.{cut-within, cut-length, cut-last, cut-more, cut-first}
 use Rattle.command_reader.proofs.Room.{field-within}
 use Rattle.command_reader.proofs.Turns.{fields-next}
 use Rattle.command_reader.proofs.fields.read_fields.Statement.{statement}

@@ -5,8 +5,9 @@ use native.Mathlib.Omega.{arith}
 use lib.ListN.{length, drop}
 use borrow.Author.Needs.{needs}
 use Rattle.octets.specs.Split.{split}
+use Rattle.octets.proofs.Cuts.{cut-within, cut-last, cut-more, cut-first}
 use Rattle.command.specs.Keys.{placeIn}
-use Rattle.command_reader.proofs.Cuts.{cut-within, cut-last, cut-more, cut-first, place-here, place-later}
+use Rattle.command_reader.proofs.WordPlaces.{place-here, place-later}
 use Rattle.command_reader.proofs.words.place_in.Statement.{statement}
 use Rattle.command_reader.proofs.words.place_in.Tie as tie
 

@@ -1,11 +1,12 @@
-use Prim.Native.Nat.{_≤_}
-use mathlib.Core.Path.{_≡_, refl, sym, _∙_}
-use mathlib.Core.List.{[]}
+use Prim.Native.Nat.{ℕ, _≤_}
+use mathlib.Core.Path.{_≡_, refl, sym, _∙_, ap}
+use mathlib.Core.List.{List, []}
 use native.Mathlib.Omega.{arith}
 use lib.ListN.{length, getD, drop}
 use borrow.Author.Needs.{needs}
 use Rattle.octets.specs.Split.{split}
-use Rattle.command_writer.proofs.Parts.{part-end, part-first, part-none, part-after}
+use Rattle.octets.proofs.Cuts.{cut-within, cut-last, cut-more, cut-first}
+use Rattle.command_writer.proofs.Parts.{part-later}
 use Rattle.command_writer.proofs.table.part.Statement.{statement}
 use Rattle.command_writer.proofs.table.part.Tie as tie
 
@@ -20,7 +21,7 @@ within : (c : tie.After-find Inv-loop μ-loop) → c .find .result ≤ length (c
 within c =
     let loop = c .before in
     let a = loop .before .before .args in
-    part-end (a .b) (a .s .now) (loop .loop .from) (c .find .result) (c .find .ensures) (loop .loop .inv .0)
+    cut-within (a .b) (a .s .now) (loop .loop .from) (c .find .result) (loop .loop .inv .0) (c .find .ensures)
 
 loop-holds : tie.Need-loop-holds Inv-loop μ-loop
 loop-holds c = (omega arith, refl)
@@ -42,8 +43,8 @@ returns c =
     let find = c .before .before in
     let l = find .before .loop in
     let a = find .before .before .before .args in
-    let first = part-first (a .b) (a .s .now) (l .from) (find .find .result) (find .find .ensures) in
-    sym first ∙ rw (c .before .if1 .taken) at (l .inv .1)
+    let first = cut-first (a .b) (a .s .now) (l .from) (find .find .result) (l .inv .0) (find .find .ensures) .1 in
+    sym (ap (λ (ps : List (List ℕ)). getD ps 0 []) first) ∙ rw (c .before .if1 .taken) at (l .inv .1)
 
 slice-aggregate-result : tie.Need-slice-aggregate-result Inv-loop μ-loop
 slice-aggregate-result c = search needs
@@ -54,8 +55,8 @@ returns-2 c =
     let find = last .before .before in
     let l = find .before .loop in
     let a = find .before .before .before .args in
-    let none = part-none (a .b) (a .s .now) (l .from) (find .find .result) (find .find .ensures) in
-    sym (none (l .left) (omega arith) (l .inv .0) (last .if2 .taken)) ∙ l .inv .1
+    let none = cut-last (a .b) (a .s .now) (l .from) (find .find .result) (l .inv .0) (find .find .ensures) (last .if2 .taken) in
+    sym (part-later none (l .left) (omega arith)) ∙ l .inv .1
 
 add-from : tie.Need-add-from Inv-loop μ-loop
 add-from c = omega (arith, within (c .before .before))
@@ -71,8 +72,8 @@ loop-again c =
     let find = c .before .before in
     let l = find .before .loop in
     let a = find .before .before .before .args in
-    let after = part-after (a .b) (a .s .now) (l .from) (find .find .result) (find .find .ensures) in
-    (omega (arith, within find), after (l .left) (omega arith) (l .inv .0) (c .if2 .left) ∙ l .inv .1)
+    let more = cut-more (a .b) (a .s .now) (l .from) (find .find .result) (l .inv .0) (find .find .ensures) (c .if2 .left) in
+    (omega (arith, within find), sym (part-later more (l .left) (omega arith)) ∙ l .inv .1)
 
 pub part-spec : {M : Type 1} → statement M
 part-spec =
