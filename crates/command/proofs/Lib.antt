@@ -8,6 +8,7 @@ pub mod Fits
 pub mod NextField
 pub mod WrittenFields
 pub mod Accepted
+pub mod ReadValues
 pub mod SimulationFields
 pub mod SimulationValues
 pub mod SimulationSlots

@@ -23,7 +23,8 @@ use Rattle.command.specs.declared.Place.{Place}
 use Rattle.command.specs.declared.Slot.{Slot}
 use Rattle.command.specs.declared.Command.{Command}
 use Rattle.command.proofs.SimulationFields.{At, Agree, on, off, Related, text-agree}
-use Rattle.command.proofs.SimulationValues.{Reads, reads, stored-room, Holds, empty, full, holds-later, holds-new}
+use Rattle.command.proofs.ReadValues.{Reads, reads, stored-room}
+use Rattle.command.proofs.SimulationValues.{Holds, empty, full, holds-later, holds-new}
 use Rattle.command.proofs.SimulationSlots.{Each, each-at, each-set, each-blank, each-map, string-slot, command-values}
 
 -- ---- the two readers, value by value

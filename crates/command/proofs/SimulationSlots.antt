@@ -16,7 +16,8 @@ use Rattle.command.specs.Slots.{actionCode, actionOf, fileTypeCode, file
 use Rattle.command.specs.Slots.{free, slotsOf, commandOf, valueAt, valuesAt, valuesOf}
 use Rattle.command.specs.Read.{frees}
 use Rattle.command.specs.declared.Slot.{Slot}
-use Rattle.command.proofs.SimulationValues.{codesEnd, as-word, as-string, as-bytes, Holds, empty, full, holds-value}
+use Rattle.command.proofs.ReadValues.{codesEnd, as-word, as-string, as-bytes}
+use Rattle.command.proofs.SimulationValues.{Holds, empty, full, holds-value}
 
 -- ---- each key has one slot and one field, which H relates
 pub data Each (H : Key → Slot → Field → Type 0) : List Key → List Slot → List Field → Type 0 where

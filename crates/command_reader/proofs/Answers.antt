@@ -16,6 +16,7 @@ use Rattle.base64.specs.declared.Verdict.{Verdict}
 use Rattle.base64.specs.declared.Verdict.the-variants as Verdict
 use Rattle.base64.specs.declared.Decoded.{Decoded}
 use Rattle.base64.specs.declared.Decoded.the-variants as Decoded
+use Rattle.base64.proofs.Lengths.{length-valid}
 use Rattle.command.specs.Keys.{Alias, Kind, finished, placeIn}
 use Rattle.command.specs.Values.{Value, Got, count, aliasRead, wordRead, base64Read, valueRead}
 use Rattle.command.specs.Slots.{placed}
@@ -26,7 +27,6 @@ use Rattle.command_reader.specs.Keeping.{kindOf, keptIn, Keeps, Plain}
 use Rattle.command_reader.specs.declared.values.Kind.the-variants as Kinds
 use Rattle.command_reader.specs.declared.values.Kept.{Kept}
 use Rattle.command_reader.specs.declared.values.Kept.the-variants as Kept
-use Rattle.command_reader.proofs.Room.{bytes-length}
 
 -- the alias is read as its code
 pub alias-read : (v : List ℕ) → equals v (finished .text) ≡ true → valueRead (kindOf Kinds.Action) v ≡ Got.got (Value.number (count 6))
@@ -60,12 +60,12 @@ pub decoded-kept : (v scratch : List ℕ) (used : ℕ) (o : Outcome Decoded) →
     → (at : ℕ) → Keeps Kind.base64 at v scratch used (decodedAs used (o .answer)) (o .buffer)
 unfolding decodeOf valueRead
 decoded-kept v scratch used o h e at n slots =
-    rw e (go (verdictOf v))
+    rw e (go (verdictOf v) refl)
   where
     s : Reader
     s = record { slots = slots; scratch = scratch; used = used }
 
-    go : (w : Verdict) → let d = decodedBy w (bytesOf v) scratch used in
+    go : (w : Verdict) → verdictOf v ≡ w → let d = decodedBy w (bytesOf v) scratch used in
         keptIn n s (d .buffer) (decodedAs used (d .answer)) ≡ keptBy Kind.base64 n at s (base64Read w (bytesOf v))
-    go (Verdict.Valid k) = rw (le-leb (used + length (bytesOf v)) (length scratch) (omega (arith, bytes-length v)))
-    go (Verdict.Invalid f) = refl
+    go (Verdict.Valid k) q = rw (le-leb (used + length (bytesOf v)) (length scratch) (omega (arith, length-valid v k q)))
+    go (Verdict.Invalid f) q = refl
