@@ -4,7 +4,7 @@ use mathlib.Core.Path.{_≡_, refl, ap, sym, _∙_}
 use mathlib.Core.List.{List, [], _∷_}
 use native.Mathlib.Nat.{add-zero, zero-add}
 use native.Mathlib.Omega.{arith}
-use lib.ListN.{length, take}
+use lib.ListN.{length, take, drop, length-take, length-drop}
 use lib.Dec.{ltb, leb}
 use borrow.Author.Tests.{lt-ltb, le-ltb, ltb-false}
 use Rattle.octets.specs.Outcome.{Outcome, outcome}
@@ -75,9 +75,14 @@ by-call P f xs c p q = by-cond P (ltb (length c) textLimit) (λ _. p) (λ e. q (
 pub consumed-le : (f : Framing) (xs c : List ℕ) → scanOf f xs c .answer .consumed ≤ length xs
 consumed-le f xs c = by-call (λ o. o .answer .consumed ≤ length xs) f xs c (omega arith) (λ _. omega (arith, used-le (cappedOf f) 0 xs))
 
--- as a caller of `scan` meets it
-pub consumed-within : {s : Scanned} {l : List ℕ} (f : Framing) (xs c : List ℕ) → outcome s l ≡ scanOf f xs c → s .consumed ≤ length xs
-consumed-within f xs c e = rw (ap (λ (o : Outcome Scanned). o .answer .consumed) e) (consumed-le f xs c)
+-- as a loop meets it that scans what is left of a piece
+pub consumed-within : {s : Scanned} {l : List ℕ} (f : Framing) (piece c : List ℕ) (at : ℕ) → at ≤ length piece
+    → outcome s l ≡ scanOf f (take (length piece - at) (drop at piece)) c → at + s .consumed ≤ length piece
+consumed-within {s} f piece c at h e =
+    let rest : List ℕ = take (length piece - at) (drop at piece) in
+    let n : length rest ≡ length piece - at = simp (length-take, length-drop) (omega arith) in
+    let u : s .consumed ≤ length rest = rw (ap (λ (o : Outcome Scanned). o .answer .consumed) e) (consumed-le f rest c) in
+    omega arith
 
 -- at least one byte of a piece that has one
 used-some : (f : Framing) (i : ℕ) (xs : List ℕ) → i + min 1 (length xs) ≤ walkFrom f i xs .used
