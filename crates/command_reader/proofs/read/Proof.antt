@@ -1,11 +1,13 @@
-use mathlib.Core.Path.{sym, _∙_, ap}
+use mathlib.Core.Path.{_≡_, sym, _∙_, ap}
+use mathlib.Core.Bool.{cond}
 use native.Mathlib.Omega.{arith}
-use lib.ListN.{length, length-append}
+use lib.ListN.{length, drop, length-append}
 use Rattle.octets.specs.Ascii.{ascii}
+use Rattle.octets.specs.Split.{split}
 use Rattle.octets.proofs.Compare.{starts-sound}
 use borrow.Author.Tests.{lt-ltb, le-ltb, not-true, not-false}
-use Rattle.command.specs.Fields.{textRead}
-use Rattle.command.specs.Read.{readOf, ReadMeans}
+use Rattle.command.specs.Fields.{Turn, fieldsRead, textRead}
+use Rattle.command.specs.Read.{kept, begun, finished, readOf, ReadMeans}
 use Rattle.command.specs.RoundTrips.{ReadThenWritten}
 use Rattle.command.proofs.Simulation.{read-means}
 use Rattle.command.proofs.RoundTrip.{read-then-written}
@@ -43,24 +45,30 @@ slice-aggregate-starts-with c = search needs
 starts-with-requires : tie.Need-starts-with-requires
 starts-with-requires c κs = search needs
 
-returns-4 : tie.Need-returns-4
+-- a scratch with room and a text that passes the other tests: its mark decides
+left : (c : tie.After-starts-with) → let a = c .before .before .before .before .before .before .before .before .args in
+    let fresh = begun (a .scratch .now) in
+    let fields = split 59 (drop 5 (a .text .now)) in
+    readOf (a .text .now) (a .scratch .now)
+    ≡ finished (cond (c .starts-with .result) (fieldsRead kept 5 fields fresh) (Turn.off 4 fresh))
 unfolding readOf textRead
-returns-4 c =
-    let starts = c .before in
-    let clean = starts .before .before in
+left c =
+    let clean = c .before .before in
     let all = clean .before in
     let short = all .before in
-    let room = short .before in (
-      rw (
-        le-ltb _ _ (room .if1 .left),
-        le-ltb _ _ (short .if2 .left),
-        ← all .all .ensures,
-        not-false (all .all .result) (clean .if3 .left),
-        ← starts .starts-with .ensures,
-        not-true (starts .starts-with .result) (c .if4 .taken),
-      ),
-      claims,
+    let room = short .before in
+    rw (
+      le-ltb _ _ (room .if1 .left),
+      le-ltb _ _ (short .if2 .left),
+      ← all .all .ensures,
+      not-false (all .all .result) (clean .if3 .left),
+      ← c .starts-with .ensures,
     )
+
+returns-4 : tie.Need-returns-4
+returns-4 c =
+    let starts = c .before in
+    (sym (left starts ∙ rw (not-true (starts .starts-with .result) (c .if4 .taken))), claims)
 
 read-fields-requires : tie.Need-read-fields-requires
 read-fields-requires c κs =
@@ -76,26 +84,12 @@ same-length : tie.Need-same-length
 same-length c = search needs
 
 returns-5 : tie.Need-returns-5
-unfolding readOf textRead
 returns-5 c =
     let read = c .before .before in
     let marked = read .before .before in
     let starts = marked .before in
-    let clean = starts .before .before in
-    let all = clean .before in
-    let short = all .before in
-    let room = short .before in (
-      rw (
-        le-ltb _ _ (room .if1 .left),
-        le-ltb _ _ (short .if2 .left),
-        ← all .all .ensures,
-        not-false (all .all .result) (clean .if3 .left),
-        ← starts .starts-with .ensures,
-        not-false (starts .starts-with .result) (marked .if4 .left),
-      )
-          (read .read-fields .ensures),
-      claims,
-    )
+    let mark = not-false (starts .starts-with .result) (marked .if4 .left) in
+    (read .read-fields .ensures ∙ sym (rw mark at (left starts)), claims)
 
 pub read-spec : {M : Type 1} → statement M
 read-spec =
