@@ -13,10 +13,14 @@ enum-known-n : tie.Need-enum-known-n
 enum-known-n c = search needs
 
 array-share-prefix-bytes : tie.Need-array-share-prefix-bytes
-array-share-prefix-bytes c = held _ (c .before .before .before .before .read-all .ensures) (c .before .n .given .1) .0
+array-share-prefix-bytes c =
+    let n = c .before in
+    held _ (n .before .before .before .read-all .ensures) (n .n .given .1) .0
 
 slice-aggregate-play : tie.Need-slice-aggregate-play
-slice-aggregate-play c = held _ (c .before .before .before .before .before .read-all .ensures) (c .before .before .n .given .1) .1
+slice-aggregate-play c =
+    let n = c .before .before in
+    held _ (n .before .before .before .read-all .ensures) (n .n .given .1) .1
 
 play-requires : tie.Need-play-requires
 play-requires c κs = search needs

@@ -22,7 +22,9 @@ starts-with-requires-2 c κs = search needs
 
 returns-2 : tie.Need-returns-2
 unfolding rooted
-returns-2 c = c .starts-with2 .ensures ∙ rw (← c .before .before .before .starts-with .ensures, c .before .before .if1 .left)
+returns-2 c =
+    let other = c .before .before in
+    c .starts-with2 .ensures ∙ rw (← other .before .starts-with .ensures, other .if1 .left)
 
 pub is-rooted-spec : {M : Type 1} → statement M
 is-rooted-spec =

@@ -16,10 +16,14 @@ enum-known-n : tie.Need-enum-known-n
 enum-known-n c = search needs
 
 array-share-prefix-bytes : tie.Need-array-share-prefix-bytes
-array-share-prefix-bytes c = held _ (c .before .before .before .before .read-all .ensures) (c .before .n .given .1) .0
+array-share-prefix-bytes c =
+    let n = c .before in
+    held _ (n .before .before .before .read-all .ensures) (n .n .given .1) .0
 
 slice-aggregate-cases : tie.Need-slice-aggregate-cases
-slice-aggregate-cases c = held _ (c .before .before .before .before .before .read-all .ensures) (c .before .before .n .given .1) .1
+slice-aggregate-cases c =
+    let n = c .before .before in
+    held _ (n .before .before .before .read-all .ensures) (n .n .given .1) .1
 
 cases-requires : tie.Need-cases-requires
 cases-requires c κs = search needs

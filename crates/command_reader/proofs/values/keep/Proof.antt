@@ -103,7 +103,9 @@ same-length : tie.Need-same-length
 same-length c = search needs
 
 returns-9 : tie.Need-returns-9
-returns-9 c = rw (c .before .before .before .before .enum-told9 .given .1) (c .before .before .base64 .ensures _)
+returns-9 c =
+    let decoded = c .before .before in
+    rw (decoded .before .before .enum-told9 .given .1) (decoded .base64 .ensures _)
 
 pub keep-spec : {M : Type 1} → statement M
 keep-spec =

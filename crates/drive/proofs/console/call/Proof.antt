@@ -15,8 +15,8 @@ slice-relend-prefix-call-lent c = search needs
 
 slice-aggregate-call-lent : tie.Need-slice-aggregate-call-lent
 slice-aggregate-call-lent c =
-    sym (length-take-le (c .before .least .result) (c .before .before .before .before .before .before .before .before .args .reply .now)
-    (c .before .least .ensures))
+    let l = c .before in
+    sym (length-take-le (l .least .result) (l .before .before .before .before .before .before .before .args .reply .now) (l .least .ensures))
 
 call-lent-requires : tie.Need-call-lent-requires
 call-lent-requires c κs = search needs

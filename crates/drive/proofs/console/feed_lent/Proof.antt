@@ -18,27 +18,24 @@ slice-relend-prefix-feed c = search needs
 
 slice-aggregate-feed : tie.Need-slice-aggregate-feed
 slice-aggregate-feed c =
-    sym (length-take-le (c .before .before .before .least .result)
-    (c .before .before .before .before .before .before .before .before .args .carry .now)
-    (c .before .before .before .least .ensures))
+    let l = c .before .before .before in
+    sym (length-take-le (l .least .result) (l .before .before .before .before .before .args .carry .now) (l .least .ensures))
 
 slice-relend-prefix-feed-2 : tie.Need-slice-relend-prefix-feed-2
 slice-relend-prefix-feed-2 c = search needs
 
 slice-aggregate-feed-2 : tie.Need-slice-aggregate-feed-2
 slice-aggregate-feed-2 c =
-    sym (length-take-le (c .before .before .before .least2 .result)
-    (c .before .before .before .before .before .before .before .before .before .args .scratch .now)
-    (c .before .before .before .least2 .ensures))
+    let l = c .before .before .before in
+    sym (length-take-le (l .least2 .result) (l .before .before .before .before .before .before .args .scratch .now) (l .least2 .ensures))
 
 slice-relend-prefix-feed-3 : tie.Need-slice-relend-prefix-feed-3
 slice-relend-prefix-feed-3 c = search needs
 
 slice-aggregate-feed-3 : tie.Need-slice-aggregate-feed-3
 slice-aggregate-feed-3 c =
-    sym (length-take-le (c .before .before .before .least3 .result)
-    (c .before .before .before .before .before .before .before .before .before .before .args .reply .now)
-    (c .before .before .before .least3 .ensures))
+    let l = c .before .before .before in
+    sym (length-take-le (l .least3 .result) (l .before .before .before .before .before .before .before .args .reply .now) (l .least3 .ensures))
 
 feed-requires : tie.Need-feed-requires
 feed-requires c κs = search needs

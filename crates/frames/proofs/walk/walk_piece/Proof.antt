@@ -61,7 +61,9 @@ sub-passed : tie.Need-sub-passed Inv-loop μ-loop
 sub-passed c = ending c .0
 
 passed-requires : tie.Need-passed-requires Inv-loop μ-loop
-passed-requires c κs = omega (arith, ending c, counted (c .before .before .before .before) (c .before .before .e .given .1))
+passed-requires c κs =
+    let on = c .before .before in
+    omega (arith, ending c, counted (on .before .before) (on .e .given .1))
 
 loop-less : tie.Need-loop-less Inv-loop μ-loop
 loop-less c = omega (arith, ending (c .before))

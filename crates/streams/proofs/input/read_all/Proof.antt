@@ -43,7 +43,8 @@ returns c = search needs
 
 add-at : tie.Need-add-at Inv-loop μ-loop
 add-at c =
-    let h = held _ (c .before .before .before .before .before .before .read .ensures) (c .before .before .n .given .1) in
+    let n = c .before .before in
+    let h = held _ (n .before .before .before .before .read .ensures) (n .n .given .1) in
     omega (arith, h .0)
 
 loop-less : tie.Need-loop-less Inv-loop μ-loop
@@ -51,7 +52,8 @@ loop-less c = search needs
 
 loop-again : tie.Need-loop-again Inv-loop μ-loop
 loop-again c =
-    let h = held _ (c .before .before .before .before .before .before .read .ensures) (c .before .before .n .given .1) in
+    let n = c .before .before in
+    let h = held _ (n .before .before .before .before .read .ensures) (n .n .given .1) in
     (omega (arith, h .0), search needs)
 
 same-length-2 : tie.Need-same-length-2 Inv-loop μ-loop
