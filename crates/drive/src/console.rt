@@ -1,10 +1,11 @@
 // The console's state between the calls of a script, and each operation.
-ghost use Prim.Native.Nat.{_≤_};
 use crate::line;
 use crate::script;
 use command::Command;
 use frames::Framing;
 use frames::Report;
+use octets::size::least;
+use octets::size::less;
 use protocol::Answered;
 use protocol::Failure;
 use protocol::Fed;
@@ -226,17 +227,6 @@ fn failure(code: u8) -> Failure {
         3 => Failure::Enoent,
         _ => Failure::Enospc,
     }
-}
-
-fn least(a: usize, b: usize) -> usize
-    ensures { λ r. ⌜ r ≤ b ⌝ }
-{
-    if a < b { a } else { b }
-}
-
-// a - b, or 0 where b is more.
-fn less(a: usize, b: usize) -> usize {
-    if a < b { 0 } else { a - b }
 }
 
 // The place k after another, if it is within the first n.

@@ -1,5 +1,5 @@
 // The lines that are printed.
-ghost use Prim.Native.Nat.{_≤_};
+use crate::script::wide;
 use command::Place;
 use protocol::Ask;
 use protocol::Status;
@@ -106,12 +106,6 @@ fn sum(buffer: &[u8]) -> usize {
         total = (total + rest) % 65521;
     }
     total
-}
-
-fn wide(b: u8) -> usize
-    ensures { λ r. ⌜ r ≤ 255 ⌝ }
-{
-    b as usize
 }
 
 // Bytes in lower-case hex, `-` for none.

@@ -67,7 +67,7 @@ fn after(at: usize, k: usize) -> usize {
     }
 }
 
-fn wide(b: u8) -> usize
+pub(crate) fn wide(b: u8) -> usize
     ensures { λ r. ⌜ r ≤ 255 ⌝ }
 {
     b as usize

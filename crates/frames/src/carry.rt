@@ -5,9 +5,9 @@ ghost use lib.ListN.{length};
 ghost use Rattle.frames.specs.Stream.{textLimit};
 ghost use Rattle.frames.specs.Carry.{heldOf, reportedAt, carryOf};
 use crate::Framing;
-use crate::size::least;
-use crate::size::less;
 use crate::step::Event;
+use octets::size::least;
+use octets::size::less;
 
 // A text that is left in the carry: the place in the piece where it ends, and the count of its
 // bytes, 0 for none.

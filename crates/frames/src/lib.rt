@@ -6,7 +6,6 @@
 // wholly in its piece is not copied. No function has a `requires`: a framing that no call gave is
 // answered by the same definitions.
 mod carry;
-mod size;
 mod step;
 mod walk;
 
@@ -19,7 +18,7 @@ ghost use Rattle.frames.specs.Calls.{placeOf, reportOf, takenOf, scanOf,
 ghost use Rattle.frames.specs.Claims.{TellsTheStream, SameHoweverCut, Consumes, RefusesShort};
 use carry::held_of;
 use carry::keep;
-use size::less;
+use octets::size::less;
 use step::Event;
 use step::capped;
 use step::framing_after;

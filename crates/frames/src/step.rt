@@ -5,7 +5,7 @@ ghost use Rattle.frames.specs.Stream.{afterEscape};
 ghost use Rattle.frames.specs.Framings.{count, framingOf, cappedOf};
 ghost use Rattle.frames.specs.Steps.{inText, stepOf, framingAfter};
 use crate::Framing;
-use crate::size::least;
+use octets::size::least;
 
 // The bytes go on, or a command text of so many bytes ends.
 pub(crate) enum Event {

@@ -4,6 +4,7 @@
 // later crates share besides (choices by a test, laws on lists, splitting at a byte) stands in
 // specs/ and proofs/.
 mod blocks;
+pub mod size;
 
 ghost use mathlib.Core.Path.{_≡_};
 ghost use Prim.Native.Nat.{_+_};

@@ -1,11 +1,11 @@
 // The command text: its refusal or 0, the scratch that reading leaves, and the text written again.
-ghost use Prim.Native.Nat.{_≤_};
 use crate::ROOM;
 use command::Command;
 use command::Reading;
 use command::Refusal;
 use command::Written;
 use frames::Framing;
+use octets::size::least;
 use streams::Run;
 
 pub(crate) fn run(run: Run) -> Run {
@@ -59,12 +59,6 @@ fn filled<'a>(run: Run, before: &'a [u8], fill: u8, n: usize, after: &'a [u8]) -
         asked.number(n).text(b"}").text(after),
         octets::part(&text, 0, end + least(after.len(), 64)),
     )
-}
-
-fn least(a: usize, b: usize) -> usize
-    ensures { λ r. ⌜ r ≤ b ⌝ }
-{
-    if a < b { a } else { b }
 }
 
 pub(crate) fn read(run: Run, text: &[u8]) -> Run {

@@ -1,9 +1,9 @@
 // Frames: two pieces, what is reported on the way, and the carry; texts of the longest length, and one
 // byte longer, cut at each edge.
-ghost use Prim.Native.Nat.{_≤_};
 use crate::ROOM;
 use frames::Framing;
 use frames::Report;
+use octets::size::least;
 use streams::Run;
 
 // The framing after the bytes so far, and how the run stands.
@@ -113,10 +113,4 @@ fn report(run: Run, r: Report, text: &[u8]) -> Run {
         Report::Abandoned => run.text(b" refused 2"),
         Report::ShortCarry => run.text(b" refused 9"),
     }
-}
-
-fn least(a: usize, b: usize) -> usize
-    ensures { λ r. ⌜ (r ≤ a) × (r ≤ b) ⌝ }
-{
-    if a < b { a } else { b }
 }

@@ -1,4 +1,5 @@
 use mathlib.Core.Path.{sym}
+use native.Mathlib.Omega.{arith}
 use lib.Seq.{length-take-le}
 use borrow.Author.Needs.{needs}
 use Rattle.drive.proofs.console.call.Statement.{statement}
@@ -16,7 +17,8 @@ slice-relend-prefix-call-lent c = search needs
 slice-aggregate-call-lent : tie.Need-slice-aggregate-call-lent
 slice-aggregate-call-lent c =
     let l = c .before in
-    sym (length-take-le (l .least .result) (l .before .before .before .before .before .before .before .args .reply .now) (l .least .ensures))
+    sym (length-take-le (l .least .result) (l .before .before .before .before .before .before .before .args .reply .now)
+    (omega (arith, l .least .ensures)))
 
 call-lent-requires : tie.Need-call-lent-requires
 call-lent-requires c κs = search needs
