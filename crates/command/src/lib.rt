@@ -5,6 +5,8 @@
 // read and write are in `command_reader` and `command_writer`.
 pub mod letters;
 
+ghost use mathlib.Core.Path.{_≡_};
+ghost use Rattle.command.specs.Slots as Slots;
 use decimal::Number;
 
 // "action": none is the case of a command without one, which only a writer can meet.
@@ -126,4 +128,41 @@ pub struct Slot {
     pub stood: bool,
     pub number: Number,
     pub place: Place,
+}
+
+impl Slot {
+    // That of an integer.
+    pub fn numbered(number: Number) -> Slot
+        ensures { λ r. ⌜ r ≡ Slots.numbered number ⌝ }
+    {
+        Slot {
+            stood: true,
+            number: number,
+            place: Place::NOWHERE,
+        }
+    }
+
+    // That of a word's code.
+    pub fn coded(code: u64) -> Slot
+        ensures { λ r. ⌜ r ≡ Slots.coded code ⌝ }
+    {
+        Slot::numbered(Number {
+            negative: false,
+            magnitude: code,
+        })
+    }
+
+    // That of a string.
+    pub fn placed(place: Place) -> Slot
+        ensures { λ r. ⌜ r ≡ Slots.placed place ⌝ }
+    {
+        Slot {
+            stood: true,
+            number: Number {
+                negative: false,
+                magnitude: 0,
+            },
+            place: place,
+        }
+    }
 }

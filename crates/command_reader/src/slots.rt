@@ -13,42 +13,14 @@ use command::Slot;
 use command::Transmission;
 use decimal::Number;
 
-// The slot of a word with code n.
-pub(crate) fn coded(n: u64) -> Slot
-    ensures { λ r. ⌜ r ≡ Slots.coded n ⌝ }
-{
-    numbered(Number {
-        negative: false,
-        magnitude: n,
-    })
-}
-
-// The slot of an integer.
-pub(crate) fn numbered(n: Number) -> Slot
-    ensures { λ r. ⌜ r ≡ Slots.numbered n ⌝ }
-{
-    Slot {
-        stood: true,
-        number: n,
-        place: Place::NOWHERE,
-    }
-}
-
-// The slot of a string.
+// The slot of a string, by its place.
 pub(crate) fn placed(start: usize, len: usize) -> Slot
     ensures { λ r. ⌜ r ≡ Slots.placed (record { start = start; len = len }) ⌝ }
 {
-    Slot {
-        stood: true,
-        number: Number {
-            negative: false,
-            magnitude: 0,
-        },
-        place: Place {
-            start: start,
-            len: len,
-        },
-    }
+    Slot::placed(Place {
+        start: start,
+        len: len,
+    })
 }
 
 // The command of the slots, if it has an action and an id.

@@ -5,8 +5,6 @@ ghost use lib.ListN.{length};
 ghost use Rattle.octets.specs.Split.{split};
 ghost use Rattle.command.specs.Keys as Keys;
 ghost use Rattle.command_reader.specs.Keeping.{kindOf, wordOf, Plain, Keeps};
-use crate::slots::coded;
-use crate::slots::numbered;
 use crate::slots::placed;
 use crate::words::place_in;
 use base64::Decoded;
@@ -87,7 +85,7 @@ fn action(v: &[u8]) -> Kept
     ensures { λ r. ⌜ ((at : ℕ) → Plain (kindOf Kind.Action) at (now (v .entry)) r) ⌝ }
 {
     if octets::equal(v, b"finished") {
-        return Kept::Slot(coded(6), 0);
+        return Kept::Slot(Slot::coded(6), 0);
     }
     word(
         1,
@@ -106,7 +104,7 @@ fn word(first: u64, count: usize, words: &[u8], v: &[u8]) -> Kept
     if n >= count {
         return Kept::Refused(Refusal::BadValue);
     }
-    Kept::Slot(coded(first + n as u64), 0)
+    Kept::Slot(Slot::coded(first + n as u64), 0)
 }
 
 // A safe string, of at most 32 bytes if it is to be short. It stays where it stands.
@@ -128,7 +126,7 @@ fn integer(v: &[u8]) -> Kept
     ensures { λ r. ⌜ ((at : ℕ) → Plain Keys.integer at (now (v .entry)) r) ⌝ }
 {
     match decimal::parse(v) {
-        Parsed::Integer(n) => Kept::Slot(numbered(n), 0),
+        Parsed::Integer(n) => Kept::Slot(Slot::numbered(n), 0),
         Parsed::Malformed => Kept::Refused(Refusal::BadValue),
         Parsed::OutOfRange => Kept::Refused(Refusal::BadValue),
     }
