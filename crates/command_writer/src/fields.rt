@@ -59,7 +59,8 @@ fn put_field<'a>(
     at: usize,
 ) -> Written
     requires { ⌜ k < 15 ⌝ }
-    ensures { λ r. ⌜ FieldPut (keyAt k .name) (shown (kindAt keys k) (valueAt (kindAt keys k) slot (now (text .entry)) (now (scratch .entry))))
+    ensures { λ r. ⌜ FieldPut (keyAt k .name)
+        (shown (kindAt keys k) (valueAt (kindAt keys k) slot (now (text .entry)) (now (scratch .entry))))
         (now (out .entry)) at r (now (out .exit)) ⌝ }
 {
     let row = part(&ROWS, b';', k);
