@@ -13,6 +13,6 @@ pub mod SimulationFields
 pub mod SimulationValues
 pub mod SimulationSlots
 pub mod Simulation
-pub mod SimulationSound
+pub mod SimulationHeld
 pub mod RoundTrip
 pub mod Examples

@@ -30,10 +30,11 @@ codesEnd end (a ∷ more) = max (suc (a .code)) (codesEnd end more)
 pub data Reads : Kind → List ℕ → Got → Type 0 where
   as-word : {first : ℕ} {ws : List (List ℕ)} {aliases : List Alias} {v : List ℕ} {c : ℕ} → c < codesEnd (first + length ws) aliases
       → Reads (Kind.word first ws aliases) v (Got.got (Value.number (count c)))
-  as-string : {short : Bool} {v : List ℕ} → Reads (Kind.safe short) v (Got.got (Value.bytes v))
+  as-string : {short : Bool} {v : List ℕ} → every safeByte v ≡ true → over short v ≡ false
+      → Reads (Kind.safe short) v (Got.got (Value.bytes v))
   as-integer : {v : List ℕ} {n : Number} → Reads Kind.integer v (Got.got (Value.number n))
   as-bytes : {v : List ℕ} {padding : ℕ} → verdictOf v ≡ Verdict.Valid padding → Reads Kind.base64 v (Got.got (Value.bytes (bytesOf v)))
-  refused : {k : Kind} {v : List ℕ} {r : ℕ} → Reads k v (Got.refused r)
+  refused : {k : Kind} {v : List ℕ} (r : ℕ) → r ≤ 8 → Reads k v (Got.refused r)
 
 end-le : (end : ℕ) (aliases : List Alias) → end ≤ codesEnd end aliases
 end-le end [] = omega arith
@@ -42,7 +43,7 @@ end-le end (a ∷ more) = omega (arith, end-le end more)
 alias-reads : (first : ℕ) (ws : List (List ℕ)) (aliases more : List Alias) (v : List ℕ)
     → codesEnd (first + length ws) more ≤ codesEnd (first + length ws) aliases → Reads (Kind.word first ws aliases) v (aliasRead more v)
 unfolding aliasRead
-alias-reads first ws aliases [] v h = refused
+alias-reads first ws aliases [] v h = refused 6 (omega arith)
 alias-reads first ws aliases (a ∷ more) v h = go (equals v (a .text)) (alias-reads first ws aliases more v (omega arith))
   where
     go : (b : Bool) → Reads (Kind.word first ws aliases) v (aliasRead more v)
@@ -68,28 +69,28 @@ word-reads first ws aliases v = go (ltb (placeIn ws v) (length ws)) refl
 pub reads : (k : Kind) (v : List ℕ) → Reads k v (valueRead k v)
 unfolding valueRead safeRead
 reads (Kind.word first ws aliases) v = word-reads first ws aliases v
-reads (Kind.safe short) v = go (every safeByte v) (over short v)
+reads (Kind.safe short) v = go (every safeByte v) refl (over short v) refl
   where
-    go : (a b : Bool)
+    go : (a : Bool) → every safeByte v ≡ a → (b : Bool) → over short v ≡ b
         → Reads (Kind.safe short) v (cond a (cond b (Got.refused 8) (Got.got (Value.bytes v))) (Got.refused 6))
-    go true true = refused
-    go true false = as-string
-    go false b = refused
+    go true p true q = refused 8 (omega arith)
+    go true p false q = as-string p q
+    go false p b q = refused 6 (omega arith)
 reads Kind.integer v = go (parseOf v)
   where
     go : (p : Parsed) → Reads Kind.integer v (integerRead p)
     go (Parsed.Integer n) = as-integer
-    go Parsed.Malformed = refused
-    go Parsed.OutOfRange = refused
+    go Parsed.Malformed = refused 6 (omega arith)
+    go Parsed.OutOfRange = refused 6 (omega arith)
 reads Kind.base64 v = go (verdictOf v) refl
   where
     go : (x : Verdict) → verdictOf v ≡ x → Reads Kind.base64 v (base64Read x (bytesOf v))
     go (Verdict.Valid padding) e = as-bytes e
-    go (Verdict.Invalid fault) e = refused
+    go (Verdict.Invalid fault) e = refused 6 (omega arith)
 
 -- a value's bytes in the scratch are at most three for four of its text
 pub stored-room : {k : Kind} {v : List ℕ} {x : Value} → Reads k v (Got.got x) → 4 * length (storedFor k x) ≤ 3 * length v
 stored-room (as-word h) = omega arith
-stored-room as-string = omega arith
+stored-room (as-string s o) = omega arith
 stored-room as-integer = omega arith
 stored-room (as-bytes {v} {padding} e) = omega (arith, length-valid v padding e .1)

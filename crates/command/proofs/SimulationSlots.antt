@@ -58,7 +58,7 @@ module _ {t scratch : List ℕ} {used : ℕ} {name : List ℕ} where
   pub string-slot : {s : Slot} {f : Field} {short : Bool} → Holds t scratch used (record { name = name; kind = Kind.safe short }) s f
       → s .place .start + s .place .len ≤ length t
   string-slot empty = omega arith
-  string-slot (full at from v a as-string w e) = a .within
+  string-slot (full at from v a (as-string s o) w e) = a .within
 
   pub bytes-slot : {s : Slot} {f : Field} → Holds t scratch used (record { name = name; kind = Kind.base64 }) s f
       → s .place .start + s .place .len ≤ used

@@ -56,7 +56,7 @@ module _ (t scratch : List ℕ) (used : ℕ) (room : used ≤ length scratch) wh
   full-value : {k : Kind} {v : List ℕ} {x : Value} (at from : ℕ) → At t at v → Reads k v (Got.got x) → from + length (storedFor k x) ≤ used
       → take (length (storedFor k x)) (drop from scratch) ≡ storedFor k x → valueAt k (slotFor k at from x) t scratch ≡ x
   full-value at from a (as-word h) w e = refl
-  full-value at from a (as-string {short} {v}) w e = bytes-at t at v (a .within) (rw (a .cut) (take-append-seam v (a .rest)))
+  full-value at from a (as-string {short} {v} s o) w e = bytes-at t at v (a .within) (rw (a .cut) (take-append-seam v (a .rest)))
   full-value at from a as-integer w e = refl
   full-value at from a (as-bytes {v} h) w e = bytes-at scratch from (bytesOf v) (omega arith) e
 

@@ -15,7 +15,10 @@ use Rattle.octets.proofs.Below.{both-test}
 use Rattle.octets.proofs.Compare.{equals-refl, equals-sound}
 use Rattle.frames.specs.declared.Framing.{Framing}
 use Rattle.protocol.specs.Table.{noFile, noSession, sessionAt, fileAt, idOf, fileIdOf, isPresent, isUsed, putFile, moved}
-use Rattle.protocol.specs.Answers.{grown, settleDone}
+use Rattle.protocol.specs.Replies.{replyRoom}
+use Rattle.protocol.specs.Change.{cleared, after}
+use Rattle.protocol.specs.Rule.{grown, doneBy}
+use Rattle.protocol.specs.Sessions.{settleDone}
 use Rattle.protocol.specs.Calls.{isOwed, replied, guarded, doneOf}
 use Rattle.protocol.specs.History.{Command, Heard, Event, Mark, marksOf, Question, lastAsk}
 use Rattle.protocol.specs.Stretches.{Key, parts, contents}
@@ -25,26 +28,22 @@ use Rattle.protocol.specs.declared.FileState.{FileState}
 use Rattle.protocol.specs.declared.FileState.the-variants as FileState
 use Rattle.protocol.specs.declared.FileRecord.{FileRecord}
 use Rattle.protocol.specs.declared.Session.{Session}
+use Rattle.protocol.specs.declared.Due.{Due}
+use Rattle.protocol.specs.declared.Due.the-variants as Due
 use Rattle.protocol.specs.declared.Owed.{Owed}
 use Rattle.protocol.specs.declared.Owed.the-variants as Owed
 use Rattle.protocol.specs.declared.Table.{Table}
 use Rattle.protocol.proofs.Ours.{step, ClosedWhole}
-use Rattle.protocol.proofs.Laws.{no-way}
-use Rattle.protocol.proofs.Invariant.{keyOf, isPast, FileOK, Asking}
-use Rattle.protocol.proofs.Done.{keyAt, WasDone, counts-done, each-le, was-le, put-more}
-use Rattle.protocol.proofs.Puts.{table, free-files, none-same, none-free, only-there, none-file, none-closes}
+use Rattle.protocol.proofs.Laws.{past-used, no-way}
+use Rattle.protocol.proofs.Backs.{table}
+use Rattle.protocol.proofs.Invariant.{keyOf, FileOK, Asking}
+use Rattle.protocol.proofs.Done.{keyAt, WasDone, NoneDone, counts-done, each-le, was-le, put-more}
+use Rattle.protocol.proofs.Puts.{free-files, none-same, none-free, only-there, none-file, none-closes}
 use Rattle.protocol.proofs.Obeyed.{sessionIn}
-use Rattle.protocol.proofs.Settled.{is-for, asking, session-ok, part-done}
+use Rattle.protocol.proofs.Settled.{is-for, sound-here, inside, is-open, fits, asking, s-ok, part-done}
 use Rattle.protocol.proofs.Worlds.{WorldOK}
 use Rattle.protocol.proofs.Feeds.{world}
 use Rattle.protocol.proofs.ClosingReplies.{ReplyLaw, closing-reply}
-
-past-used : (g : FileState) → isPast g ≡ true → isUsed g ≡ true
-past-used FileState.Free e = no-way (sym e)
-past-used FileState.Opening e = no-way (sym e)
-past-used FileState.Started e = refl
-past-used FileState.Done e = refl
-past-used FileState.Failed e = refl
 
 -- an ask that is no last part
 abbrev isLast : Question → Bool
@@ -59,10 +58,10 @@ no-last : {A : Type 0} {q : Question} {c d : Command} {a : Heard} {p : List ℕ}
 no-last x y z = no-way (sym (ap isLast (sym x ∙ z)) ∙ y)
 
 -- a done that is not refused with 9
-pub done-is : (w : World) (reply : List ℕ) → 124 ≤ length reply
-    → doneOf (w .receiver) reply ≡ replied (w .receiver .framing) (settleDone (w .receiver .table) (w .receiver .table .owed)) reply
+pub done-is : (w : World) (reply : List ℕ) → replyRoom ≤ length reply
+    → doneOf (w .receiver) reply ≡ replied (w .receiver .framing) (settleDone (w .receiver .table)) reply
 unfolding doneOf guarded
-done-is w reply h = rw (le-ltb (length reply) 124 h)
+done-is w reply h = rw (le-ltb (length reply) replyRoom h)
 
 not-done : FileState.Started ≡ FileState.Done → ⊥
 not-done e = let z : _≡_ {A = ℕ} 0 1 = cc in omega arith
@@ -81,12 +80,12 @@ done-as k c quiet s f e =
     (rw (id, file) refl, sym (eqb-true _ _ (g .0)), sym (eqb-true _ _ (g .1)))
 
 -- ---- a file that an answer moves to done, with a count
-module _ (ss : List Session) (o : Owed) (i j n : ℕ) (inside : i < length ss) (within : j < length (sessionIn ss i .files)) where
+module _ (ss : List Session) (o o′ : Owed) (i j n : ℕ) (inside : i < length ss) (within : j < length (sessionIn ss i .files)) where
   abbrev file : FileRecord
   file = moved (fileAt (sessionIn ss i) j) FileState.Done n
 
   abbrev closedTable : Table
-  closedTable = table (set ss i (putFile (sessionIn ss i) j file)) Owed.Nothing
+  closedTable = table (set ss i (putFile (sessionIn ss i) j file)) o′
 
   same-session : getD (set ss i (putFile (sessionIn ss i) j file)) i noSession ≡ putFile (sessionIn ss i) j file
   same-session = getD-set-same ss i (putFile (sessionIn ss i) j file) noSession inside
@@ -99,7 +98,7 @@ module _ (ss : List Session) (o : Owed) (i j n : ℕ) (inside : i < length ss) (
       → Closes (table ss o) closedTable (keyAt (table ss o) i j) n (sessionIn ss i .quiet)
   closes-more e =
       let s = sessionIn ss i in
-      put-more (keyOf s (fileAt s j)) n (s .quiet) (table ss o) i j file Owed.Nothing inside within (rw e)
+      put-more (keyOf s (fileAt s j)) n (s .quiet) (table ss o) i j file o′ inside within (rw e)
       (rw (equals-refl (idOf s), equals-refl (fileIdOf (fileAt s j)), eq-eqb n n refl, eq-eqb (s .quiet) (s .quiet) refl))
 
   -- and no other file closes
@@ -116,65 +115,78 @@ module _ (ss : List Session) (o : Owed) (i j n : ℕ) (inside : i < length ss) (
               → isDoneAs k c quiet (sessionIn ss i′) (fileAt (sessionIn ss i′) j′) ≡ true
           still i′ j′ h =
               let s = sessionAt closedTable i′ in
-              by (only-there (table ss o) i j file Owed.Nothing i′ j′ (counts-done k c quiet s (fileAt s j′) h))
+              by (only-there (table ss o) i j file o′ i′ j′ (counts-done k c quiet s (fileAt s j′) h))
             where
               by : WasDone (sessionIn ss i′) (sessionAt closedTable i′) j′ ⊎ ((i′ ≡ i) × (j′ ≡ j) × (file .state ≡ FileState.Done))
                   → isDoneAs k c quiet (sessionIn ss i′) (fileAt (sessionIn ss i′) j′) ≡ true
               by (inl was) = was-le k c quiet (table ss o) closedTable i′ j′ was h
               by (inr q) = no-way (sym (rw (q .0, q .1, same-session, same-file) at h) ∙ e)
 
-module _ (g : Framing) (ss : List Session) (carry : List ℕ) (h : List Event) (reply : List ℕ) (room : 124 ≤ length reply) where
+module _ (g : Framing) (ss : List Session) (carry : List ℕ) (h : List Event) (reply : List ℕ) (room : replyRoom ≤ length reply)
+    (i : ℕ) where
+  -- the world with something owed for the session at place i, and what is owed after the answer
+  abbrev before : Due → World
+  before d = world g ss (Owed.For i d) carry h
+
+  abbrev left : Due → Owed
+  left d = cleared i (Owed.For i d)
+
+  abbrev s : Session
+  s = sessionIn ss i
+
   -- ---- the open of a directory
-  directory-turns : (i j : ℕ) → WorldOK (world g ss (Owed.OpenDirectory i j) carry h)
-      → DirectoryAsked (keyAt (table ss (Owed.OpenDirectory i j)) i j) (marksOf h)
-  directory-turns i j ok =
-      let a = asking (ok .table) refl in
-      let s = session-ok (ok .table) refl i .opened (a .state) in
+  directory-turns : (j : ℕ) → WorldOK (before (Due.OpenDirectory j)) → DirectoryAsked (keyOf s (fileAt s j)) (marksOf h)
+  directory-turns j ok =
+      let a = asking (ok .sound) (ok .table) in
+      let at = fits (ok .sound) (ok .table) in
       record {
         command = a .command;
         asked = rw (← (a .about .heard)) (a .asked);
         action = rw (a .about .action);
         directory = rw (a .about .kind);
-        forIt = is-for (sessionIn ss i) j (a .command) FileState.Opening (a .id) (a .about .at);
-        unstarted = s .unstarted (fileIdOf (fileAt (sessionIn ss i) j)) (λ n p e.
-            let q : n ≡ j = s .alone n j (past-used (fileAt (sessionIn ss i) n .state) p) (ap isUsed (a .about .at .state)) e in
-            no-way (sym (rw (q, a .about .at .state) at p)));
+        forIt = is-for s j (a .command) (a .id) (a .about .file);
+        unstarted = s-ok (ok .sound) (ok .table) .unstarted (fileIdOf (fileAt s j)) (λ n p e.
+            let used = past-used (fileAt s n .state) p in
+            let q : n ≡ j = sound-here (ok .sound) (ok .table) .alone n j used (ap isUsed (at .state)) e in
+            no-way (sym (rw (q, at .state) at p)));
       }
 
   -- ---- the last part of a file
-  module _ (i j n : ℕ) (ok : WorldOK (world g ss (Owed.WriteLast i j n) carry h)) where
+  module _ (j n : ℕ) (ok : WorldOK (before (Due.WriteLast j n))) where
     abbrev w : World
-    w = world g ss (Owed.WriteLast i j n) carry h
+    w = before (Due.WriteLast j n)
 
     abbrev k : Key
-    k = keyAt (w .receiver .table) i j
+    k = keyOf s (fileAt s j)
 
     abbrev size : ℕ
-    size = grown (table ss (Owed.WriteLast i j n)) i j n
+    size = grown s j n
 
-    abbrev a : Asking ss (lastAsk (marksOf h)) (Owed.WriteLast i j n)
-    a = asking (ok .table) refl
+    a : Asking s (lastAsk (marksOf h)) (Due.WriteLast j n)
+    a = asking (ok .sound) (ok .table)
 
     marks-after : marksOf (step w (Call.done reply) .history) ≡ Mark.answer true (lastAsk (marksOf h)) ∷ marksOf h
-    unfolding settleDone marksOf
+    unfolding settleDone doneBy marksOf
     marks-after = rw (done-is w reply room)
 
     file-after : FileOK false (Mark.answer true (lastAsk (marksOf h)) ∷ marksOf h) k size
-    file-after = part-done (ok .table) refl true j n (a .about)
+    file-after =
+        part-done (ok .sound) (ok .table) true j n (fits (ok .sound) (ok .table)) (asking (ok .sound) (ok .table) .about)
 
     joined-after : contents k (file-after .stretch .marks) ≡ parts k (file-after .stretch .marks)
     joined-after = rw append-nil at (file-after .joined)
 
-    whole : ReplyLaw → ClosedWhole w reply k size (sessionIn ss i .quiet)
-    unfolding settleDone
+    whole : ReplyLaw → ClosedWhole w reply k size (s .quiet)
+    unfolding settleDone doneBy
     whole law =
-        let s = session-ok (ok .table) refl i in
+        let t = sound-here (ok .sound) (ok .table) in
+        let at = fits (ok .sound) (ok .table) .file in
         record {
           lastPart = record {
             command = a .command;
             part = a .about .part;
             asked = rw (← (a .about .heard)) (a .asked);
-            forIt = is-for (sessionIn ss i) j (a .command) FileState.Started (a .id) (a .about .at);
+            forIt = is-for s j (a .command) (a .id) (a .about .file);
           };
           stretch = file-after .stretch;
           started = rw marks-after (file-after .started);
@@ -182,56 +194,78 @@ module _ (g : Framing) (ss : List Session) (carry : List ℕ) (h : List Event) (
           counted = file-after .counted ∙ ap length (sym joined-after);
           replied =
               rw (done-is w reply room)
-              (closing-reply (sessionIn ss i) (fileAt (sessionIn ss i) j) size law (s .named (ap isPresent (a .state)))
-              (s .opened (a .state) .named j (ap isUsed (a .about .at .state))) (omega arith) g _ reply refl room);
+              (closing-reply s (fileAt s j) size law (t .named (ap isPresent (is-open (ok .sound) (ok .table))))
+              (t .each j .named (ap isUsed (at .state))) (omega arith) g _ reply refl room);
         }
 
     closes : (d : Command) (p : List ℕ) → lastAsk (marksOf h) ≡ Question.asks d (Heard.writesLast p)
         → Closed (w .receiver .table) (step w (Call.done reply) .receiver .table) d
-    unfolding settleDone
+    unfolding settleDone doneBy
     closes d p e =
+        let at = fits (ok .sound) (ok .table) .file in
         let x : Question.asks (a .command) (a .heard) ≡ Question.asks d (Heard.writesLast p) = sym (a .asked) ∙ e in
         let y : a .command ≡ d = cc in
-        let key : keyIn d ≡ k = rw (← y, a .id, a .about .at .file) in
+        let key : keyIn d ≡ k = rw (← y, a .id, a .about .file) in
         record {
           count = size;
-          quiet = sessionIn ss i .quiet;
+          quiet = s .quiet;
           closes =
               rw (key, done-is w reply room)
-              (closes-more ss (Owed.WriteLast i j n) i j size (a .inside) (a .about .at .within) (ap isDone (a .about .at .state)));
+              (closes-more ss (Owed.For i (Due.WriteLast j n)) (left (Due.WriteLast j n)) i j size (inside (ok .sound) (ok .table))
+              (at .within) (ap isDone (at .state)));
         }
 
-  -- ---- whatever is owed
-  pub turned : ReplyLaw → (o : Owed) → WorldOK (world g ss o carry h) → (k : Key) (s quiet : ℕ)
-      → Closes (table ss o) (settleDone (table ss o) o .table) k s quiet
-      → DirectoryAsked k (marksOf h) ⊎ ClosedWhole (world g ss o carry h) reply k s quiet
-  unfolding settleDone
-  turned law Owed.Nothing ok k s quiet c =
-      let t = table ss Owed.Nothing in absurd (none-closes t (settleDone t Owed.Nothing .table) k s quiet (none-same t Owed.Nothing) c)
-  turned law (Owed.OpenFile i j) ok k s quiet c =
-      let o = Owed.OpenFile i j in let t = table ss o in
-      absurd (none-closes t (settleDone t o .table) k s quiet (none-file t i j _ Owed.Nothing not-done) c)
-  turned law (Owed.OpenDirectory i j) ok k s quiet c =
-      let a = asking (ok .table) refl in
-      let e = only-closes ss (Owed.OpenDirectory i j) i j 0 (a .inside) (a .about .at .within) k s quiet c in
-      rw (e .0) (inl (directory-turns i j ok))
-  turned law (Owed.Write i j n) ok k s quiet c =
-      let o = Owed.Write i j n in let t = table ss o in
-      absurd (none-closes t (settleDone t o .table) k s quiet (none-file t i j _ Owed.Nothing not-done) c)
-  turned law (Owed.WriteLast i j n) ok k s quiet c =
-      let a = asking (ok .table) refl in
-      let e = only-closes ss (Owed.WriteLast i j n) i j _ (a .inside) (a .about .at .within) k s quiet c in
-      rw (e .0, e .1, e .2) (inr (whole i j n ok law))
-  turned law (Owed.Commit i) ok k s quiet c =
-      let o = Owed.Commit i in let t = table ss o in
-      absurd (none-closes t (settleDone t o .table) k s quiet (none-free t i _ Owed.Nothing free-files) c)
+  -- ---- whatever is due
+  -- no record turns done
+  no-turn : {A : Type 0} (d : Due) (k : Key) (c quiet : ℕ)
+      → NoneDone (table ss (Owed.For i d)) (after (table ss (Owed.For i d)) i (doneBy s d))
+      → Closes (table ss (Owed.For i d)) (after (table ss (Owed.For i d)) i (doneBy s d)) k c quiet → A
+  no-turn d k c quiet none closes =
+      let t = table ss (Owed.For i d) in absurd (none-closes t (after t i (doneBy s d)) k c quiet none closes)
 
-  -- a last part asked last and answered is the one that is owed
-  pub closed : (o : Owed) → WorldOK (world g ss o carry h) → (d : Command) (p : List ℕ) → lastAsk (marksOf h) ≡ Question.asks d (Heard.writesLast p)
+  pub turned-due : ReplyLaw → (d : Due) → WorldOK (before d) → (k : Key) (c quiet : ℕ)
+      → Closes (table ss (Owed.For i d)) (after (table ss (Owed.For i d)) i (doneBy s d)) k c quiet
+      → DirectoryAsked k (marksOf h) ⊎ ClosedWhole (before d) reply k c quiet
+  unfolding doneBy
+  turned-due law (Due.OpenFile j) ok k c quiet x =
+      no-turn (Due.OpenFile j) k c quiet (none-file (table ss (Owed.For i (Due.OpenFile j))) i j _ (left (Due.OpenFile j)) not-done) x
+  turned-due law (Due.OpenDirectory j) ok k c quiet x =
+      let at = fits (ok .sound) (ok .table) in
+      let in-table = inside (ok .sound) (ok .table) in
+      let e = only-closes ss (Owed.For i (Due.OpenDirectory j)) (left (Due.OpenDirectory j)) i j 0 in-table (at .within) k c quiet x in
+      rw (e .0) (inl (directory-turns j ok))
+  turned-due law (Due.Write j n) ok k c quiet x =
+      no-turn (Due.Write j n) k c quiet (none-file (table ss (Owed.For i (Due.Write j n))) i j _ (left (Due.Write j n)) not-done) x
+  turned-due law (Due.WriteLast j n) ok k c quiet x =
+      let at = fits (ok .sound) (ok .table) .file in
+      let in-table = inside (ok .sound) (ok .table) in
+      let e = only-closes ss (Owed.For i (Due.WriteLast j n)) (left (Due.WriteLast j n)) i j _ in-table (at .within) k c quiet x in
+      rw (e .0, e .1, e .2) (inr (whole j n ok law))
+  turned-due law Due.Commit ok k c quiet x =
+      no-turn Due.Commit k c quiet (none-free (table ss (Owed.For i Due.Commit)) i _ (left Due.Commit) free-files) x
+
+  -- a last part asked last and answered is the one that is due
+  pub closed-due : (due : Due) → WorldOK (before due) → (d : Command) (p : List ℕ)
+      → lastAsk (marksOf h) ≡ Question.asks d (Heard.writesLast p)
+      → Closed (table ss (Owed.For i due)) (step (before due) (Call.done reply) .receiver .table) d
+  closed-due (Due.OpenFile j) ok d p e = let a = asking (ok .sound) (ok .table) in no-last (a .asked) (rw (a .about .heard)) e
+  closed-due (Due.OpenDirectory j) ok d p e = let a = asking (ok .sound) (ok .table) in no-last (a .asked) (rw (a .about .heard)) e
+  closed-due (Due.Write j n) ok d p e = let a = asking (ok .sound) (ok .table) in no-last (a .asked) (rw (a .about .heard)) e
+  closed-due (Due.WriteLast j n) ok d p e = closes j n ok d p e
+  closed-due Due.Commit ok d p e = let a = asking (ok .sound) (ok .table) in no-last (a .asked) (rw (a .about)) e
+
+-- ---- whatever is owed
+module _ (g : Framing) (ss : List Session) (carry : List ℕ) (h : List Event) (reply : List ℕ) (room : replyRoom ≤ length reply) where
+  pub turned : ReplyLaw → (o : Owed) → WorldOK (world g ss o carry h) → (k : Key) (c quiet : ℕ)
+      → Closes (table ss o) (settleDone (table ss o) .table) k c quiet
+      → DirectoryAsked k (marksOf h) ⊎ ClosedWhole (world g ss o carry h) reply k c quiet
+  unfolding settleDone
+  turned law Owed.Nothing ok k c quiet x =
+      let t = table ss Owed.Nothing in absurd (none-closes t t k c quiet (none-same t Owed.Nothing) x)
+  turned law (Owed.For i d) ok k c quiet x = turned-due g ss carry h reply room i law d ok k c quiet x
+
+  pub closed : (o : Owed) → WorldOK (world g ss o carry h) → (d : Command) (p : List ℕ)
+      → lastAsk (marksOf h) ≡ Question.asks d (Heard.writesLast p)
       → isOwed o ≡ true → Closed (table ss o) (step (world g ss o carry h) (Call.done reply) .receiver .table) d
   closed Owed.Nothing ok d p e b = no-way (sym b)
-  closed (Owed.OpenFile i j) ok d p e b = let a = asking (ok .table) refl in no-last (a .asked) (rw (a .about .heard)) e
-  closed (Owed.OpenDirectory i j) ok d p e b = let a = asking (ok .table) refl in no-last (a .asked) (rw (a .about .heard)) e
-  closed (Owed.Write i j n) ok d p e b = let a = asking (ok .table) refl in no-last (a .asked) (rw (a .about .heard)) e
-  closed (Owed.WriteLast i j n) ok d p e b = closes i j n ok d p e
-  closed (Owed.Commit i) ok d p e b = let a = asking (ok .table) refl in no-last (a .asked) (rw (a .about)) e
+  closed (Owed.For i due) ok d p e b = closed-due g ss carry h reply room i due ok d p e

@@ -16,12 +16,12 @@ use Rattle.octets.proofs.Stores.{part-stored}
 use Rattle.command.specs.Letters.{safeByte}
 use Rattle.command.specs.Meaning.{Meaning, meaningOf}
 use Rattle.protocol.specs.Table.{idOf, fileIdOf}
-use Rattle.protocol.specs.Replies.{isHeld, fileReply, statusText, statusValues, framed, replyBytes, repliedOf}
+use Rattle.protocol.specs.Replies.{replyRoom, isHeld, fileReply, statusText, statusValues, framed, replyBytes, repliedOf}
 use Rattle.protocol.specs.Files.{countLimit}
 use Rattle.protocol.specs.Calls.{replied}
 use Rattle.protocol.specs.Claim.{ClosingReply}
 use Rattle.frames.specs.declared.Framing.{Framing}
-use Rattle.protocol.specs.Promises.{IsId}
+use Rattle.protocol.specs.Sound.{IsId}
 use Rattle.protocol.specs.declared.FileRecord.{FileRecord}
 use Rattle.protocol.specs.declared.Session.{Session}
 use Rattle.protocol.specs.declared.Status.the-variants as Status
@@ -37,7 +37,7 @@ ReplyLaw =
     → every safeByte file ≡ true → 1 ≤ length file → length file ≤ 32
     → size ≤ countLimit
     → (meaningOf (statusText id file size (ascii "OK")) ≡ Meaning.command (statusValues id file size (ascii "OK")))
-    × (length (framed (statusText id file size (ascii "OK"))) ≤ 124)
+    × (length (framed (statusText id file size (ascii "OK"))) ≤ replyRoom)
 
 -- "Quiet 1 holds back OK", and so does 2
 held-quiet : (quiet : ℕ) → 1 ≤ quiet → isHeld Status.Ok quiet ≡ true
@@ -55,7 +55,7 @@ stored r buf bs e h = rw (e, le-leb (0 + length bs) (length buf) (omega arith))
 module _ (s : Session) (f : FileRecord) (size : ℕ) where
   -- the reply to a closing, and its text
   abbrev okReply : Reply
-  okReply = fileReply Status.Ok (s .quiet) (s .id) (s .«id_len») (f .id) (f .«id_len») size
+  okReply = fileReply Status.Ok s f size
 
   abbrev okText : List ℕ
   okText = statusText (idOf s) (fileIdOf f) size (ascii "OK")
@@ -69,7 +69,7 @@ module _ (s : Session) (f : FileRecord) (size : ℕ) where
   bytes-held q = rw (held-quiet (s .quiet) q)
 
   pub closing-reply : ReplyLaw → IsId (idOf s) → IsId (fileIdOf f) → size ≤ countLimit → (g : Framing) (step : Stepped) (reply : List ℕ)
-      → step .reply ≡ fileReply Status.Ok (s .quiet) (s .id) (s .«id_len») (f .id) (f .«id_len») size → 124 ≤ length reply
+      → step .reply ≡ fileReply Status.Ok s f size → replyRoom ≤ length reply
       → ClosingReply (keyOf s f) size (s .quiet) (replied g step reply)
   closing-reply law id file fits g step reply e room =
       let l = law (idOf s) (fileIdOf f) size (id .safe) (id .some) (id .short) (file .safe) (file .some) (file .short) fits in

@@ -3,45 +3,64 @@ use Prim.Native.Nat.{ℕ, _<_}
 use mathlib.Core.Path.{_≡_, refl, sym, ap, _∙_}
 use mathlib.Core.Bool.{Bool, true, false, cond}
 use mathlib.Core.List.{List, [], _∷_}
+use native.Mathlib.Decide.{ℕ-discrete}
 use native.Mathlib.Omega.{arith}
 use lib.ListN.{length, set}
-use lib.Dec.{eqb}
-use borrow.Author.Tests.{eqb-true, eqb-false}
+use borrow.Author.Tests.{ne-eqb, eq-eqb}
 use Rattle.octets.specs.Slices.{equals}
+use Rattle.frames.proofs.Choices.{by-cond}
+use Rattle.command.specs.Slots.{nowhere}
 use Rattle.command.specs.Meaning as Meaning
-use Rattle.protocol.specs.Table.{absentSession, noSession, fileAt, idOf, isPresent, isUsed, findSession, withState}
-use Rattle.protocol.specs.Answers.{allowState, allowFound, denyState, denyFound, cleared, dropFound, allowedOf, deniedOf, droppedOf}
+use Rattle.protocol.specs.Table.{freeFile, absentSession, noSession, fileAt, idOf, sessionUsed, isPresent, findSession, withState}
+use Rattle.protocol.specs.Change.{cleared, telling, stepBy}
+use Rattle.protocol.specs.Rule.{isAsked, notAsked, decidedBy}
+use Rattle.protocol.specs.Sessions.{decidedAt, decidedOf}
 use Rattle.protocol.specs.Calls.{isOwed}
 use Rattle.protocol.specs.History.{Mark, lastAsk}
 use Rattle.protocol.specs.Stretches.{Key, partFor, longer, since, stands}
+use Rattle.protocol.specs.Sound.{Sound}
 use Rattle.protocol.specs.declared.FileState.the-variants as FileState
-use Rattle.protocol.specs.declared.SessionState.{SessionState}
+use Rattle.protocol.specs.declared.FileRecord.{FileRecord}
 use Rattle.protocol.specs.declared.SessionState.the-variants as SessionState
 use Rattle.protocol.specs.declared.Session.{Session}
+use Rattle.protocol.specs.declared.Due.{Due}
 use Rattle.protocol.specs.declared.Owed.{Owed}
 use Rattle.protocol.specs.declared.Owed.the-variants as Owed
 use Rattle.protocol.specs.declared.Table.{Table}
+use Rattle.protocol.specs.declared.Decision.{Decision}
+use Rattle.protocol.specs.declared.Decision.the-variants as Decision
+use Rattle.protocol.specs.declared.Told.the-variants as Told
+use Rattle.protocol.specs.declared.Change.{Change}
 use Rattle.protocol.specs.declared.Stepped.{Stepped}
 use Rattle.protocol.specs.declared.Found.{Found}
 use Rattle.protocol.specs.declared.Found.the-variants as Found
 use Rattle.protocol.proofs.Laws.{no-way, equals-same, found-at, unique-other}
-use Rattle.protocol.proofs.Invariant.{keyOf, fileKey, FileOK, commitsFor, Holds, standing, committing, sessionUsed, SessionOK, owing, Asking, TableOK}
+use Rattle.protocol.proofs.Backs.{table, told-step}
+use Rattle.protocol.proofs.Invariant.{keyOf, fileKey, FileOK, commitsFor, Holds, standing, committing, SessionOK, Asking}
+use Rattle.protocol.proofs.Invariant.{AskedLast, TableOK}
 use Rattle.protocol.proofs.Marks.{id-other, part-other, commits-other, none-allowed, none-noted, session-map}
 use Rattle.protocol.proofs.Done.{NoneDone}
-use Rattle.protocol.proofs.Puts.{table, notedMarks, put-session, drop-session, free-files, not-owed, asking-other, none-same, none-put, none-free}
+use Rattle.protocol.proofs.Puts.{notedMarks, put-ok, absent-ok, free-files, asked-other, none-same, none-put, none-free}
+use Rattle.protocol.proofs.SoundSteps.{asked-state}
+use Rattle.protocol.proofs.SoundTable.{owed-session}
 use Rattle.protocol.proofs.Obeyed.{sessionIn}
 
 -- ---- marks that bring a file nothing
 file-allowed : (b : Bool) {m : List Mark} {k : Key} {n : ℕ} (i : List ℕ) → FileOK b m k n → FileOK b (Mark.allow i ∷ m) k n
-file-allowed true i f = record { stretch = longer (Mark.allow i) (f .stretch); started = rw (f .started); joined = f .joined; counted = f .counted }
-file-allowed false i f = record { stretch = longer (Mark.allow i) (f .stretch); started = rw (f .started); joined = f .joined; counted = f .counted }
+file-allowed true i f =
+    record { stretch = longer (Mark.allow i) (f .stretch); started = rw (f .started); joined = f .joined; counted = f .counted }
+file-allowed false i f =
+    record { stretch = longer (Mark.allow i) (f .stretch); started = rw (f .started); joined = f .joined; counted = f .counted }
 
 file-dropped : (b : Bool) {m : List Mark} {k : Key} {n : ℕ} (i : List ℕ) → FileOK b m k n → FileOK b (Mark.drop i ∷ m) k n
-file-dropped true i f = record { stretch = longer (Mark.drop i) (f .stretch); started = rw (f .started); joined = f .joined; counted = f .counted }
-file-dropped false i f = record { stretch = longer (Mark.drop i) (f .stretch); started = rw (f .started); joined = f .joined; counted = f .counted }
+file-dropped true i f =
+    record { stretch = longer (Mark.drop i) (f .stretch); started = rw (f .started); joined = f .joined; counted = f .counted }
+file-dropped false i f =
+    record { stretch = longer (Mark.drop i) (f .stretch); started = rw (f .started); joined = f .joined; counted = f .counted }
 
 -- what was pending is cleared: it was not the file's
-file-cleared : {m : List Mark} {k : Key} {n : ℕ} (i : List ℕ) → partFor k (lastAsk m) ≡ [] → FileOK true m k n → FileOK false (Mark.drop i ∷ m) k n
+file-cleared : {m : List Mark} {k : Key} {n : ℕ} (i : List ℕ) → partFor k (lastAsk m) ≡ [] → FileOK true m k n
+    → FileOK false (Mark.drop i ∷ m) k n
 file-cleared i e f =
     record { stretch = longer (Mark.drop i) (f .stretch); started = rw (f .started); joined = rw e at (f .joined); counted = f .counted }
 
@@ -62,135 +81,149 @@ holds-cleared : {i : List ℕ} {m : List Mark} (k : List ℕ) → equals i k ≡
 holds-cleared k e n (standing h) = standing (rw e h)
 holds-cleared k e n (committing f g) = no-way (sym g ∙ n)
 
--- ---- what is owed
-cleared-is : (i : ℕ) (o : Owed) → isOwed o ≡ true → cleared i o ≡ cond (eqb (owing o) i) Owed.Nothing o
-cleared-is i Owed.Nothing e = no-way (sym e)
-cleared-is i (Owed.OpenFile k j) e = refl
-cleared-is i (Owed.OpenDirectory k j) e = refl
-cleared-is i (Owed.Write k j n) e = refl
-cleared-is i (Owed.WriteLast k j n) e = refl
-cleared-is i (Owed.Commit k) e = refl
+-- a free record is not started
+no-start : {A : Type 0} {f : FileRecord} → f ≡ freeFile → f .state ≡ FileState.Started → A
+no-start e w =
+    let x : FileState.Free ≡ FileState.Started = sym (ap (λ (y : FileRecord). y .state) e) ∙ w in
+    let z : _≡_ {A = ℕ} 0 1 = cc in absurd (omega arith)
 
 -- ---- a step that leaves these marks, and turns no record done
 pub record Moved (t : Table) (m : List Mark) (out : Stepped) : Type 0 where
   pub ok : TableOK (out .table) m
   pub none : NoneDone t (out .table)
 
+-- noted by a mark, unless it is refused
 abbrev pub Noted : Table → List Mark → Mark → Stepped → Type 0
 Noted t m x out = Moved t (notedMarks m x out) out
 
-module _ {ss : List Session} {o : Owed} {m : List Mark} (ok : TableOK (table ss o) m) (k : List ℕ) where
+module _ {ss : List Session} {o : Owed} {m : List Mark} (sound : Sound (table ss o)) (ok : TableOK (table ss o) m) (k : List ℕ) where
+  abbrev t : Table
+  t = table ss o
+
   -- ---- the session i has the id k
-  module _ (i : ℕ) (e : findSession (table ss o) k ≡ Found.At i) where
-    found : (i < length ss) × (sessionUsed (sessionIn ss i) ≡ true) × (idOf (sessionIn ss i) ≡ k)
+  module _ (i : ℕ) (e : findSession t k ≡ Found.At i) where
+    abbrev s : Session
+    s = sessionIn ss i
+
+    found : (i < length ss) × (sessionUsed s ≡ true) × (idOf s ≡ k)
     found = found-at sessionUsed idOf noSession ss k i e
 
     others : (j : ℕ) → (j ≡ i → ⊥) → sessionIn ss j .state ≡ SessionState.Open → equals (idOf (sessionIn ss j)) k ≡ false
-    others j n p = unique-other sessionUsed idOf noSession ss i k (ok .alone) (found .1) (found .2) j n (ap isPresent p)
+    others j n p = unique-other sessionUsed idOf noSession ss i k (sound .alone) (found .1) (found .2) j n (ap isPresent p)
 
-    -- a session that is only asked owes nothing
-    module _ (p : sessionIn ss i .state ≡ SessionState.Asked) where
-      not-open : sessionIn ss i .state ≡ SessionState.Open → ⊥
+    -- ---- one that is only asked owes nothing, and has no file
+    module _ (p : s .state ≡ SessionState.Asked) where
+      not-open : s .state ≡ SessionState.Open → ⊥
       not-open q = let z : _≡_ {A = ℕ} 0 1 = cc in omega arith
 
-      elsewhere : (s : Session) → isOwed o ≡ true → Asking (set ss i s) (lastAsk m) o
-      elsewhere s b = let a = ok .owed b in asking-other ss i s (lastAsk m) o (λ q. not-open (rw q at (a .state))) a
+      owes-not : (n : ℕ) (d : Due) → o ≡ Owed.For n d → n ≡ i → ⊥
+      owes-not n d q r = not-open (rw r at (owed-session sound q .fits .0))
 
-      allowed-ok : SessionOK (isOwed o) (Mark.allow k ∷ m) (withState (sessionIn ss i) SessionState.Open)
-      allowed-ok =
-          let free = ok .each i .shut not-open in
+      elsewhere : (x : Session) (o′ : Owed) → o ≡ o′ → AskedLast ss (lastAsk m) o′ → AskedLast (set ss i x) (lastAsk m) o′
+      elsewhere x Owed.Nothing q a = tt
+      elsewhere x (Owed.For n d) q a = asked-other ss i n x (lastAsk m) d (owes-not n d q) a
+
+      uncleared : (o′ : Owed) → o ≡ o′ → cleared i o′ ≡ o′
+      uncleared Owed.Nothing q = refl
+      uncleared (Owed.For n d) q = rw (ne-eqb n i (owes-not n d q))
+
+      allowed-ok : SessionOK (isOwed o) (Mark.allow k ∷ m) (withState s SessionState.Open)
+      allowed-ok _ =
+          let free = sound .each i .shut not-open in
           record {
-            named = λ _. ok .each i .named (found .1);
-            shut = λ n. absurd (n refl);
-            opened =
-                λ _.
-                record {
-                  stand = standing (rw (equals-same _ _ (found .2)));
-                  alone = λ j j′ q _ _. no-way (sym q ∙ ap isUsed (free j));
-                  named = λ j q. no-way (sym q ∙ ap isUsed (free j));
-                  each = λ j w. let x : FileState.Free ≡ FileState.Started = sym (free j) ∙ w in let z : _≡_ {A = ℕ} 0 1 = cc in absurd (omega arith);
-                  unstarted = λ f _. none-allowed (fileKey (sessionIn ss i) f) k (since (fileKey (sessionIn ss i) f) m) (equals-same _ _ (found .2));
-                };
+            stand = standing (rw (equals-same _ _ (found .2)));
+            each = λ j w. no-start (free j) w;
+            unstarted = λ f _. none-allowed (fileKey s f) k (since (fileKey s f) m) (equals-same _ _ (found .2));
           }
 
-      allow-ok : TableOK (table (set ss i (withState (sessionIn ss i) SessionState.Open)) o) (Mark.allow k ∷ m)
+      allow-ok : TableOK (table (set ss i (withState s SessionState.Open)) o) (Mark.allow k ∷ m)
       allow-ok =
-          put-session (table ss o) i (withState (sessionIn ss i) SessionState.Open) o ok (found .0) (λ _ j n q u. n (ok .alone j i q (found .1) u))
-          (λ j n. session-map (λ _. holds-allowed k) (λ _ j′ _. file-allowed (isOwed o) k) (λ _ f e. none-noted m (fileKey (sessionIn ss j) f) k e .0) (ok .each j))
-          allowed-ok (elsewhere (withState (sessionIn ss i) SessionState.Open)) (ok .told)
+          put-ok t i (withState s SessionState.Open) o (found .0)
+          (λ j n. session-map (λ _. holds-allowed k) (λ _ j′ _. file-allowed (isOwed o) k)
+          (λ _ f q. none-noted m (fileKey (sessionIn ss j) f) k q .0) (ok .each j))
+          allowed-ok (elsewhere (withState s SessionState.Open) o refl (ok .owed)) (ok .told)
 
-      deny-ok : TableOK (table (set ss i absentSession) o) m
-      deny-ok = drop-session (table ss o) i o ok (found .0) (λ j n. ok .each j) (elsewhere absentSession) (ok .told)
+      deny-ok : TableOK (table (set ss i absentSession) (cleared i o)) m
+      deny-ok =
+          rw (uncleared o refl)
+          (put-ok t i absentSession o (found .0) (λ j n. ok .each j) absent-ok (elsewhere absentSession o refl (ok .owed)) (ok .told))
 
     -- ---- drop
     dropped-ok : (b : Bool) (j : ℕ) → (j ≡ i → ⊥) → SessionOK b m (sessionIn ss j) → SessionOK b (Mark.drop k ∷ m) (sessionIn ss j)
-    dropped-ok b j n = session-map (λ p. holds-dropped k (others j n p)) (λ _ j′ _. file-dropped b k) (λ _ f e. none-noted m (fileKey (sessionIn ss j) f) k e .1)
+    dropped-ok b j n =
+        session-map (λ p. holds-dropped k (others j n p)) (λ _ j′ _. file-dropped b k)
+        (λ _ f q. none-noted m (fileKey (sessionIn ss j) f) k q .1)
 
     -- the session that is dropped owed the answer
-    cleared-ok : (a : Asking ss (lastAsk m) o) → owing o ≡ i → (j : ℕ) → (j ≡ i → ⊥) → SessionOK true m (sessionIn ss j)
+    cleared-ok : (d : Due) → Asking s (lastAsk m) d → (j : ℕ) → (j ≡ i → ⊥) → SessionOK true m (sessionIn ss j)
         → SessionOK false (Mark.drop k ∷ m) (sessionIn ss j)
-    cleared-ok a q j n =
+    cleared-ok d a j n =
         session-map
         (λ p. holds-cleared k (others j n p) (rw (a .asked) (commits-other (idOf (sessionIn ss j)) (a .command) (a .heard) (for-other p))))
         (λ p j′ _. let f = keyOf (sessionIn ss j) (fileAt (sessionIn ss j) j′) in
         file-cleared k (rw (a .asked) (part-other f (a .command) (a .heard) (id-other f (a .command) (for-other p)))))
-        (λ _ f e. none-noted m (fileKey (sessionIn ss j) f) k e .1)
+        (λ _ f q. none-noted m (fileKey (sessionIn ss j) f) k q .1)
       where
         for-other : sessionIn ss j .state ≡ SessionState.Open → equals (idOf (sessionIn ss j)) (Meaning.idOf (a .command)) ≡ false
-        for-other p = rw (← (a .id), q, found .2) (others j n p)
+        for-other p = rw (← (a .id), found .2) (others j n p)
 
-    drop-ok : TableOK (table (set ss i absentSession) (cleared i o)) (Mark.drop k ∷ m)
-    drop-ok = go (isOwed o) refl
+    -- it is put back as free room, with this owed
+    put-dropped : (o′ : Owed) → ((j : ℕ) → (j ≡ i → ⊥) → SessionOK (isOwed o′) (Mark.drop k ∷ m) (sessionIn ss j))
+        → AskedLast (set ss i absentSession) (lastAsk m) o′ → TableOK (table (set ss i absentSession) o′) (Mark.drop k ∷ m)
+    put-dropped o′ there asked = put-ok t i absentSession o′ (found .0) there absent-ok asked (ok .told)
+
+    drop-ok : (o′ : Owed) → o ≡ o′ → TableOK (table ss o′) m → TableOK (table (set ss i absentSession) (cleared i o′)) (Mark.drop k ∷ m)
+    drop-ok Owed.Nothing q w = put-dropped Owed.Nothing (λ j n. dropped-ok false j n (w .each j)) tt
+    drop-ok (Owed.For n d) q w = go (ℕ-discrete n i)
       where
-        owed-ok : (b : isOwed o ≡ true) (c : Bool) → eqb (owing o) i ≡ c → TableOK (table (set ss i absentSession) (cond c Owed.Nothing o)) (Mark.drop k ∷ m)
-        owed-ok b true q =
-            drop-session (table ss o) i Owed.Nothing ok (found .0) (λ j n. cleared-ok (ok .owed b) (eqb-true _ _ q) j n (rw b at (ok .each j))) (λ z. no-way (sym z)) (ok .told)
-        owed-ok b false q =
-            drop-session (table ss o) i o ok (found .0) (λ j n. dropped-ok (isOwed o) j n (ok .each j))
-            (λ _. asking-other ss i absentSession (lastAsk m) o (eqb-false _ _ q) (ok .owed b)) (ok .told)
+        go : Dec (n ≡ i) → TableOK (table (set ss i absentSession) (cleared i (Owed.For n d))) (Mark.drop k ∷ m)
+        go (yes r) =
+            rw (eq-eqb n i r) (put-dropped Owed.Nothing (λ j z. cleared-ok d (rw r at (w .owed)) j z (w .each j)) tt)
+        go (no r) =
+            rw (ne-eqb n i r) (put-dropped (Owed.For n d) (λ j z. dropped-ok true j z (w .each j))
+            (asked-other ss i n absentSession (lastAsk m) d r (w .owed)))
 
-        go : (b : Bool) → isOwed o ≡ b → TableOK (table (set ss i absentSession) (cleared i o)) (Mark.drop k ∷ m)
-        go true b = rw (cleared-is i o b) (owed-ok b (eqb (owing o) i) refl)
-        go false b =
-            rw (not-owed o b) (drop-session (table ss o) i Owed.Nothing ok (found .0) (λ j n. dropped-ok false j n (rw b at (ok .each j))) (λ z. no-way (sym z)) (ok .told))
+    -- ---- what is decided of it
+    refused : (x : Mark) → Noted t m x (stepBy t i nowhere notAsked)
+    refused x = rw (told-step t i nowhere _ _) (record { ok = ok; none = none-same t o })
 
-  -- ---- the calls
-  none : NoneDone (table ss o) (table ss o)
-  none = none-same (table ss o) o
+    allow-step : Noted t m (Mark.allow k) (stepBy t i nowhere (decidedBy Decision.Allow s))
+    unfolding decidedBy
+    allow-step =
+        by-cond (λ (c : Change). Noted t m (Mark.allow k) (stepBy t i nowhere c)) (isAsked (s .state))
+        (λ q. record {
+          ok = allow-ok (asked-state (s .state) q);
+          none = none-put t i (withState s SessionState.Open) o (λ j w. (w, refl, refl, refl));
+        })
+        (λ _. refused (Mark.allow k))
 
-  pub allow-noted : Noted (table ss o) m (Mark.allow k) (allowedOf (table ss o) k)
-  unfolding allowedOf
-  allow-noted = found (findSession (table ss o) k) refl
+    deny-step : Moved t m (stepBy t i nowhere (decidedBy Decision.Deny s))
+    unfolding decidedBy
+    deny-step =
+        by-cond (λ (c : Change). Moved t m (stepBy t i nowhere c)) (isAsked (s .state))
+        (λ q. record { ok = deny-ok (asked-state (s .state) q); none = none-free t i absentSession (cleared i o) free-files })
+        (λ _. rw (told-step t i nowhere _ _) (record { ok = ok; none = none-same t o }))
+
+    drop-step : Noted t m (Mark.drop k) (stepBy t i nowhere (decidedBy Decision.Drop s))
+    unfolding decidedBy
+    drop-step = record { ok = drop-ok o refl ok; none = none-free t i absentSession (cleared i o) free-files }
+
+  -- ---- the calls: a step with P, which no refusal lacks
+  decided : (P : Stepped → Type 0) (d : Decision) → P (telling t (Told.Refused 12))
+      → ((i : ℕ) → findSession t k ≡ Found.At i → P (stepBy t i nowhere (decidedBy d (sessionIn ss i)))) → P (decidedOf t d k)
+  unfolding decidedOf
+  decided P d refusal step = go (findSession t k) refl
     where
-      state : (i : ℕ) → findSession (table ss o) k ≡ Found.At i → (s : SessionState) → sessionIn ss i .state ≡ s
-          → Noted (table ss o) m (Mark.allow k) (allowState (table ss o) i s)
-      state i e SessionState.Absent q = record { ok = ok; none = none }
-      state i e SessionState.Asked q =
-          record { ok = allow-ok i e q; none = none-put (table ss o) i (withState (sessionIn ss i) SessionState.Open) o (λ j q. (q, refl, refl, refl)) }
-      state i e SessionState.Open q = record { ok = ok; none = none }
+      go : (f : Found) → findSession t k ≡ f → P (decidedAt t d f)
+      go Found.Nowhere e = refusal
+      go (Found.At i) e = step i e
 
-      found : (f : Found) → findSession (table ss o) k ≡ f → Noted (table ss o) m (Mark.allow k) (allowFound (table ss o) f)
-      found Found.Nowhere e = record { ok = ok; none = none }
-      found (Found.At i) e = state i e (sessionIn ss i .state) refl
+  pub allow-noted : Noted t m (Mark.allow k) (decidedOf t Decision.Allow k)
+  allow-noted = decided (Noted t m (Mark.allow k)) Decision.Allow (record { ok = ok; none = none-same t o }) allow-step
 
   -- deny adds nothing
-  pub deny-moved : Moved (table ss o) m (deniedOf (table ss o) k)
-  unfolding deniedOf
-  deny-moved = found (findSession (table ss o) k) refl
-    where
-      state : (i : ℕ) → findSession (table ss o) k ≡ Found.At i → (s : SessionState) → sessionIn ss i .state ≡ s → Moved (table ss o) m (denyState (table ss o) i s)
-      state i e SessionState.Absent q = record { ok = ok; none = none }
-      state i e SessionState.Asked q = record { ok = deny-ok i e q; none = none-free (table ss o) i absentSession o free-files }
-      state i e SessionState.Open q = record { ok = ok; none = none }
+  pub deny-moved : Moved t m (decidedOf t Decision.Deny k)
+  deny-moved = decided (Moved t m) Decision.Deny (record { ok = ok; none = none-same t o }) deny-step
 
-      found : (f : Found) → findSession (table ss o) k ≡ f → Moved (table ss o) m (denyFound (table ss o) f)
-      found Found.Nowhere e = record { ok = ok; none = none }
-      found (Found.At i) e = state i e (sessionIn ss i .state) refl
-
-  pub drop-noted : Noted (table ss o) m (Mark.drop k) (droppedOf (table ss o) k)
-  unfolding droppedOf
-  drop-noted = found (findSession (table ss o) k) refl
-    where
-      found : (f : Found) → findSession (table ss o) k ≡ f → Noted (table ss o) m (Mark.drop k) (dropFound (table ss o) f)
-      found Found.Nowhere e = record { ok = ok; none = none }
-      found (Found.At i) e = record { ok = drop-ok i e; none = none-free (table ss o) i absentSession (cleared i o) free-files }
+  pub drop-noted : Noted t m (Mark.drop k) (decidedOf t Decision.Drop k)
+  drop-noted = decided (Noted t m (Mark.drop k)) Decision.Drop (record { ok = ok; none = none-same t o }) drop-step

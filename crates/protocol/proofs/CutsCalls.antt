@@ -17,16 +17,19 @@ use Rattle.frames.specs.declared.Report.the-variants as Report
 use Rattle.frames.proofs.CallLaws.{call-report}
 use Rattle.frames.proofs.Follows.{stream-append, fresh-follows, call-follows}
 use Rattle.command.specs.Slots.{valuesOf}
-use Rattle.command.specs.Read.{readOf}
+use Rattle.command.specs.Read.{scratchRoom, readOf}
 use Rattle.protocol.specs.Table.{findSession}
-use Rattle.protocol.specs.Replies.{replyBytes, repliedOf}
-use Rattle.protocol.specs.Answers.{refused, settleDone, settleFailed, dropFound, allowedOf, deniedOf, droppedOf}
+use Rattle.protocol.specs.Replies.{replyRoom, replyBytes, repliedOf}
+use Rattle.protocol.specs.Change.{telling}
+use Rattle.protocol.specs.Rule.{decidedBy}
+use Rattle.protocol.specs.Sessions.{settleDone, settleFailed, decidedAt, decidedOf}
 use Rattle.protocol.specs.Calls.{isOwed, Feeding, feeding, Acted, readAct, reportAct, feedRefused, scannedFeed, isShort, feedOf}
 use Rattle.protocol.specs.Calls.{answeredBy, replied, guarded, allowOf, denyOf, dropOf, doneOf, failedOf}
 use Rattle.protocol.specs.History.{Event, bytesOf, modeAfter}
 use Rattle.protocol.specs.Machine.{Call, World, isUnfed, isRefused, afterFeed, afterCall, start}
 use Rattle.protocol.specs.Cuts.{saying, Move, Output, reporting, answering, isReport, isReportMove, reportOf, answerOf}
 use Rattle.protocol.specs.Promises.{Sized}
+use Rattle.protocol.specs.declared.Decision.the-variants as Decision
 use Rattle.protocol.specs.declared.Table.{Table}
 use Rattle.protocol.specs.declared.Receiver.{Receiver}
 use Rattle.protocol.specs.declared.Told.{Told}
@@ -38,7 +41,7 @@ use Rattle.protocol.specs.declared.Found.the-variants as Found
 use Rattle.protocol.proofs.Ours.{Lent, step, given}
 use Rattle.protocol.proofs.ReplyBytes.{SizedReply, reply-sent}
 use Rattle.protocol.proofs.Sizes.{SizedStep, none-sized, empty-sized}
-use Rattle.protocol.proofs.Sizes.{done-sized, failed-sized, allow-sized, deny-sized, dropped-sized}
+use Rattle.protocol.proofs.Sizes.{done-sized, failed-sized, decided-sized}
 use Rattle.protocol.proofs.ReplyLengths.{report-sized, Roomy, roomy}
 use Rattle.protocol.proofs.CutsReading.{same-reading}
 use Rattle.protocol.proofs.CutsSteps.{SameAct, unread-same, act-same}
@@ -68,7 +71,7 @@ record Acts (t : Table) (a : Acted) (os : List Output) (ds : List Stream.Told) :
   taken : isUnfed (a .step .told) ≡ false
   moves : Moves t (a .step .table) os ds
 
-module _ (t : Table) (h : Sized t) (scratch reply : List ℕ) (enough : 6144 ≤ length scratch) (long : 124 ≤ length reply) where
+module _ (t : Table) (h : Sized t) (scratch reply : List ℕ) (enough : scratchRoom ≤ length scratch) (long : replyRoom ≤ length reply) where
   -- the act for a thing told, with any scratch
   act-moves : (d : Stream.Told) (a : Acted) → SizedReply (a .step .reply) → SameAct (textIn d) a (actOn t d)
       → Acts t a (reportedBy (textIn d) a reply ∷ []) (d ∷ [])
@@ -97,7 +100,7 @@ module _ (t : Table) (h : Sized t) (scratch reply : List ℕ) (enough : 6144 ≤
   report-moves Report.ShortCarry piece carry n = absurd (n refl)
 
 -- a feed that is not refused with 9 or 10 tells neither
-pub report-taken : (t : Table) → Sized t → (scratch reply : List ℕ) → 6144 ≤ length scratch → 124 ≤ length reply
+pub report-taken : (t : Table) → Sized t → (scratch reply : List ℕ) → scratchRoom ≤ length scratch → replyRoom ≤ length reply
     → (k : Report) (piece carry : List ℕ) → (k ≡ Report.ShortCarry → ⊥)
     → isUnfed (reportAct t k (textOf piece carry k) scratch .step .told) ≡ false
 report-taken t h scratch reply enough long k piece carry n = report-moves t h scratch reply enough long k piece carry n .taken
@@ -168,15 +171,15 @@ answers : (r : Receiver) → Sized (r .table) → (m : Move) → isReportMove m 
     → ((ds : List Stream.Told) → move (r .table) m ds ≡ moveBy m s ds)
     → Answers r (guarded r s reply) (answerOf m reply (guarded r s reply))
 unfolding guarded
-answers r h m c s reply z e = go (ltb (length reply) 124) refl
+answers r h m c s reply z e = go (ltb (length reply) replyRoom) refl
   where
     out : Outcome Answered → Output
     out a = answering m (a .answer .told) (take (a .answer .«reply_len») (a .buffer))
 
     short : Outcome Answered
-    short = outcome (answeredBy (r .framing) (refused (r .table) 9) 0) reply
+    short = outcome (answeredBy (r .framing) (telling (r .table) (Told.Refused 9)) 0) reply
 
-    go : (b : Bool) → ltb (length reply) 124 ≡ b → let a = cond b short (replied (r .framing) s reply) in
+    go : (b : Bool) → ltb (length reply) replyRoom ≡ b → let a = cond b short (replied (r .framing) s reply) in
         Answers r a (cond b [] (out a ∷ []))
     go true q = record { framing = refl; moves = none refl; sized = h }
     go false q =
@@ -185,11 +188,11 @@ answers r h m c s reply z e = go (ltb (length reply) 124) refl
         record { framing = refl; moves = rw o (one (moveBy m s [] .output) [] (rw c) e); sized = z .table }
 
 -- drop replies nothing
-drop-silent : (t : Table) (id : List ℕ) → replyBytes (droppedOf t id .reply) ≡ []
-unfolding droppedOf replyBytes
+drop-silent : (t : Table) (id : List ℕ) → replyBytes (decidedOf t Decision.Drop id .reply) ≡ []
+unfolding decidedOf decidedBy replyBytes
 drop-silent t id = go (findSession t id)
   where
-    go : (f : Found) → replyBytes (dropFound t f .reply) ≡ []
+    go : (f : Found) → replyBytes (decidedAt t Decision.Drop f .reply) ≡ []
     go Found.Nowhere = refl
     go (Found.At i) = refl
 
@@ -236,27 +239,29 @@ module _ (w : World) (ok : Kept w) where
       let f = feeds w ok piece carry scratch reply lent in
       record { bytes = refl; moves = f .moves; kept = f .kept }
   steps (Call.allow id reply) lent =
-      let a = answers r (ok .sized) (Move.allow id) refl (allowedOf t id) reply (allow-sized t (ok .sized) id) (λ ds. refl) in
+      let z = decided-sized t (ok .sized) Decision.Allow id in
+      let a = answers r (ok .sized) (Move.allow id) refl (decidedOf t Decision.Allow id) reply z (λ ds. refl) in
       let q = noted-bytes (isRefused (allowOf r id reply .answer .told)) (Event.allowed id) h refl in
       record { bytes = q; moves = a .moves; kept = console-kept (allowOf r id reply .answer) _ q (a .framing) (a .sized) }
   steps (Call.deny id reply) lent =
-      let a = answers r (ok .sized) (Move.deny id) refl (deniedOf t id) reply (deny-sized t (ok .sized) id) (λ ds. refl) in
+      let z = decided-sized t (ok .sized) Decision.Deny id in
+      let a = answers r (ok .sized) (Move.deny id) refl (decidedOf t Decision.Deny id) reply z (λ ds. refl) in
       let q = sym (append-nil (bytesOf h)) in
       record { bytes = q; moves = a .moves; kept = console-kept (denyOf r id reply .answer) h q (a .framing) (a .sized) }
   steps (Call.drop id) lent =
       let q = noted-bytes (isRefused (dropOf r id .told)) (Event.dropped id) h refl in
       record {
         bytes = q;
-        moves = one (answering (Move.drop id) (droppedOf t id .told) []) [] refl (λ ds. rw (drop-silent t id));
-        kept = console-kept (dropOf r id) _ q refl (dropped-sized t (ok .sized) id .table);
+        moves = one (answering (Move.drop id) (decidedOf t Decision.Drop id .told) []) [] refl (λ ds. rw (drop-silent t id));
+        kept = console-kept (dropOf r id) _ q refl (decided-sized t (ok .sized) Decision.Drop id .table);
       }
   steps (Call.done reply) lent =
-      let z = done-sized t (ok .sized) (t .owed) in
-      let a = answers r (ok .sized) Move.done refl (settleDone t (t .owed)) reply z (λ ds. refl) in
+      let z = done-sized t (ok .sized) in
+      let a = answers r (ok .sized) Move.done refl (settleDone t) reply z (λ ds. refl) in
       let q = noted-bytes (isRefused (doneOf r reply .answer .told)) (Event.answered true) h refl in
       record { bytes = q; moves = a .moves; kept = console-kept (doneOf r reply .answer) _ q (a .framing) (a .sized) }
   steps (Call.failed code reply) lent =
-      let z = failed-sized t (ok .sized) code (t .owed) in
-      let a = answers r (ok .sized) (Move.failed code) refl (settleFailed t code (t .owed)) reply z (λ ds. refl) in
+      let z = failed-sized t (ok .sized) code in
+      let a = answers r (ok .sized) (Move.failed code) refl (settleFailed t code) reply z (λ ds. refl) in
       let q = noted-bytes (isRefused (failedOf r code reply .answer .told)) (Event.answered false) h refl in
       record { bytes = q; moves = a .moves; kept = console-kept (failedOf r code reply .answer) _ q (a .framing) (a .sized) }

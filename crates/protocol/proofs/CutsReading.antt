@@ -11,12 +11,12 @@ use Rattle.command.specs.Values.{Value, Got, valueRead}
 use Rattle.command.specs.Fields.{Turn, textRead}
 use Rattle.command.specs.Meaning.{Meaning, meaningOf, bytesIn}
 use Rattle.command.specs.Slots.{free, slotsOf, valuesOf}
-use Rattle.command.specs.Read.{Reader, storedFor, slotFor, keptBy, kept, begun, Answer, finished, readOf, meaningIn}
+use Rattle.command.specs.Read.{scratchRoom, Reader, storedFor, slotFor, keptBy, kept, begun, Answer, finished, readOf, meaningIn}
 use Rattle.command.specs.declared.Slot.{Slot}
 use Rattle.command.specs.declared.Command.{Command}
 use Rattle.command.proofs.SimulationFields.{Agree, on, off, text-agree}
 use Rattle.command.proofs.Simulation.{read-means}
-use Rattle.protocol.specs.Files.{stringIn}
+use Rattle.protocol.specs.Sessions.{stringIn}
 use Rattle.protocol.proofs.Refusals.{meaning-refusal}
 use Rattle.protocol.proofs.Means.{string-means}
 
@@ -56,7 +56,7 @@ finished-same : {x y : Turn Reader} → Agree Same x y → finished x .answer �
 finished-same (on r) = rw (r .slots)
 finished-same (off r) = refl
 
-read-same : (t scratch scratch′ : List ℕ) → 6144 ≤ length scratch → 6144 ≤ length scratch′
+read-same : (t scratch scratch′ : List ℕ) → scratchRoom ≤ length scratch → scratchRoom ≤ length scratch′
     → readOf t scratch .answer ≡ readOf t scratch′ .answer
 unfolding readOf
 read-same t scratch scratch′ h h′ = rw (le-ltb _ _ h, le-ltb _ _ h′) (finished-same (same-read t scratch scratch′))
@@ -85,7 +85,7 @@ pub data SameReading (t : List ℕ) : Outcome Answer → Outcome Answer → Type
   read : (c : Command) (after after′ : List ℕ) → SameCommand t c after after′
       → SameReading t (outcome (Answer.read c) after) (outcome (Answer.read c) after′)
 
-pub same-reading : (t scratch scratch′ : List ℕ) → 6144 ≤ length scratch → 6144 ≤ length scratch′
+pub same-reading : (t scratch scratch′ : List ℕ) → scratchRoom ≤ length scratch → scratchRoom ≤ length scratch′
     → SameReading t (readOf t scratch) (readOf t scratch′)
 same-reading t scratch scratch′ h h′ =
     go (readOf t scratch .answer) (readOf t scratch′ .answer) (read-same t scratch scratch′ h h′)

@@ -6,11 +6,12 @@ use mathlib.Core.List.{List, [], _∷_, _++_}
 use lib.ListN.{length, replicate}
 use Rattle.frames.specs.Stream as Stream
 use Rattle.command.specs.Slots.{valuesOf}
-use Rattle.command.specs.Read.{readOf}
+use Rattle.command.specs.Read.{scratchRoom, readOf}
 use Rattle.protocol.specs.Replies.{replyBytes}
-use Rattle.protocol.specs.Answers.{settleDone, settleFailed, allowedOf, deniedOf, droppedOf}
+use Rattle.protocol.specs.Sessions.{settleDone, settleFailed, decidedOf}
 use Rattle.protocol.specs.Calls.{Acted, unread, readAct}
 use Rattle.protocol.specs.Cuts.{Saying, saying, Move, isReportMove, Output, reporting, answering}
+use Rattle.protocol.specs.declared.Decision.the-variants as Decision
 use Rattle.protocol.specs.declared.Table.{Table}
 use Rattle.protocol.specs.declared.Told.the-variants as Told
 use Rattle.protocol.specs.declared.Stepped.{Stepped}
@@ -27,7 +28,7 @@ moved o t ds = record { output = o; table = t; rest = ds }
 
 -- a thing told by the bytes, acted on with a scratch of zeros
 abbrev pub zeros : List ℕ
-zeros = replicate 6144 0
+zeros = replicate scratchRoom 0
 
 abbrev pub textIn : Stream.Told → List ℕ
 textIn (Stream.Told.command text) = text
@@ -55,11 +56,11 @@ moveBy m s ds = moved (answering m (s .told) (replyBytes (s .reply))) (s .table)
 
 abbrev pub move : Table → Move → List Stream.Told → Moved
 move t Move.report ds = moveReport t ds
-move t (Move.allow id) ds = moveBy (Move.allow id) (allowedOf t id) ds
-move t (Move.deny id) ds = moveBy (Move.deny id) (deniedOf t id) ds
-move t (Move.drop id) ds = moveBy (Move.drop id) (droppedOf t id) ds
-move t Move.done ds = moveBy Move.done (settleDone t (t .owed)) ds
-move t (Move.failed code) ds = moveBy (Move.failed code) (settleFailed t code (t .owed)) ds
+move t (Move.allow id) ds = moveBy (Move.allow id) (decidedOf t Decision.Allow id) ds
+move t (Move.deny id) ds = moveBy (Move.deny id) (decidedOf t Decision.Deny id) ds
+move t (Move.drop id) ds = moveBy (Move.drop id) (decidedOf t Decision.Drop id) ds
+move t Move.done ds = moveBy Move.done (settleDone t) ds
+move t (Move.failed code) ds = moveBy (Move.failed code) (settleFailed t code) ds
 
 -- moves one after another: what they give, and the table after them
 abbrev pub before : Output → List Output × Table → List Output × Table

@@ -1,6 +1,6 @@
 -- How many records of a table are done with some ids, count and quiet: as many or fewer where each that is done was so before, and one more
 -- where one is put that was not.
-use Prim.Native.Nat.{ℕ, zero, suc, _+_, _≤_, _<_}
+use Prim.Native.Nat.{ℕ, zero, suc, _≤_, _<_}
 use mathlib.Core.Path.{_≡_, refl, sym, ap}
 use mathlib.Core.Bool.{Bool, true, false, cond}
 use mathlib.Core.List.{List, [], _∷_}

@@ -4,12 +4,15 @@ use mathlib.Core.Path.{_≡_, refl, sym, _∙_}
 use mathlib.Core.Option.{Option}
 use mathlib.Core.List.{List, [], _∷_, _++_}
 use lib.ListN.{length, take, drop, replicate}
+use Rattle.command.specs.Read.{scratchRoom}
+use Rattle.frames.specs.Stream.{textLimit}
 use Rattle.octets.specs.Ascii.{ascii}
 use Rattle.octets.specs.Outcome.{Outcome}
 use Rattle.frames.specs.Calls.{textOf}
 use Rattle.protocol.specs.Table.{freshReceiver}
-use Rattle.protocol.specs.Replies.{fileReply, framed, replyBytes}
-use Rattle.protocol.specs.Files.{idIn, countLimit}
+use Rattle.protocol.specs.Replies.{replyRoom, fileReply, framed, replyBytes}
+use Rattle.protocol.specs.Files.{countLimit, opening}
+use Rattle.protocol.specs.Sessions.{idIn, askedSession}
 use Rattle.protocol.specs.Calls.{Feeding, feedOf, allowOf, doneOf}
 use Rattle.protocol.specs.History.{bytesOf, Mark, marksOf}
 use Rattle.protocol.specs.Stretches.{Key, Stretch, since, parts, contents}
@@ -27,10 +30,10 @@ use Rattle.protocol.proofs.Starred.{computing}
 
 -- ---- a console that "allows every session at once, answers done always, and writes only replies"
 abbrev scratch₀ : List ℕ
-scratch₀ = replicate 6144 0
+scratch₀ = replicate scratchRoom 0
 
 abbrev reply₀ : List ℕ
-reply₀ = replicate 124 0
+reply₀ = replicate replyRoom 0
 
 -- the world, all that was written, and what is left of the piece
 record Replay : Type 0 where
@@ -83,7 +86,7 @@ abbrev play : ℕ → List ℕ → Replay → Replay
 play n p r = times n (replay (r .world) (r .written) p)
 
 abbrev begin : Replay
-begin = replay (start (replicate 8192 0)) [] []
+begin = replay (start (replicate textLimit 0)) [] []
 
 -- ---- document 01's example
 abbrev input : List ℕ
@@ -116,10 +119,10 @@ again =
 
 -- two ways to bring its first command and to allow the session: in one piece, and in two with other bytes in the buffers
 abbrev one-piece : List Call
-one-piece = Call.feed input (replicate 8192 0) scratch₀ reply₀ ∷ Call.allow (ascii "m") reply₀ ∷ []
+one-piece = Call.feed input (replicate textLimit 0) scratch₀ reply₀ ∷ Call.allow (ascii "m") reply₀ ∷ []
 
 abbrev ones : List ℕ
-ones = replicate 8192 1
+ones = replicate textLimit 1
 
 abbrev two-pieces : List Call
 two-pieces =
@@ -158,14 +161,15 @@ record Computed : Type 0 where
   again-starts : countAt (play 2 again (play 5 input begin) .world .receiver .table) 0 0 ≡ 0
   again-closes : Closing (fed (play 2 again (play 5 input begin)) .world) (play 3 again (play 5 input begin) .world) (ascii "A")
   -- the premises of the cut theorem hold of the two ways: both consume the first command, and allow the session after one report
-  one-lent : AllLent (start (replicate 8192 0)) one-piece
+  one-lent : AllLent (start (replicate textLimit 0)) one-piece
   two-lent : AllLent (start ones) two-pieces
-  one-bytes : bytesOf (after (start (replicate 8192 0)) one-piece .history) ≡ framed (ascii "5113;ac=send;id=m")
+  one-bytes : bytesOf (after (start (replicate textLimit 0)) one-piece .history) ≡ framed (ascii "5113;ac=send;id=m")
   two-bytes : bytesOf (after (start ones) two-pieces .history) ≡ framed (ascii "5113;ac=send;id=m")
-  one-calls : consoleCalls 0 (allGiven (start (replicate 8192 0)) one-piece) ≡ (1, Move.allow (ascii "m")) ∷ []
+  one-calls : consoleCalls 0 (allGiven (start (replicate textLimit 0)) one-piece) ≡ (1, Move.allow (ascii "m")) ∷ []
   two-calls : consoleCalls 0 (allGiven (start ones) two-pieces) ≡ (1, Move.allow (ascii "m")) ∷ []
   -- "No reply is longer than 124 bytes": one has as many
-  longest : length (replyBytes (fileReply Status.Progress 0 (replicate 32 105) 32 (replicate 32 102) 32 countLimit)) ≡ 124
+  longest : let r = fileReply Status.Progress (askedSession 0 (replicate 32 105)) (opening (replicate 32 102)) countLimit in
+      length (replyBytes r) ≡ replyRoom
 
 computed : Computed
 unfolding computing
@@ -186,7 +190,7 @@ computed = record {
   longest = refl;
 }
 
-alike : allGiven (start (replicate 8192 0)) one-piece ≡ allGiven (start ones) two-pieces
+alike : allGiven (start (replicate textLimit 0)) one-piece ≡ allGiven (start ones) two-pieces
 alike =
-    cuts-alike (replicate 8192 0) ones one-piece two-pieces (computed .one-lent) (computed .two-lent)
+    cuts-alike (replicate textLimit 0) ones one-piece two-pieces (computed .one-lent) (computed .two-lent)
     (computed .one-bytes ∙ sym (computed .two-bytes)) (computed .one-calls ∙ sym (computed .two-calls)) .0

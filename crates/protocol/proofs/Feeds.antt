@@ -4,7 +4,7 @@ use mathlib.Core.Path.{_≡_, refl}
 use mathlib.Core.Bool.{Bool, true, false, cond}
 use mathlib.Core.List.{List, append-nil}
 use lib.ListN.{length, take}
-use Rattle.frames.specs.Stream.{Mode, stream}
+use Rattle.frames.specs.Stream.{textLimit, Mode, stream}
 use Rattle.frames.specs.Calls.{scanOf, textOf}
 use Rattle.frames.specs.Follows.{Follows, toldOf}
 use Rattle.frames.specs.declared.Framing.{Framing}
@@ -13,7 +13,7 @@ use Rattle.frames.specs.declared.Report.the-variants as Report
 use Rattle.frames.proofs.CallLaws.{call-report}
 use Rattle.frames.proofs.Follows.{stream-append, call-follows}
 use Rattle.command.specs.Meaning.{Meaning, meaningOf}
-use Rattle.command.specs.Read.{Answer, readOf}
+use Rattle.command.specs.Read.{Answer, scratchRoom, readOf}
 use Rattle.protocol.specs.Calls.{isOwed, Feeding, Acted, readAct, reportAct, feedRefused, scannedFeed, isShort, feedOf}
 use Rattle.protocol.specs.History.{hearing, Event, bytesOf, Mark, readMark, toldMarks, hearingMark, modeAfter, marksOf}
 use Rattle.protocol.specs.Machine.{Call, World, isUnfed, afterFeed}
@@ -24,9 +24,12 @@ use Rattle.protocol.specs.declared.Owed.the-variants as Owed
 use Rattle.protocol.proofs.Ours.{Lent, step}
 use Rattle.protocol.proofs.Laws.{low-taken}
 use Rattle.protocol.proofs.Means.{Read, command, refused, text-read}
+use Rattle.protocol.specs.Sound.{Sound}
 use Rattle.protocol.proofs.Invariant.{TableOK}
 use Rattle.protocol.proofs.Done.{NoneDone}
-use Rattle.protocol.proofs.Puts.{table, not-owed, none-same}
+use Rattle.protocol.proofs.Backs.{table, not-owed}
+use Rattle.protocol.proofs.Puts.{none-same}
+use Rattle.protocol.proofs.SoundCalls.{scanned-sound}
 use Rattle.protocol.proofs.Obeyed.{idle}
 use Rattle.protocol.proofs.ObeyedRule.{obey-kept}
 use Rattle.protocol.proofs.Worlds.{WorldOK}
@@ -38,15 +41,15 @@ record ActOK (ss : List Session) (m : List Mark) (a : Acted) : Type 0 where
   none : NoneDone (idle ss) (a .step .table)
   taken : isUnfed (a .step .told) ≡ false
 
-module _ {ss : List Session} {m : List Mark} (same : TableOK (idle ss) m) (scratch : List ℕ) (enough : 6144 ≤ length scratch)
-    (text : List ℕ) where
+module _ {ss : List Session} {m : List Mark} (sound : Sound (idle ss)) (same : TableOK (idle ss) m) (scratch : List ℕ)
+    (enough : scratchRoom ≤ length scratch) (text : List ℕ) where
   -- a text that is read
   read-act : ActOK ss (readMark (meaningOf text) m) (readAct (idle ss) text (readOf text scratch))
   read-act = go (readOf text scratch .answer) (text-read text scratch enough)
     where
       go : (a : Answer) {d : Meaning} → Read text (readOf text scratch .buffer) a d
           → ActOK ss (readMark d m) (readAct (idle ss) text (record { answer = a; buffer = readOf text scratch .buffer }))
-      go (Answer.read c) (command means) = let k = obey-kept means same in record { ok = k .ok; none = k .none; taken = k .taken }
+      go (Answer.read c) (command means) = let k = obey-kept means sound same in record { ok = k .ok; none = k .none; taken = k .taken }
       go (Answer.refused n) (refused l) =
           record { ok = same; none = none-same (idle ss) Owed.Nothing; taken = low-taken n l }
 
@@ -68,14 +71,14 @@ world g ss o carry h = record { receiver = record { framing = g; table = table s
 
 -- one that is not refused with 9 or 10: its carry is the world's
 feed-taken : (g : Framing) (ss : List Session) (kept : List ℕ) (h : List Event) → let w = world g ss Owed.Nothing kept h in
-    WorldOK w → (piece carry scratch reply : List ℕ) → 8192 ≤ length carry → 6144 ≤ length scratch
+    WorldOK w → (piece carry scratch reply : List ℕ) → textLimit ≤ length carry → scratchRoom ≤ length scratch
     → let f = scannedFeed (idle ss) piece (scanOf g piece carry) scratch reply in
     (isUnfed (f .fed .told) ≡ false → carry ≡ kept) → FeedOK w (afterFeed w piece f)
 unfolding scannedFeed marksOf
 feed-taken g ss kept h w piece carry scratch reply long enough lent =
     let k = scanOf g piece carry in
     let r = k .answer .report in
-    let a = report-act (w .table) scratch enough (textOf piece (k .buffer) r) r (call-report g piece carry long) in
+    let a = report-act (w .sound) (w .table) scratch enough (textOf piece (k .buffer) r) r (call-report g piece carry long) in
     let e : carry ≡ kept = lent (a .taken) in
     let f : Follows g carry (modeAfter h) = rw e (w .follows) in
     let c = call-follows piece f in
@@ -83,6 +86,7 @@ feed-taken g ss kept h w piece carry scratch reply long enough lent =
       ok =
           record {
             follows = rw (a .taken, modeAfter, stream-append Mode.outside (bytesOf h) (take (k .answer .consumed) piece)) (c .1);
+            sound = scanned-sound (w .sound) refl piece k scratch reply;
             table = rw (c .0) (a .ok);
           };
       none = a .none;
@@ -90,7 +94,7 @@ feed-taken g ss kept h w piece carry scratch reply long enough lent =
 
 feed-idle : (g : Framing) (ss : List Session) (o : Owed) (kept : List ℕ) (h : List Event) → o ≡ Owed.Nothing
     → let w = world g ss o kept h in
-    WorldOK w → (piece carry scratch reply : List ℕ) → 8192 ≤ length carry → 6144 ≤ length scratch
+    WorldOK w → (piece carry scratch reply : List ℕ) → textLimit ≤ length carry → scratchRoom ≤ length scratch
     → let f = scannedFeed (table ss o) piece (scanOf g piece carry) scratch reply in
     (isUnfed (f .fed .told) ≡ false → carry ≡ kept) → FeedOK w (afterFeed w piece f)
 feed-idle g ss o kept h n w piece carry scratch reply long enough lent =
@@ -105,6 +109,7 @@ feed-refused w ok n l piece carry scratch reply =
       ok =
           record {
             follows = rw (l, modeAfter, append-nil (bytesOf (w .history))) (ok .follows);
+            sound = ok .sound;
             table = ok .table;
           };
       none = none-same (w .receiver .table) (w .receiver .table .owed);

@@ -1,5 +1,6 @@
--- THE INVARIANT between the table and the history: what every list of calls from a fresh receiver keeps.
-use Prim.Native.Nat.{ℕ, _+_, _≤_, _<_}
+-- THE INVARIANT between the table and the history: what every list of calls from a fresh receiver keeps, beside what holds of the table
+-- alone (`Sound`).
+use Prim.Native.Nat.{ℕ}
 use mathlib.Core.Path.{_≡_}
 use mathlib.Core.Bool.{Bool, true, false}
 use mathlib.Core.Option.{Option}
@@ -8,21 +9,20 @@ use lib.ListN.{length, getD}
 use Rattle.octets.specs.Slices.{equals}
 use Rattle.command.specs.Meaning.{actionCode, fileTypeCode}
 use Rattle.command.specs.Meaning as Meaning
-use Rattle.protocol.specs.Table.{noFile, noSession, sessionAt, fileAt, idOf, fileIdOf, isPresent, isUsed}
-use Rattle.protocol.specs.Files.{countLimit}
+use Rattle.protocol.specs.Table.{noSession, sessionAt, fileAt, idOf, fileIdOf}
 use Rattle.protocol.specs.Calls.{isOwed}
 use Rattle.protocol.specs.History.{Command, Heard, Mark, Question, lastAsk}
 use Rattle.protocol.specs.Stretches.{Key, partFor, Stretch, since, parts, contents, startStands, stands, AllStand}
-use Rattle.protocol.specs.Promises.{IsId}
-use Rattle.protocol.specs.declared.FileState.{FileState}
 use Rattle.protocol.specs.declared.FileState.the-variants as FileState
 use Rattle.protocol.specs.declared.FileRecord.{FileRecord}
 use Rattle.protocol.specs.declared.SessionState.the-variants as SessionState
 use Rattle.protocol.specs.declared.Session.{Session}
+use Rattle.protocol.specs.declared.Due.{Due}
+use Rattle.protocol.specs.declared.Due.the-variants as Due
 use Rattle.protocol.specs.declared.Owed.{Owed}
 use Rattle.protocol.specs.declared.Owed.the-variants as Owed
 use Rattle.protocol.specs.declared.Table.{Table}
-use Rattle.protocol.proofs.Laws.{Unique}
+use Rattle.protocol.proofs.Laws.{isPast}
 
 -- ---- a started file
 abbrev pub keyOf : Session → FileRecord → Key
@@ -40,7 +40,7 @@ pub record FileOK (owed : Bool) (m : List Mark) (k : Key) (n : ℕ) : Type 0 whe
   pub joined : contents k (stretch .marks) ≡ parts k (stretch .marks) ++ pending owed k m
   pub counted : n ≡ length (parts k (stretch .marks))
 
--- ---- a session
+-- ---- an open session
 abbrev pub commitsFor : List ℕ → Question → Bool
 commitsFor i Question.none = false
 commitsFor i (Question.asks d Heard.opens) = false
@@ -52,17 +52,6 @@ commitsFor i (Question.asks d Heard.commits) = equals i (Meaning.idOf d)
 pub data Holds (owed : Bool) (i : List ℕ) (m : List Mark) : Type 0 where
   standing : stands i m ≡ true → Holds owed i m
   committing : owed ≡ true → commitsFor i (lastAsk m) ≡ true → Holds owed i m
-
-abbrev pub fileUsed : FileRecord → Bool
-fileUsed f = isUsed (f .state)
-
--- past its opening
-abbrev pub isPast : FileState → Bool
-isPast FileState.Free = false
-isPast FileState.Opening = false
-isPast FileState.Started = true
-isPast FileState.Done = true
-isPast FileState.Failed = true
 
 abbrev pub fileKey : Session → List ℕ → Key
 fileKey s f = record { id = idOf s; file = f }
@@ -76,79 +65,58 @@ abbrev pub Unstarted : List Mark → Session → Type 0
 Unstarted m s =
     (f : List ℕ) → ((j : ℕ) → isPast (fileAt s j .state) ≡ true → fileIdOf (fileAt s j) ≡ f → ⊥) → NoneStands m (fileKey s f)
 
--- an open one: its files have different ids, and each that is started is as the history says
+-- each file that is started is as the history says
 pub record OpenOK (owed : Bool) (m : List Mark) (s : Session) : Type 0 where
   pub stand : Holds owed (idOf s) m
-  pub alone : Unique fileUsed fileIdOf noFile (s .files)
-  pub named : (j : ℕ) → fileUsed (fileAt s j) ≡ true → IsId (fileIdOf (fileAt s j))
   pub each : (j : ℕ) → fileAt s j .state ≡ FileState.Started → FileOK owed m (keyOf s (fileAt s j)) (fileAt s j .count)
   pub unstarted : Unstarted m s
 
-abbrev pub sessionUsed : Session → Bool
-sessionUsed s = isPresent (s .state)
+abbrev pub SessionOK : Bool → List Mark → Session → Type 0
+SessionOK owed m s = s .state ≡ SessionState.Open → OpenOK owed m s
 
--- one that is not open has no file
-pub record SessionOK (owed : Bool) (m : List Mark) (s : Session) : Type 0 where
-  pub named : sessionUsed s ≡ true → IsId (idOf s)
-  pub shut : (s .state ≡ SessionState.Open → ⊥) → (j : ℕ) → fileAt s j .state ≡ FileState.Free
-  pub opened : s .state ≡ SessionState.Open → OpenOK owed m s
-
--- ---- what is owed
--- the session that owes an answer
-abbrev pub owing : Owed → ℕ
-owing Owed.Nothing = 0
-owing (Owed.OpenFile i j) = i
-owing (Owed.OpenDirectory i j) = i
-owing (Owed.Write i j n) = i
-owing (Owed.WriteLast i j n) = i
-owing (Owed.Commit i) = i
-
--- the file j of the session is that of the command, in a state
-pub record AtFile (s : Session) (j : ℕ) (d : Command) (g : FileState) : Type 0 where
-  pub within : j < length (s .files)
-  pub state : fileAt s j .state ≡ g
-  pub file : fileIdOf (fileAt s j) ≡ Meaning.fileIdOf d
+-- ---- what is due for a session
+-- the file j of the session is that of the command
+abbrev pub IsFile : Session → ℕ → Command → Type 0
+IsFile s j d = fileIdOf (fileAt s j) ≡ Meaning.fileIdOf d
 
 pub record OpenAsked (type : ℕ) (s : Session) (d : Command) (a : Heard) (j : ℕ) : Type 0 where
   pub heard : a ≡ Heard.opens
   pub action : actionCode d ≡ 3
   pub kind : fileTypeCode d ≡ type
-  pub at : AtFile s j d FileState.Opening
+  pub file : IsFile s j d
 
 -- the ask of a part, as it is heard
 abbrev pub writeHeard : Bool → List ℕ → Heard
 writeHeard true p = Heard.writesLast p
 writeHeard false p = Heard.writes p
 
--- the file's count with the part's length is at most 2^40
 pub record PartAsked (last : Bool) (s : Session) (d : Command) (a : Heard) (j n : ℕ) : Type 0 where
   pub part : List ℕ
   pub heard : a ≡ writeHeard last part
   pub long : n ≡ length part
-  pub fits : fileAt s j .count + n ≤ countLimit
-  pub at : AtFile s j d FileState.Started
+  pub file : IsFile s j d
 
-abbrev pub About : Session → Command → Heard → Owed → Type 0
-About s d a Owed.Nothing = ⊥
-About s d a (Owed.OpenFile i j) = OpenAsked 0 s d a j
-About s d a (Owed.OpenDirectory i j) = OpenAsked 1 s d a j
-About s d a (Owed.Write i j n) = PartAsked false s d a j n
-About s d a (Owed.WriteLast i j n) = PartAsked true s d a j n
-About s d a (Owed.Commit i) = a ≡ Heard.commits
+abbrev pub About : Session → Command → Heard → Due → Type 0
+About s d a (Due.OpenFile j) = OpenAsked 0 s d a j
+About s d a (Due.OpenDirectory j) = OpenAsked 1 s d a j
+About s d a (Due.Write j n) = PartAsked false s d a j n
+About s d a (Due.WriteLast j n) = PartAsked true s d a j n
+About s d a Due.Commit = a ≡ Heard.commits
 
--- it is what the ask told last is about, in an open session
-pub record Asking (ss : List Session) (q : Question) (o : Owed) : Type 0 where
+-- it is what the ask told last is about
+pub record Asking (s : Session) (q : Question) (due : Due) : Type 0 where
   pub command : Command
   pub heard : Heard
   pub asked : q ≡ Question.asks command heard
-  pub inside : owing o < length ss
-  pub state : getD ss (owing o) noSession .state ≡ SessionState.Open
-  pub id : idOf (getD ss (owing o) noSession) ≡ Meaning.idOf command
-  pub about : About (getD ss (owing o) noSession) command heard o
+  pub id : idOf s ≡ Meaning.idOf command
+  pub about : About s command heard due
 
--- ---- the table: present sessions have different ids, and parts were handed over in standing sessions only
+abbrev pub AskedLast : List Session → Question → Owed → Type 0
+AskedLast ss q Owed.Nothing = Unit {0}
+AskedLast ss q (Owed.For i d) = Asking (getD ss i noSession) q d
+
+-- ---- the table: parts were handed over in standing sessions only
 pub record TableOK (t : Table) (m : List Mark) : Type 0 where
-  pub alone : Unique sessionUsed idOf noSession (t .sessions)
   pub each : (i : ℕ) → SessionOK (isOwed (t .owed)) m (sessionAt t i)
-  pub owed : isOwed (t .owed) ≡ true → Asking (t .sessions) (lastAsk m) (t .owed)
+  pub owed : AskedLast (t .sessions) (lastAsk m) (t .owed)
   pub told : AllStand m

@@ -13,7 +13,10 @@ use Rattle.octets.proofs.Below.{both-test}
 use Rattle.octets.proofs.Compare.{equals-refl, equals-sound}
 use Rattle.protocol.specs.Machine.{isUnfed}
 use Rattle.protocol.specs.declared.Told.the-variants as Told
-use Rattle.protocol.specs.Table.{zeros, padded, hereOr, first}
+use Rattle.protocol.specs.Sound.{Unique}
+use Rattle.protocol.specs.Table.{zeros, padded, hereOr, first, isUsed}
+use Rattle.protocol.specs.declared.FileState.{FileState}
+use Rattle.protocol.specs.declared.FileState.the-variants as FileState
 use Rattle.protocol.specs.declared.Found.{Found}
 use Rattle.protocol.specs.declared.Found.the-variants as Found
 
@@ -86,14 +89,18 @@ module _ {A : Type 0} (used : A → Bool) (key : A → List ℕ) (d : A) (l : Li
       rw u at (first-nowhere (λ (x : A). (used x && equals (key x) k)) d (rw n) l e i)
 
 -- ---- stores
--- what holds at each place after a store: of the new member there, and of the old ones at the other places
-pub set-each : {A : Type 0} (P : A → Type 0) (d : A) (l : List A) (i : ℕ) (a : A) → i < length l → P a
-    → ((j : ℕ) → (j ≡ i → ⊥) → P (getD l j d)) → (j : ℕ) → P (getD (set l i a) j d)
-set-each P d l i a h here there j = go (ℕ-discrete j i)
+-- what holds at each place after a store, by the place: of the new member there, and of the old ones at the other places
+pub set-at : {A : Type 0} (P : ℕ → A → Type 0) (d : A) (l : List A) (i : ℕ) (a : A) → i < length l → P i a
+    → ((j : ℕ) → (j ≡ i → ⊥) → P j (getD l j d)) → (j : ℕ) → P j (getD (set l i a) j d)
+set-at P d l i a h here there j = go (ℕ-discrete j i)
   where
-    go : Dec (j ≡ i) → P (getD (set l i a) j d)
+    go : Dec (j ≡ i) → P j (getD (set l i a) j d)
     go (yes e) = rw (e, getD-set-same l i a d h) here
     go (no n) = rw (getD-set-other l i j a d n) (there j n)
+
+pub set-each : {A : Type 0} (P : A → Type 0) (d : A) (l : List A) (i : ℕ) (a : A) → i < length l → P a
+    → ((j : ℕ) → (j ≡ i → ⊥) → P (getD l j d)) → (j : ℕ) → P (getD (set l i a) j d)
+set-each P = set-at (λ _. P)
 
 -- the same of a store at any place, which may lie outside
 pub set-any : {A : Type 0} (P : ℕ → A → Type 0) (l : List A) (i : ℕ) (a d : A) → P i a → ((j : ℕ) → P j (getD l j d))
@@ -103,11 +110,6 @@ set-any P (x ∷ xs) zero a d here there zero = here
 set-any P (x ∷ xs) zero a d here there (suc j) = there (suc j)
 set-any P (x ∷ xs) (suc i) a d here there zero = there zero
 set-any P (x ∷ xs) (suc i) a d here there (suc j) = set-any (λ (n : ℕ). P (suc n)) xs i a d here (λ n. there (suc n)) j
-
--- the used members differ in their ids
-abbrev pub Unique : {A : Type 0} → (A → Bool) → (A → List ℕ) → A → List A → Type 0
-Unique used key d l =
-    (j j′ : ℕ) → used (getD l j d) ≡ true → used (getD l j′ d) ≡ true → key (getD l j d) ≡ key (getD l j′ d) → j ≡ j′
 
 pub set-unique : {A : Type 0} (used : A → Bool) (key : A → List ℕ) (d : A) (l : List A) (i : ℕ) (a : A) → i < length l → Unique used key d l
     → (used a ≡ true → (j : ℕ) → (j ≡ i → ⊥) → used (getD l j d) ≡ true → key (getD l j d) ≡ key a → ⊥)
@@ -145,3 +147,19 @@ replicate-each P x y (suc n) (suc j) = replicate-each P x y n j
 -- an id of at most 32 bytes comes back from its array
 pub padded-id : (k : List ℕ) → length k ≤ 32 → take (length k) (padded k) ≡ k
 padded-id k h = take-take (length k) 32 (k ++ zeros) h ∙ take-append-seam k zeros
+
+-- ---- file states
+-- past its opening
+abbrev pub isPast : FileState → Bool
+isPast FileState.Free = false
+isPast FileState.Opening = false
+isPast FileState.Started = true
+isPast FileState.Done = true
+isPast FileState.Failed = true
+
+pub past-used : (g : FileState) → isPast g ≡ true → isUsed g ≡ true
+past-used FileState.Free e = no-way (sym e)
+past-used FileState.Opening e = refl
+past-used FileState.Started e = refl
+past-used FileState.Done e = refl
+past-used FileState.Failed e = refl

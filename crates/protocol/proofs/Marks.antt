@@ -161,26 +161,16 @@ pub holds-answered : {i : List ℕ} {m : List Mark} (q : Question) (v : Bool) �
 holds-answered q v ask e (standing h) = standing h
 holds-answered q v ask e (committing f g) = no-way (sym (rw ask at g) ∙ e)
 
--- ---- what a session keeps, if it goes on standing and its started files go on
+-- ---- what an open session keeps, if it goes on standing and its started files go on
 pub session-map : {b b′ : Bool} {m m′ : List Mark} {s : Session}
     → (s .state ≡ SessionState.Open → Holds b (Table.idOf s) m → Holds b′ (Table.idOf s) m′)
     → (s .state ≡ SessionState.Open → (j : ℕ) → fileAt s j .state ≡ FileState.Started
     → FileOK b m (keyOf s (fileAt s j)) (fileAt s j .count) → FileOK b′ m′ (keyOf s (fileAt s j)) (fileAt s j .count))
     → (s .state ≡ SessionState.Open → (f : List ℕ) → NoneStands m (fileKey s f) → NoneStands m′ (fileKey s f))
     → SessionOK b m s → SessionOK b′ m′ s
-session-map h f g o =
-    record {
-      named = o .named;
-      shut = o .shut;
-      opened = λ e. let p = o .opened e in
-          record {
-            stand = h e (p .stand);
-            alone = p .alone;
-            named = p .named;
-            each = λ j u. f e j u (p .each j u);
-            unstarted = λ n u. g e n (p .unstarted n u);
-          };
-    }
+session-map h f g o e =
+    let p = o e in
+    record { stand = h e (p .stand); each = λ j u. f e j u (p .each j u); unstarted = λ n u. g e n (p .unstarted n u) }
 
 -- a command read, whose content is what is then handed over
 pub session-heard : (d : Command) (m : List Mark) (x : Option Heard) (s : Session)

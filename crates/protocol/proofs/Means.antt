@@ -13,13 +13,13 @@ use Rattle.command.specs.Values.{Value}
 use Rattle.command.specs.Meaning.{Meaning, meaningOf, bytesIn, idOf, fileIdOf, dataOf, actionCode, fileTypeCode}
 use Rattle.command.specs.Slots.{slotsOf, bytesAt, valuesOf}
 use Rattle.command.specs.Slots as Slots
-use Rattle.command.specs.Read.{Answer, readOf}
+use Rattle.command.specs.Read.{scratchRoom, Answer, readOf}
 use Rattle.command.specs.declared.Place.{Place}
 use Rattle.command.specs.declared.Action.{Action}
 use Rattle.command.specs.declared.Command.{Command as PlacedCommand}
 use Rattle.command.proofs.Simulation.{read-means, read-length}
-use Rattle.command.proofs.SimulationSound.{Sound, read-sound}
-use Rattle.protocol.specs.Files.{stringIn, idIn, fileIdIn}
+use Rattle.command.proofs.SimulationHeld.{Held, read-held}
+use Rattle.protocol.specs.Sessions.{stringIn, idIn, fileIdIn}
 use Rattle.protocol.proofs.Refusals.{Named, meaning-named, meaning-refusal}
 
 -- the command c, read from the text with that scratch afterwards, is the command d
@@ -31,6 +31,7 @@ pub record Means (c : PlacedCommand) (text scratch : List ℕ) (d : List Value) 
   pub file : fileIdIn c text ≡ fileIdOf d
   pub part : stringIn scratch (c .payload) ≡ dataOf d
   pub long : c .payload .len ≡ length (dataOf d)
+  pub quiet : c .quiet ≤ 2  -- "0, 1, 2"
 
 -- the code of its action
 pub acts-as : {c : PlacedCommand} {text scratch : List ℕ} {d : List Value} → Means c text scratch d → (a : Action) → c .action ≡ a
@@ -54,9 +55,9 @@ unfolding partOf
 string-length l p h = rw (le-leb _ _ h) (omega (arith, length-take (p .len) (drop (p .start) l), length-drop (p .start) l))
 
 values-mean : (c : PlacedCommand) (text scratch : List ℕ) → Named (valuesOf c text scratch)
-    → c .payload .start + c .payload .len ≤ length scratch → Means c text scratch (valuesOf c text scratch)
+    → c .payload .start + c .payload .len ≤ length scratch → c .quiet ≤ 2 → Means c text scratch (valuesOf c text scratch)
 unfolding valuesOf slotsOf
-values-mean c text scratch n h =
+values-mean c text scratch n h quiet =
     record {
       named = n;
       action = refl;
@@ -65,6 +66,7 @@ values-mean c text scratch n h =
       file = string-means text (c .«file_id»);
       part = string-means scratch (c .payload);
       long = sym (string-length scratch (c .payload) h) ∙ ap length (string-means scratch (c .payload));
+      quiet = quiet;
     }
 
 -- ---- a text that is read
@@ -73,7 +75,7 @@ pub data Read (text scratch : List ℕ) : Answer → Meaning → Type 0 where
   command : {c : PlacedCommand} {d : List Value} → Means c text scratch d → Read text scratch (Answer.read c) (Meaning.command d)
   refused : {n : ℕ} → n ≤ 8 → Read text scratch (Answer.refused n) (Meaning.refused n)
 
-pub text-read : (text scratch : List ℕ) → 6144 ≤ length scratch
+pub text-read : (text scratch : List ℕ) → scratchRoom ≤ length scratch
     → Read text (readOf text scratch .buffer) (readOf text scratch .answer) (meaningOf text)
 text-read text scratch enough = go (readOf text scratch .answer) refl
   where
@@ -83,9 +85,9 @@ text-read text scratch enough = go (readOf text scratch .answer) refl
     go : (a : Answer) → readOf text scratch .answer ≡ a → Read text after a (meaningOf text)
     go (Answer.read c) e =
         let m : Meaning.command (valuesOf c text after) ≡ meaningOf text = rw e at (read-means text scratch enough) in
-        let s : Sound text scratch c = read-sound text scratch c e in
+        let s : Held scratch c = read-held text scratch c e in
         let h : c .payload .start + c .payload .len ≤ length after = omega (arith, s .payload-in, read-length text scratch) in
-        rw (← m) (command (values-mean c text after (meaning-named text _ (sym m)) h))
+        rw (← m) (command (values-mean c text after (meaning-named text _ (sym m)) h (s .quiet-le)))
     go (Answer.refused n) e =
         let m : Meaning.refused n ≡ meaningOf text = rw e at (read-means text scratch enough) in
         rw (← m) (refused (meaning-refusal text n (sym m)))

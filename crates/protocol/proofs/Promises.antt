@@ -1,6 +1,6 @@
 -- WHAT EVERY CALL PROMISES, of the receiver's own: a refused one changes nothing, a feed goes on, and no reply is over 124 bytes.
 use Prim.Native.Nat.{ℕ}
-use mathlib.Core.Path.{_≡_, refl, sym, _∙_}
+use mathlib.Core.Path.{_≡_, refl, sym, ap, _∙_}
 use mathlib.Core.Bool.{Bool, true, false, cond}
 use mathlib.Core.List.{List}
 use native.Mathlib.Omega.{arith}
@@ -11,26 +11,35 @@ use Rattle.octets.specs.Outcome.{outcome}
 use Rattle.frames.specs.Calls.{scanOf, textOf}
 use Rattle.frames.proofs.CallLaws.{call-report, consumed-le, consumes}
 use Rattle.protocol.specs.Table.{sessionAt, findSession}
-use Rattle.protocol.specs.Replies.{noReply}
-use Rattle.protocol.specs.Answers.{refused, allowState, allowFound, denyState, denyFound, dropFound}
-use Rattle.protocol.specs.Answers.{settleDone, settleFailed, allowedOf, deniedOf, droppedOf}
+use Rattle.protocol.specs.Replies.{replyRoom, noReply}
+use Rattle.command.specs.Slots.{nowhere}
+use Rattle.frames.proofs.Choices.{by-cond}
+use Rattle.protocol.specs.Change.{tells, toldBy, telling, stepBy}
+use Rattle.protocol.specs.Rule.{doneBy, failedBy, isAsked, notAsked, allowed, denied, decidedBy}
+use Rattle.protocol.specs.Sessions.{answeredWith, settleDone, settleFailed, decidedAt, decidedOf}
 use Rattle.protocol.specs.Calls.{isOwed, Feeding, feeding, feedRefused, scannedFeed, isShort, feedOf}
 use Rattle.protocol.specs.Calls.{answeredBy, replied, guarded, allowOf, denyOf, dropOf, doneOf, failedOf}
 use Rattle.protocol.specs.Machine.{ours, isUnfed, isRefused}
 use Rattle.protocol.specs.Promises.{Sized, FeedPromise, CallPromise, EveryCall}
-use Rattle.protocol.specs.declared.SessionState.{SessionState}
-use Rattle.protocol.specs.declared.SessionState.the-variants as SessionState
+use Rattle.protocol.specs.declared.Session.{Session}
+use Rattle.protocol.specs.declared.Due.{Due}
 use Rattle.protocol.specs.declared.Owed.{Owed}
 use Rattle.protocol.specs.declared.Owed.the-variants as Owed
 use Rattle.protocol.specs.declared.Table.{Table}
 use Rattle.protocol.specs.declared.Receiver.{Receiver}
 use Rattle.protocol.specs.declared.Failure.{Failure}
+use Rattle.protocol.specs.declared.Decision.{Decision}
+use Rattle.protocol.specs.declared.Decision.the-variants as Decision
+use Rattle.protocol.specs.declared.Told.the-variants as Told
+use Rattle.protocol.specs.declared.Change.{Change}
 use Rattle.protocol.specs.declared.Stepped.{Stepped}
 use Rattle.protocol.specs.declared.Found.{Found}
 use Rattle.protocol.specs.declared.Found.the-variants as Found
 use Rattle.protocol.proofs.Laws.{no-way}
+use Rattle.protocol.proofs.Backs.{told-step}
+use Rattle.protocol.proofs.Tellings.{done-told, failed-told}
 use Rattle.protocol.proofs.ReplyBytes.{reply-sent, not-due}
-use Rattle.protocol.proofs.Sizes.{SizedStep, done-sized, failed-sized, allow-sized, deny-sized}
+use Rattle.protocol.proofs.Sizes.{SizedStep, done-sized, failed-sized, decided-sized}
 use Rattle.protocol.proofs.ReplyLengths.{roomy, report-sized}
 use Rattle.protocol.proofs.CutsCalls.{report-taken}
 
@@ -38,65 +47,52 @@ use Rattle.protocol.proofs.CutsCalls.{report-taken}
 abbrev Leaves : Table → Stepped → Type 0
 Leaves t s = isRefused (s .told) ≡ true → (s .table ≡ t) × (s .reply ≡ noReply)
 
-allow-leaves : (t : Table) (id : List ℕ) → Leaves t (allowedOf t id)
-unfolding allowedOf
-allow-leaves t id = found (findSession t id)
+-- by a change of one session that is not refused, or that only tells the refusal
+module _ (t : Table) (i : ℕ) where
+  refusal-leaves : (n : ℕ) → Leaves t (stepBy t i nowhere (tells (Told.Refused n) noReply))
+  refusal-leaves n e = let s = told-step t i nowhere (Told.Refused n) noReply in (ap (λ (x : Stepped). x .table) s, refl)
+
+  asked-leaves : (c : Change) → isRefused (toldBy nowhere (c .news)) ≡ false
+      → Leaves t (stepBy t i nowhere (cond (isAsked (sessionAt t i .state)) c notAsked))
+  asked-leaves c e =
+      by-cond (λ (x : Change). Leaves t (stepBy t i nowhere x)) (isAsked (sessionAt t i .state)) (λ _ q. no-way (sym q ∙ e))
+      (λ _. refusal-leaves 12)
+
+decided-leaves : (t : Table) (d : Decision) (id : List ℕ) → Leaves t (decidedOf t d id)
+unfolding decidedOf decidedBy
+decided-leaves t d id = found (findSession t id)
   where
-    state : (i : ℕ) (s : SessionState) → Leaves t (allowState t i s)
-    state i SessionState.Absent e = (refl, refl)
-    state i SessionState.Asked e = no-way (sym e)
-    state i SessionState.Open e = (refl, refl)
+    step : (i : ℕ) (x : Decision) → Leaves t (stepBy t i nowhere (decidedBy x (sessionAt t i)))
+    step i Decision.Allow = asked-leaves t i (allowed (sessionAt t i)) refl
+    step i Decision.Deny = asked-leaves t i (denied (sessionAt t i)) refl
+    step i Decision.Drop = λ e. no-way (sym e)
 
-    found : (f : Found) → Leaves t (allowFound t f)
-    found Found.Nowhere e = (refl, refl)
-    found (Found.At i) e = state i (sessionAt t i .state) e
+    found : (f : Found) → Leaves t (decidedAt t d f)
+    found Found.Nowhere = λ _. (refl, refl)
+    found (Found.At i) = step i d
 
-deny-leaves : (t : Table) (id : List ℕ) → Leaves t (deniedOf t id)
-unfolding deniedOf
-deny-leaves t id = found (findSession t id)
-  where
-    state : (i : ℕ) (s : SessionState) → Leaves t (denyState t i s)
-    state i SessionState.Absent e = (refl, refl)
-    state i SessionState.Asked e = no-way (sym e)
-    state i SessionState.Open e = (refl, refl)
+-- an answer is refused where nothing is owed, and nowhere else
+answered-leaves : (t : Table) (f : Session → Due → Change) → ((s : Session) (d : Due) → isRefused (toldBy nowhere (f s d .news)) ≡ false)
+    → (o : Owed) → Leaves t (answeredWith t f o)
+answered-leaves t f l Owed.Nothing e = (refl, refl)
+answered-leaves t f l (Owed.For i d) e = no-way (sym e ∙ l (sessionAt t i) d)
 
-    found : (f : Found) → Leaves t (denyFound t f)
-    found Found.Nowhere e = (refl, refl)
-    found (Found.At i) e = state i (sessionAt t i .state) e
-
-drop-leaves : (t : Table) (id : List ℕ) → Leaves t (droppedOf t id)
-unfolding droppedOf
-drop-leaves t id = found (findSession t id)
-  where
-    found : (f : Found) → Leaves t (dropFound t f)
-    found Found.Nowhere e = (refl, refl)
-    found (Found.At i) e = no-way (sym e)
-
-done-leaves : (t : Table) (o : Owed) → Leaves t (settleDone t o)
+done-leaves : (t : Table) → Leaves t (settleDone t)
 unfolding settleDone
-done-leaves t Owed.Nothing e = (refl, refl)
-done-leaves t (Owed.OpenFile i j) e = no-way (sym e)
-done-leaves t (Owed.OpenDirectory i j) e = no-way (sym e)
-done-leaves t (Owed.Write i j n) e = no-way (sym e)
-done-leaves t (Owed.WriteLast i j n) e = no-way (sym e)
-done-leaves t (Owed.Commit i) e = no-way (sym e)
+done-leaves t = answered-leaves t doneBy done-told (t .owed)
 
-failed-leaves : (t : Table) (code : Failure) (o : Owed) → Leaves t (settleFailed t code o)
+failed-leaves : (t : Table) (code : Failure) → Leaves t (settleFailed t code)
 unfolding settleFailed
-failed-leaves t code Owed.Nothing e = (refl, refl)
-failed-leaves t code (Owed.OpenFile i j) e = no-way (sym e)
-failed-leaves t code (Owed.OpenDirectory i j) e = no-way (sym e)
-failed-leaves t code (Owed.Write i j n) e = no-way (sym e)
-failed-leaves t code (Owed.WriteLast i j n) e = no-way (sym e)
-failed-leaves t code (Owed.Commit i) e = no-way (sym e)
+failed-leaves t code = answered-leaves t (failedBy code) (failed-told code) (t .owed)
 
 -- ---- a call that is lent a reply buffer
 call-promise : (r : Receiver) (s : Stepped) (reply : List ℕ) → Leaves (r .table) s → SizedStep s → CallPromise r reply (guarded r s reply)
 unfolding guarded
-call-promise r s reply leaves z = go (ltb (length reply) 124) refl
+call-promise r s reply leaves z = go (ltb (length reply) replyRoom) refl
   where
-    go : (b : Bool) → ltb (length reply) 124 ≡ b
-        → CallPromise r reply (cond b (outcome (answeredBy (r .framing) (refused (r .table) 9) 0) reply) (replied (r .framing) s reply))
+    go : (b : Bool) → ltb (length reply) replyRoom ≡ b
+        → let short = outcome (answeredBy (r .framing) (telling (r .table) (Told.Refused 9)) 0) reply in
+        CallPromise r reply (cond b short (replied (r .framing) s reply))
     go true e = record { refused = λ _. (refl, refl, refl); short = omega arith }
     go false e =
         record {
@@ -153,11 +149,13 @@ pub every-call : EveryCall ours
 unfolding allowOf denyOf dropOf doneOf failedOf
 every-call r h piece carry scratch reply id code =
     let t = r .table in
+    let leaves : (d : Decision) → Leaves t (decidedOf t d id) = λ d. decided-leaves t d id in
+    let sized : (d : Decision) → SizedStep (decidedOf t d id) = λ d. decided-sized t h d id in
     record {
       feeds = feed-promise r h piece carry scratch reply;
-      allows = call-promise r (allowedOf t id) reply (allow-leaves t id) (allow-sized t h id);
-      denies = call-promise r (deniedOf t id) reply (deny-leaves t id) (deny-sized t h id);
-      dones = call-promise r (settleDone t (t .owed)) reply (done-leaves t (t .owed)) (done-sized t h (t .owed));
-      fails = call-promise r (settleFailed t code (t .owed)) reply (failed-leaves t code (t .owed)) (failed-sized t h code (t .owed));
-      drops = λ e. rw (drop-leaves t id e .0);
+      allows = call-promise r (decidedOf t Decision.Allow id) reply (leaves Decision.Allow) (sized Decision.Allow);
+      denies = call-promise r (decidedOf t Decision.Deny id) reply (leaves Decision.Deny) (sized Decision.Deny);
+      dones = call-promise r (settleDone t) reply (done-leaves t) (done-sized t h);
+      fails = call-promise r (settleFailed t code) reply (failed-leaves t code) (failed-sized t h code);
+      drops = λ e. rw (leaves Decision.Drop e .0);
     }

@@ -2,38 +2,33 @@
 -- done by a store that puts no done one.
 use Prim.Native.Nat.{ℕ, _<_}
 use mathlib.Core.Path.{_≡_, refl, sym, _∙_}
-use mathlib.Core.Bool.{Bool, true, false, cond}
+use mathlib.Core.Bool.{Bool, true, cond}
 use mathlib.Core.Logic.{_⊎_, inl, inr}
 use mathlib.Core.List.{List, _∷_}
 use native.Mathlib.Omega.{arith}
-use lib.ListN.{length, getD, set, length-set}
+use lib.ListN.{length, set}
 use native.Mathlib.Decide.{ℕ-discrete}
 use lib.Seq.{getD-set-same, getD-set-other}
-use Rattle.command.specs.Meaning as Meaning
-use Rattle.protocol.specs.Table.{absentSession, noFile, noSession, sessionAt, fileAt, idOf, fileIdOf, putFile}
+use Rattle.protocol.specs.Table.{fileRoom, absentSession, noFile, noSession, sessionAt, fileAt, idOf, fileIdOf, putFile}
 use Rattle.protocol.specs.Calls.{isOwed}
-use Rattle.protocol.specs.History.{Command, Heard, Mark, Question, lastAsk}
+use Rattle.protocol.specs.History.{Mark, Question, lastAsk}
 use Rattle.protocol.specs.Stretches.{Key, AllStand}
 use Rattle.protocol.specs.Machine.{isRefused}
 use Rattle.protocol.specs.Claim.{Closes}
-use Rattle.protocol.specs.Promises.{IsId}
 use Rattle.protocol.specs.declared.FileState.{FileState}
 use Rattle.protocol.specs.declared.FileState.the-variants as FileState
 use Rattle.protocol.specs.declared.FileRecord.{FileRecord}
 use Rattle.protocol.specs.declared.SessionState.the-variants as SessionState
 use Rattle.protocol.specs.declared.Session.{Session}
+use Rattle.protocol.specs.declared.Due.{Due}
 use Rattle.protocol.specs.declared.Owed.{Owed}
 use Rattle.protocol.specs.declared.Owed.the-variants as Owed
 use Rattle.protocol.specs.declared.Table.{Table}
 use Rattle.protocol.specs.declared.Stepped.{Stepped}
 use Rattle.protocol.proofs.Done.{stateAt, WasDone, NoneDone, none-le}
-use Rattle.protocol.proofs.Laws.{no-way, set-each, set-any, set-unique, replicate-each}
-use Rattle.protocol.proofs.Invariant.{keyOf, isPast, fileKey, FileOK, NoneStands, Holds, fileUsed, OpenOK}
-use Rattle.protocol.proofs.Invariant.{sessionUsed, SessionOK, owing, About, Asking, TableOK}
-
--- the table with other sessions, and with something owed
-abbrev pub table : List Session → Owed → Table
-table ss o = record { sessions = ss; owed = o }
+use Rattle.protocol.proofs.Laws.{isPast, set-each, set-any, replicate-each}
+use Rattle.protocol.proofs.Backs.{table}
+use Rattle.protocol.proofs.Invariant.{keyOf, fileKey, FileOK, NoneStands, Holds, OpenOK, SessionOK, Asking, AskedLast, TableOK}
 
 -- the marks after a console call's step, which is refused or adds the mark x
 abbrev pub notedMarks : List Mark → Mark → Stepped → List Mark
@@ -47,55 +42,36 @@ pub free-done : {A : Type 0} → FileState.Free ≡ FileState.Done → A
 free-done e = let z : _≡_ {A = ℕ} 0 1 = cc in absurd (omega arith)
 
 -- ---- a session
-pub put-session : (t : Table) {m m′ : List Mark} (i : ℕ) (s : Session) (o : Owed) → TableOK t m → i < length (t .sessions)
-    → (sessionUsed s ≡ true → (j : ℕ) → (j ≡ i → ⊥) → sessionUsed (sessionAt t j) ≡ true → idOf (sessionAt t j) ≡ idOf s → ⊥)
-    → ((j : ℕ) → (j ≡ i → ⊥) → SessionOK (isOwed o) m′ (sessionAt t j))
-    → SessionOK (isOwed o) m′ s
-    → (isOwed o ≡ true → Asking (set (t .sessions) i s) (lastAsk m′) o)
-    → AllStand m′
-    → TableOK (table (set (t .sessions) i s) o) m′
-put-session t {m} {m′} i s o ok h new there here owed told =
+pub put-ok : (t : Table) {m : List Mark} (i : ℕ) (s : Session) (o : Owed) → i < length (t .sessions)
+    → ((j : ℕ) → (j ≡ i → ⊥) → SessionOK (isOwed o) m (sessionAt t j))
+    → SessionOK (isOwed o) m s
+    → AskedLast (set (t .sessions) i s) (lastAsk m) o
+    → AllStand m
+    → TableOK (table (set (t .sessions) i s) o) m
+put-ok t {m} i s o h there here owed told =
     record {
-      alone = set-unique sessionUsed idOf noSession (t .sessions) i s h (ok .alone) new;
-      each = set-each (λ (x : Session). SessionOK (isOwed o) m′ x) noSession (t .sessions) i s h here there;
+      each = set-each (λ (x : Session). SessionOK (isOwed o) m x) noSession (t .sessions) i s h here there;
       owed = owed;
       told = told;
     }
 
--- a session without files, that is not open
-pub shut-session : {b : Bool} {m : List Mark} (s : Session) → (s .state ≡ SessionState.Open → ⊥) → (sessionUsed s ≡ true → IsId (idOf s))
-    → ((j : ℕ) → fileAt s j .state ≡ FileState.Free) → SessionOK b m s
-shut-session s n id e = record { named = id; shut = λ _. e; opened = λ o. absurd (n o) }
+pub absent-ok : {b : Bool} {m : List Mark} → SessionOK b m absentSession
+absent-ok e = absurd (absent-open e)
 
 pub free-files : (j : ℕ) → fileAt absentSession j .state ≡ FileState.Free
-free-files j = replicate-each (λ (f : FileRecord). f .state ≡ FileState.Free) refl refl 32 j
-
-pub absent-ok : {b : Bool} {m : List Mark} → SessionOK b m absentSession
-absent-ok = shut-session absentSession absent-open (λ e. no-way (sym e)) free-files
-
--- a session dropped
-pub drop-session : (t : Table) {m m′ : List Mark} (i : ℕ) (o : Owed) → TableOK t m → i < length (t .sessions)
-    → ((j : ℕ) → (j ≡ i → ⊥) → SessionOK (isOwed o) m′ (sessionAt t j))
-    → (isOwed o ≡ true → Asking (set (t .sessions) i absentSession) (lastAsk m′) o)
-    → AllStand m′
-    → TableOK (table (set (t .sessions) i absentSession) o) m′
-drop-session t i o ok h there owed told = put-session t i absentSession o ok h (λ e. no-way (sym e)) there absent-ok owed told
+free-files j = replicate-each (λ (f : FileRecord). f .state ≡ FileState.Free) refl refl fileRoom j
 
 -- ---- a file
 pub put-file : {b b′ : Bool} {m m′ : List Mark} (s : Session) (j : ℕ) (f : FileRecord) → OpenOK b m s → j < length (s .files)
-    → ((n : ℕ) → (n ≡ j → ⊥) → fileUsed (fileAt s n) ≡ true → fileIdOf (fileAt s n) ≡ fileIdOf f → ⊥)
-    → IsId (fileIdOf f)
     → Holds b′ (idOf s) m′
     → ((n : ℕ) → (n ≡ j → ⊥) → fileAt s n .state ≡ FileState.Started → FileOK b′ m′ (keyOf s (fileAt s n)) (fileAt s n .count))
     → (f .state ≡ FileState.Started → FileOK b′ m′ (keyOf s f) (f .count))
     → (isPast (fileAt s j .state) ≡ true → (isPast (f .state) ≡ true) × (fileIdOf f ≡ fileIdOf (fileAt s j)))
     → ((g : List ℕ) → (isPast (f .state) ≡ true → fileIdOf f ≡ g → ⊥) → NoneStands m (fileKey s g) → NoneStands m′ (fileKey s g))
     → OpenOK b′ m′ (putFile s j f)
-put-file {b} {b′} {m} {m′} s j f ok h new id hold there here past goes =
+put-file {b} {b′} {m} {m′} s j f ok h hold there here past goes =
     record {
       stand = hold;
-      alone = set-unique fileUsed fileIdOf noFile (s .files) j f h (ok .alone) (λ _. new);
-      named = set-each (λ (x : FileRecord). fileUsed x ≡ true → IsId (fileIdOf x)) noFile (s .files) j f h (λ _. id) (λ n _. ok .named n);
       each = set-each Each noFile (s .files) j f h here there;
       unstarted = λ g p. goes g (rw same at (p j)) (ok .unstarted g (λ n. still g p n (ℕ-discrete n j)));
     }
@@ -112,43 +88,15 @@ put-file {b} {b′} {m} {m′} s j f ok h new id hold there here past goes =
     still g p n (no e) q r = (rw (getD-set-other (s .files) j n f noFile e) at (p n)) q r
 
 -- ---- what is owed
-pub not-owed : (o : Owed) → isOwed o ≡ false → o ≡ Owed.Nothing
-not-owed Owed.Nothing e = refl
-not-owed (Owed.OpenFile i j) e = no-way e
-not-owed (Owed.OpenDirectory i j) e = no-way e
-not-owed (Owed.Write i j n) e = no-way e
-not-owed (Owed.WriteLast i j n) e = no-way e
-not-owed (Owed.Commit i) e = no-way e
+-- for a session that stays as it is
+pub asked-other : (ss : List Session) (i k : ℕ) (s : Session) (q : Question) (d : Due) → (k ≡ i → ⊥)
+    → AskedLast ss q (Owed.For k d) → AskedLast (set ss i s) q (Owed.For k d)
+asked-other ss i k s q d n a = rw (getD-set-other ss i k s noSession n) a
 
--- by a session that stays as it is
-pub asking-other : (ss : List Session) (i : ℕ) (s : Session) (q : Question) (o : Owed) → (owing o ≡ i → ⊥)
-    → Asking ss q o → Asking (set ss i s) q o
-asking-other ss i s q o n a =
-    let x : getD (set ss i s) (owing o) noSession ≡ getD ss (owing o) noSession = getD-set-other ss i (owing o) s noSession n in
-    record {
-      command = a .command;
-      heard = a .heard;
-      asked = a .asked;
-      inside = rw length-set (a .inside);
-      state = rw x (a .state);
-      id = rw x (a .id);
-      about = rw x (a .about);
-    }
-
--- by the session that is put
-pub asking-here : (ss : List Session) (i : ℕ) (s : Session) (d : Command) (a : Heard) (o : Owed) → owing o ≡ i → i < length ss
-    → s .state ≡ SessionState.Open → idOf s ≡ Meaning.idOf d → About s d a o → Asking (set ss i s) (Question.asks d a) o
-asking-here ss i s d a o e h open-state id about =
-    let x : getD (set ss i s) (owing o) noSession ≡ s = rw e (getD-set-same ss i s noSession h) in
-    record {
-      command = d;
-      heard = a;
-      asked = refl;
-      inside = rw (length-set, e) h;
-      state = rw x open-state;
-      id = rw x id;
-      about = rw x about;
-    }
+-- for the session that is put
+pub asked-here : (ss : List Session) (i : ℕ) (s : Session) (q : Question) (d : Due) → i < length ss → Asking s q d
+    → AskedLast (set ss i s) q (Owed.For i d)
+asked-here ss i s q d h a = rw (getD-set-same ss i s noSession h) a
 
 -- ---- no record turns done: one that is done was so before
 pub none-same : (t : Table) (o : Owed) → NoneDone t (table (t .sessions) o)
@@ -183,7 +131,8 @@ only-there t i j f o i′ j′ =
 
     At : ℕ → FileRecord → Type 0
     At n x =
-        ((fileAt s n .state ≡ FileState.Done) × (keyOf s (fileAt s n) ≡ keyOf s x) × (fileAt s n .count ≡ x .count)) ⊎ ((n ≡ j) × (f .state ≡ FileState.Done))
+        ((fileAt s n .state ≡ FileState.Done) × (keyOf s (fileAt s n) ≡ keyOf s x) × (fileAt s n .count ≡ x .count))
+        ⊎ ((n ≡ j) × (f .state ≡ FileState.Done))
 
     inside : (n : ℕ) → fileAt (putFile s j f) n .state ≡ FileState.Done → At n (fileAt (putFile s j f) n)
     inside =

@@ -1,5 +1,5 @@
--- What holds of every text that is read: a refusal is one of 1 to 8, and of a command the ids are safe strings of at most 32 bytes, that of
--- the session not empty.
+-- What holds of every text that is read: a refusal is one of 1 to 8, and of a command the ids are safe strings of at most 32
+-- bytes, that of the session not empty.
 use Prim.Native.Nat.{ℕ, zero, suc, _+_, _≤_}
 use mathlib.Core.Path.{_≡_, refl}
 use mathlib.Core.Bool.{Bool, true, false, cond, _&&_, _||_}
@@ -8,23 +8,19 @@ use native.Mathlib.Omega.{arith}
 use lib.ListN.{length, getD, drop}
 use lib.Dec.{ltb, eqb, lit≤}
 use borrow.Author.Tests.{ltb-false, eqb-false}
+use Rattle.frames.specs.Stream.{textLimit}
 use Rattle.octets.specs.Members.{every}
 use Rattle.octets.specs.Ascii.{ascii}
-use Rattle.octets.specs.Slices.{equals, startsWith}
+use Rattle.octets.specs.Slices.{startsWith}
 use Rattle.octets.specs.Split.{split}
-use Rattle.base64.specs.Decode.{verdictOf, bytesOf}
-use Rattle.base64.specs.declared.Verdict.{Verdict}
-use Rattle.base64.specs.declared.Verdict.the-variants as Verdict
-use Rattle.decimal.specs.Read.{parseOf}
-use Rattle.decimal.specs.declared.Parsed.{Parsed}
-use Rattle.decimal.specs.declared.Parsed.the-variants as Parsed
-use Rattle.command.specs.Keys.{Alias, Kind, Key, keys, kindAt, numberOf, placeIn}
+use Rattle.command.specs.Keys.{Kind, Key, keys, kindAt, numberOf}
 use Rattle.command.specs.Letters.{safeByte, textByte}
-use Rattle.command.specs.Values.{Value, count, Got, aliasRead, wordRead, over, safeRead, integerRead, base64Read, valueRead}
+use Rattle.command.specs.Values.{Value, Got, valueRead}
 use Rattle.command.specs.Fields.{Turn, andThen, Step, isKey, equalsSign, keyOf, valueOf, fieldRead, fieldsRead, textRead}
 use Rattle.command.specs.Meaning.{Field, stored, once, meant, blank, valuesIn, bytesIn, actionCode, idOf, fileIdOf}
 use Rattle.command.specs.Meaning.{missing, Meaning, complete, finished, meaningOf}
-use Rattle.protocol.specs.Promises.{IsId}
+use Rattle.command.proofs.ReadValues.{Reads, as-word, as-string, as-integer, as-bytes, refused, reads}
+use Rattle.protocol.specs.Sound.{IsId}
 use Rattle.protocol.proofs.Laws.{set-any}
 
 -- ---- a reading of which P holds step by step
@@ -58,7 +54,7 @@ module _ {S : Type 0} (P : S → Type 0) (step : Step S) (keeps : (n at : ℕ) (
 
   text-turns : (t : List ℕ) (s : S) → P s → Turns P (textRead step t s)
   unfolding textRead
-  text-turns t s h = go (ltb 8192 (length t)) (every textByte t) (startsWith t (ascii "5113;"))
+  text-turns t s h = go (ltb textLimit (length t)) (every textByte t) (startsWith t (ascii "5113;"))
     where
       turn : Turn S
       turn = fieldsRead step 5 (split 59 (drop 5 t)) s
@@ -83,45 +79,12 @@ abbrev FitGot : Kind → Got → Type 0
 FitGot k (Got.got v) = Fit k (Field.seen v)
 FitGot k (Got.refused r) = r ≤ 8
 
-alias-fits : (first : ℕ) (ws : List (List ℕ)) (aliases more : List Alias) (v : List ℕ)
-    → FitGot (Kind.word first ws aliases) (aliasRead more v)
-unfolding aliasRead
-alias-fits first ws aliases [] v = omega arith
-alias-fits first ws aliases (a ∷ more) v = go (equals v (a .text)) (alias-fits first ws aliases more v)
-  where
-    go : (b : Bool) → FitGot (Kind.word first ws aliases) (aliasRead more v)
-        → FitGot (Kind.word first ws aliases) (cond b (Got.got (Value.number (count (a .code)))) (aliasRead more v))
-    go true h = tt
-    go false h = h
-
-value-fits : (k : Kind) (v : List ℕ) → FitGot k (valueRead k v)
-unfolding valueRead wordRead safeRead
-value-fits (Kind.word first ws aliases) v = go (ltb (placeIn ws v) (length ws))
-  where
-    word : Got
-    word = Got.got (Value.number (count (first + placeIn ws v)))
-
-    go : (b : Bool) → FitGot (Kind.word first ws aliases) (cond b word (aliasRead aliases v))
-    go true = tt
-    go false = alias-fits first ws aliases aliases v
-value-fits (Kind.safe short) v = go (every safeByte v) refl (over short v) refl
-  where
-    go : (a : Bool) → every safeByte v ≡ a → (b : Bool) → over short v ≡ b
-        → FitGot (Kind.safe short) (cond a (cond b (Got.refused 8) (Got.got (Value.bytes v))) (Got.refused 6))
-    go true p true q = omega arith
-    go true p false q = (p, λ e. ltb-false _ _ (rw e at q))
-    go false p b q = omega arith
-value-fits Kind.integer v = go (parseOf v)
-  where
-    go : (p : Parsed) → FitGot Kind.integer (integerRead p)
-    go (Parsed.Integer n) = tt
-    go Parsed.Malformed = omega arith
-    go Parsed.OutOfRange = omega arith
-value-fits Kind.base64 v = go (verdictOf v)
-  where
-    go : (x : Verdict) → FitGot Kind.base64 (base64Read x (bytesOf v))
-    go (Verdict.Valid padding) = tt
-    go (Verdict.Invalid fault) = omega arith
+value-fits : {k : Kind} {v : List ℕ} {g : Got} → Reads k v g → FitGot k g
+value-fits (as-word h) = tt
+value-fits (as-string s o) = (s, λ e. ltb-false _ _ (rw e at o))
+value-fits as-integer = tt
+value-fits (as-bytes e) = tt
+value-fits (refused r l) = l
 
 -- ---- the fields
 abbrev AllFit : List Field → Type 0
@@ -146,11 +109,12 @@ meant-turns n at v s h = go (getD s n Field.unseen)
     new (Got.refused r) l = off r l
 
     go : (f : Field) → Turns AllFit (once f (stored n s (valueRead (kindAt keys n) v)) s)
-    go Field.unseen = new (valueRead (kindAt keys n) v) (value-fits (kindAt keys n) v)
+    go Field.unseen = new (valueRead (kindAt keys n) v) (value-fits (reads (kindAt keys n) v))
     go (Field.seen x) = off 5 (lit≤ tt)
 
 -- ---- the command
-value-safe : (ks : List Key) (s : List Field) (n : ℕ) → ((i : ℕ) → Fit (kindAt ks i) (getD s i Field.unseen)) → kindAt ks n ≡ Kind.safe true
+value-safe : (ks : List Key) (s : List Field) (n : ℕ) → ((i : ℕ) → Fit (kindAt ks i) (getD s i Field.unseen))
+    → kindAt ks n ≡ Kind.safe true
     → let v = bytesIn (getD (valuesIn ks s) n Value.outside) in
     (every safeByte v ≡ true) × (length v ≤ 32)
 unfolding every

@@ -15,19 +15,24 @@ use Rattle.octets.proofs.Below.{both-test}
 use Rattle.octets.specs.Ascii.{ascii}
 use Rattle.octets.specs.Outcome.{Outcome}
 use Rattle.decimal.specs.declared.Number.{Number}
+use Rattle.frames.specs.Stream.{textLimit}
 use Rattle.command.specs.Meaning.{Meaning, meaningOf, sizeOf}
+use Rattle.command.specs.Read.{scratchRoom}
 use Rattle.protocol.specs.Table.{noFile, noSession, sessionAt}
-use Rattle.protocol.specs.Replies.{framed}
+use Rattle.protocol.specs.Replies.{replyRoom}
 use Rattle.protocol.specs.History.{Command, Heard, Mark, marksOf, Question, lastAsk}
 use Rattle.protocol.specs.Stretches.{Key, isFor, isFile, isDirectory, Stretch, since, parts, contents, startStands, AllStand}
 use Rattle.protocol.specs.Machine.{Machine, Call, World, isRefused, Lent, step, start}
-use Rattle.protocol.specs.Claim.{isDone, doneAs, keyIn, LastPartAsked, DirectoryAsked, ClosingReply, ClosedWhole, TurnedDone, Right, Everywhere, EveryHistory}
+use Rattle.protocol.specs.Claim.{isDone, doneAs, keyIn, LastPartAsked, DirectoryAsked, ClosingReply, ClosedWhole, TurnedDone}
+use Rattle.protocol.specs.Claim.{Right, Everywhere, EveryHistory}
+use Rattle.protocol.specs.Sound.{Sound, AllSound, EverySound}
 use Rattle.protocol.specs.Cuts.{AllLent}
 use Rattle.protocol.specs.declared.FileState.{FileState}
 use Rattle.protocol.specs.declared.FileState.the-variants as FileState
 use Rattle.protocol.specs.declared.FileRecord.{FileRecord}
 use Rattle.protocol.specs.declared.Session.{Session}
 use Rattle.protocol.specs.declared.Table.{Table}
+use Rattle.protocol.specs.declared.Failure.the-variants as Failure
 use Rattle.protocol.specs.declared.Answered.{Answered}
 use Rattle.protocol.proofs.Laws.{no-way, equals-same}
 use Rattle.protocol.proofs.Done.{NoneDone}
@@ -35,28 +40,34 @@ use Rattle.protocol.proofs.Puts.{none-closes}
 
 -- ---- a list of calls: every feed is lent the world's carry, and the other buffers are all alike
 unfoldable pub carry₀ : List ℕ
-carry₀ = replicate 8192 0
+carry₀ = replicate textLimit 0
 
 unfoldable pub scratch₀ : List ℕ
-scratch₀ = replicate 6144 0
+scratch₀ = replicate scratchRoom 0
 
 unfoldable pub reply₀ : List ℕ
-reply₀ = replicate 124 0
+reply₀ = replicate replyRoom 0
 
 pub data Deed : Type 0 where
   feed : List ℕ → Deed
   allow : List ℕ → Deed
   done : Deed
+  dropped : List ℕ → Deed
+  failed : Deed
 
 abbrev pub callOf : World → Deed → Call
 callOf w (Deed.feed piece) = Call.feed piece (w .carry) scratch₀ reply₀
 callOf w (Deed.allow id) = Call.allow id reply₀
 callOf w Deed.done = Call.done reply₀
+callOf w (Deed.dropped id) = Call.drop id
+callOf w Deed.failed = Call.failed Failure.Eio reply₀
 
 lent : (m : Machine) (w : World) (c : Deed) → Lent m w (callOf w c)
 lent m w (Deed.feed piece) = λ _. refl
 lent m w (Deed.allow id) = tt
 lent m w Deed.done = tt
+lent m w (Deed.dropped id) = tt
+lent m w Deed.failed = tt
 
 module _ (m : Machine) where
   abbrev pub calls : World → List Deed → List Call
@@ -72,7 +83,8 @@ module _ (m : Machine) where
   afterwards w [] = w
   afterwards w (c ∷ cs) = afterwards (step m w (callOf w c)) cs
 
-  right-after : (w : World) (cs : List Deed) (d : Deed) → Everywhere m w (calls w (cs ++ (d ∷ []))) → Right m (afterwards w cs) (callOf (afterwards w cs) d)
+  right-after : (w : World) (cs : List Deed) (d : Deed) → Everywhere m w (calls w (cs ++ (d ∷ [])))
+      → Right m (afterwards w cs) (callOf (afterwards w cs) d)
   right-after w [] d e = e (lent m w d) .0
   right-after w (c ∷ cs) d e = right-after (step m w (callOf w c)) cs d (e (lent m w c) .1)
 
@@ -81,6 +93,14 @@ module _ (m : Machine) where
 
   right-at : (cs : List Deed) (d : Deed) → EveryHistory m → Right m (afterAll cs) (callOf (afterAll cs) d)
   right-at cs d claim = right-after (start carry₀) cs d (claim carry₀ (calls (start carry₀) (cs ++ (d ∷ []))))
+
+  -- and that the table is sound
+  last-sound : (w : World) (cs : List Deed) → AllSound m w (calls w cs) → Sound (afterwards w cs .receiver .table)
+  last-sound w [] all = all
+  last-sound w (c ∷ cs) all = last-sound (step m w (callOf w c)) cs (all .1)
+
+  pub sound-after : (cs : List Deed) → EverySound m → Sound (afterAll cs .receiver .table)
+  sound-after cs claim = last-sound (start carry₀) cs (claim carry₀ (calls (start carry₀) cs))
 
 -- ---- a part is handed over where none may be, at the feed of a piece
 abbrev pub HandsBadly : Machine → List Deed → List ℕ → Type 0
@@ -201,7 +221,8 @@ module _ (m : Machine) (cs : List Deed) where
   turns-right : (n : ℕ) → DirectoryAsked key (marksOf (w .history)) ⊎ ClosedWhole m w reply₀ key n 0 → turnsRight n ≡ true
   turns-right n (inl d) = rw (directory-done key (marksOf (w .history)) d)
   turns-right n (inr c) =
-      rw (last-asked key _ (c .lastPart), c .started, equals-same _ _ (c .joined), eq-eqb _ _ (c .counted), eq-eqb _ _ (size-sent key n _ (c .replied)))
+      let sent = eq-eqb _ _ (size-sent key n _ (c .replied)) in
+      rw (last-asked key _ (c .lastPart), c .started, equals-same _ _ (c .joined), eq-eqb _ _ (c .counted), sent)
       (either-right (isDirectoryDone key (marksOf (w .history))))
 
   pub closes-badly : ClosesBadly → EveryHistory m → ⊥
@@ -219,4 +240,6 @@ module _ (m : Machine) (cs : List Deed) where
   pub stays-open : {d : Command} {p : List ℕ} → StaysOpen d p → EveryHistory m → ⊥
   stays-open {d} {p} b claim =
       let c = right-at m cs Deed.done claim .closed d p reply₀ (b .asked) refl (b .taken) in
-      none-closes (w .receiver .table) (w′ .receiver .table) (keyIn d) (c .count) (c .quiet) (none-done (w .receiver .table) (w′ .receiver .table) (b .after)) (c .closes)
+      let t = w .receiver .table in
+      let t′ = w′ .receiver .table in
+      none-closes t t′ (keyIn d) (c .count) (c .quiet) (none-done t t′ (b .after)) (c .closes)

@@ -43,7 +43,7 @@ pub record Sent (r : Reply) (n : ℕ) (buffer : List ℕ) : Type 0 where
   pub short : n ≤ replyRoom
   pub bytes : take n buffer ≡ replyBytes r
 
-pub reply-sent : (r : Reply) (buffer : List ℕ) → SizedReply r → 124 ≤ length buffer
+pub reply-sent : (r : Reply) (buffer : List ℕ) → SizedReply r → replyRoom ≤ length buffer
     → Sent r (repliedOf r buffer .answer) (repliedOf r buffer .buffer)
 unfolding repliedOf
 reply-sent r buffer h l =

@@ -6,10 +6,12 @@ use mathlib.Core.List.{List}
 use lib.ListN.{length}
 use lib.Dec.{ltb}
 use borrow.Author.Tests.{ltb-false}
+use Rattle.protocol.specs.Replies.{replyRoom}
+use Rattle.frames.specs.Stream.{textLimit}
 use Rattle.octets.specs.Outcome.{Outcome}
 use Rattle.frames.specs.declared.Report.{Report}
 use Rattle.frames.specs.declared.Report.the-variants as Report
-use Rattle.command.specs.Read.{Answer, readOf}
+use Rattle.command.specs.Read.{scratchRoom, Answer, readOf}
 use Rattle.protocol.specs.Calls.{readAct, reportAct, isShort}
 use Rattle.protocol.specs.Promises.{Sized}
 use Rattle.protocol.specs.declared.Table.{Table}
@@ -20,7 +22,7 @@ read-sized : (t : Table) → Sized t → (text : List ℕ) (o : Outcome Answer) 
 read-sized t h text o = go (o .answer)
   where
     go : (a : Answer) → SizedStep (readAct t text (record { answer = a; buffer = o .buffer }) .step)
-    go (Answer.read c) = let s = obey-sized t h c text (o .buffer) in record { table = s .table; reply = s .reply }
+    go (Answer.read c) = obey-sized t h c text (o .buffer) .sized
     go (Answer.refused n) = record { table = h; reply = none-sized }
 
 pub report-sized : (t : Table) → Sized t → (k : Report) (text scratch : List ℕ) → SizedStep (reportAct t k text scratch .step)
@@ -33,15 +35,16 @@ report-sized t h Report.ShortCarry text scratch = record { table = h; reply = no
 
 -- the buffers of a feed that is not refused with 9
 pub record Roomy (c s b : List ℕ) : Type 0 where
-  pub carry : 8192 ≤ length c
-  pub scratch : 6144 ≤ length s
-  pub reply : 124 ≤ length b
+  pub carry : textLimit ≤ length c
+  pub scratch : scratchRoom ≤ length s
+  pub reply : replyRoom ≤ length b
 
 pub roomy : (carry scratch reply : List ℕ) → isShort carry scratch reply ≡ false → Roomy carry scratch reply
-roomy carry scratch reply e = go (ltb (length carry) 8192) refl (ltb (length scratch) 6144) refl (ltb (length reply) 124) refl e
+roomy carry scratch reply e =
+    go (ltb (length carry) textLimit) refl (ltb (length scratch) scratchRoom) refl (ltb (length reply) replyRoom) refl e
   where
-    go : (x : Bool) → ltb (length carry) 8192 ≡ x → (y : Bool) → ltb (length scratch) 6144 ≡ y → (z : Bool) → ltb (length reply) 124 ≡ z
-        → (x || (y || z)) ≡ false → Roomy carry scratch reply
+    go : (x : Bool) → ltb (length carry) textLimit ≡ x → (y : Bool) → ltb (length scratch) scratchRoom ≡ y
+        → (z : Bool) → ltb (length reply) replyRoom ≡ z → (x || (y || z)) ≡ false → Roomy carry scratch reply
     go true p y q z s e = no-way e
     go false p true q z s e = no-way e
     go false p false q true s e = no-way e

@@ -27,8 +27,8 @@ use Rattle.protocol.specs.Table.{first}
 use Rattle.protocol.specs.Actions.{resultIn, kindOf}
 use Rattle.protocol.specs.Replies.{statusText, replyBytes, repliedOf}
 use Rattle.protocol.specs.Files.{fileChecked, fileOf, partAsked, dataOf, finishOf}
-use Rattle.protocol.specs.Sessions.{obeyOf}
-use Rattle.protocol.specs.Answers.{settleDone, allowedOf}
+use Rattle.protocol.specs.Rule.{obeyedBy, doneBy, decidedBy}
+use Rattle.protocol.specs.Sessions.{obeyOf, settleDone, decidedOf}
 use Rattle.protocol.specs.Calls.{scannedFeed, feedOf, guarded, allowOf, doneOf}
 use Rattle.protocol.specs.History.{marksOf}
 use Rattle.protocol.specs.Starred.{AllHold, starred}
@@ -63,13 +63,17 @@ unfolding actionOf fileTypeOf transmissionOf commandOf kept readOf
 reading = tt
 
 rule : Unit {0}
-unfolding first resultIn kindOf statusText replyBytes repliedOf fileChecked fileOf partAsked dataOf finishOf obeyOf settleDone allowedOf
+unfolding first resultIn kindOf statusText replyBytes repliedOf fileChecked fileOf partAsked dataOf finishOf obeyedBy doneBy decidedBy
 rule = tt
 
+sessions : Unit {0}
+unfolding rule obeyOf settleDone decidedOf
+sessions = tt
+
 unfoldable pub computing : Unit {0}
-unfolding octets base64 decimal pathname frames meaning reading rule scannedFeed feedOf guarded allowOf doneOf marksOf
+unfolding octets base64 decimal pathname frames meaning reading sessions scannedFeed feedOf guarded allowOf doneOf marksOf
 computing = tt
 
 pub starred-hold : AllHold starred
-unfolding octets base64 Decode.decodeOf meaning reading rule
+unfolding octets base64 Decode.decodeOf meaning reading sessions
 starred-hold = (refl, (refl, (refl, (refl, (refl, (refl, (refl, (refl, (refl, ((refl, refl), ((refl, refl), (refl, (refl, tt)))))))))))))

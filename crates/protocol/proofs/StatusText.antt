@@ -26,7 +26,7 @@ use Rattle.command.proofs.WrittenValues.{absent-shown}
 use Rattle.command.proofs.Accepted.{Accepted, accepted-writes}
 use Rattle.command.proofs.RoundTrip.{read-written}
 use Rattle.protocol.specs.Files.{countLimit}
-use Rattle.protocol.specs.Replies.{statusWord, unlessEmpty, sizeText, statusFields, statusText, statusValues, framed}
+use Rattle.protocol.specs.Replies.{replyRoom, statusWord, unlessEmpty, sizeText, statusFields, statusText, statusValues, framed}
 use Rattle.protocol.specs.Promises.{EveryStatus}
 use Rattle.protocol.specs.declared.Status.{Status}
 use Rattle.protocol.specs.declared.Status.the-variants as Status
@@ -133,7 +133,7 @@ size-length n h = go (eqb n 0) (Decimal.writable (count n))
 
 -- "No reply is longer than 124 bytes"
 pub status-length : (id file : List ℕ) (size : ℕ) (w : Status) → length id ≤ 32 → length file ≤ 32 → size ≤ countLimit
-    → length (framed (statusText id file size (statusWord w))) ≤ 124
+    → length (framed (statusText id file size (statusWord w))) ≤ replyRoom
 unfolding statusText added
 status-length id file size w short fileShort small =
     let st : List (List ℕ) = (ascii "st=" ++ Base64.textOf (statusWord w)) ∷ [] in

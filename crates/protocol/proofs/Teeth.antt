@@ -2,26 +2,38 @@
 use Prim.Native.Nat.{ℕ, _≤_}
 use mathlib.Core.Path.{_≡_, refl, sym, ap, _∙_}
 use mathlib.Core.Bool.{true, false}
+use mathlib.Core.Option.{Option, Option·none-ne-some}
 use mathlib.Core.List.{List, [], _∷_, _++_}
 use native.Mathlib.Omega.{arith}
 use lib.ListN.{length, take}
 use Rattle.octets.specs.Ascii.{ascii}
-use Rattle.protocol.specs.Table.{freshReceiver, emptyTable, withOwed}
+use Rattle.protocol.specs.Table.{freshReceiver, emptyTable, sessionAt, fileAt, isPresent}
+use Rattle.protocol.specs.Sessions.{settleFailed}
+use Rattle.protocol.specs.Rule.{failedBy}
+use Rattle.protocol.specs.Calls.{dropOf, failedOf}
 use Rattle.protocol.specs.History.{Command, Question, bytesOf, marksOf, lastAsk}
 use Rattle.protocol.specs.Machine.{Machine, ours, isUnfed, start}
+use Rattle.protocol.specs.Sound.{opensAt, dueOf, EverySound}
 use Rattle.protocol.specs.Promises.{EveryCall}
 use Rattle.protocol.specs.Cuts.{allGiven, after, consoleCalls, CutsAlike}
 use Rattle.protocol.specs.WrongMachines.{sendPiece, filePiece, directoryPiece, dataPiece, longerIdPiece, endPiece, cancelPiece}
 use Rattle.protocol.specs.WrongMachines.{oneTooSmall, lastOnly, otherSize, skipping, twice, shorterIds, dataOpens, reopening}
-use Rattle.protocol.specs.WrongMachines.{neverClosing, unasked, deaf, closerLost, hungry, talking, stalling, Teeth}
+use Rattle.protocol.specs.WrongMachines.{neverClosing, unasked, deaf, withOwed, keepingOwed, stuckOpening, closerLost, hungry}
+use Rattle.protocol.specs.WrongMachines.{talking, stalling, Teeth}
+use Rattle.protocol.specs.declared.FileState.the-variants as FileState
+use Rattle.protocol.specs.declared.SessionState.the-variants as SessionState
+use Rattle.protocol.specs.declared.Due.the-variants as Due
 use Rattle.protocol.specs.declared.Owed.the-variants as Owed
+use Rattle.protocol.specs.declared.Table.{Table}
 use Rattle.protocol.specs.declared.Receiver.{Receiver}
 use Rattle.protocol.specs.declared.Failure.the-variants as Failure
 use Rattle.protocol.specs.declared.Fed.{Fed}
 use Rattle.protocol.proofs.Laws.{no-way}
 use Rattle.protocol.proofs.Sizes.{empty-sized}
+use Rattle.protocol.proofs.SoundTable.{owed-session}
 use Rattle.protocol.proofs.Starred.{computing}
-use Rattle.protocol.proofs.Refuting.{carry₀, scratch₀, reply₀, Deed, feed, allow, done, calls, all-lent, afterAll}
+use Rattle.protocol.proofs.Refuting.{carry₀, scratch₀, reply₀, Deed, feed, allow, done, dropped, failed, calls, all-lent}
+use Rattle.protocol.proofs.Refuting.{afterAll, sound-after}
 use Rattle.protocol.proofs.Refuting.{HandsBadly, hands-badly, turnsRight, ClosesBadly, closes-badly, StaysOpen, stays-open}
 
 -- a session allowed, a file started in it, and abc written
@@ -59,12 +71,22 @@ unallowed = feed sendPiece ∷ feed filePiece ∷ done ∷ []
 abbrev canceled : List Deed
 canceled = started ++ (feed cancelPiece ∷ [])
 
+-- an open is owed, and its session is dropped, or it fails
+abbrev dropping : List Deed
+dropping = allowed ++ (feed filePiece ∷ dropped (ascii "m") ∷ [])
+
+abbrev failing : List Deed
+failing = allowed ++ (feed filePiece ∷ failed ∷ [])
+
+abbrev tableAfter : Machine → List Deed → Table
+tableAfter m cs = afterAll m cs .receiver .table
+
 -- a feed of one byte to a receiver, and a receiver that owes a commit
 abbrev fedWith : Machine → Receiver → Fed
 fedWith m r = m .feeds r (65 ∷ []) carry₀ scratch₀ reply₀ .fed
 
 abbrev owing : Receiver
-owing = record { framing = freshReceiver .framing; table = withOwed emptyTable (Owed.Commit 0) }
+owing = record { framing = freshReceiver .framing; table = withOwed emptyTable (Owed.For 0 Due.Commit) }
 
 -- ---- what each does
 record Computed : Type 0 where
@@ -79,6 +101,10 @@ record Computed : Type 0 where
   neverClosing-stays : StaysOpen neverClosing ended (lastCommand neverClosing ended) (ascii "A")
   unasked-hands : HandsBadly unasked unallowed dataPiece
   deaf-hands : HandsBadly deaf canceled dataPiece
+  keepingOwed-owes : tableAfter keepingOwed dropping .owed ≡ Owed.For 0 (Due.OpenFile 0)
+  keepingOwed-drops : sessionAt (tableAfter keepingOwed dropping) 0 .state ≡ SessionState.Absent
+  stuckOpening-owes : dueOf (tableAfter stuckOpening failing .owed) 0 ≡ Option.none
+  stuckOpening-opens : fileAt (sessionAt (tableAfter stuckOpening failing) 0) 0 .state ≡ FileState.Opening
   -- two ways to bring the same bytes, with no console call: one report, and none
   same-bytes : bytesOf (after closerLost (start carry₀) (calls closerLost (start carry₀) whole) .history)
       ≡ bytesOf (after closerLost (start carry₀) (calls closerLost (start carry₀) parted) .history)
@@ -98,7 +124,7 @@ record Computed : Type 0 where
   ours-parted : length (allGiven ours (start carry₀) (calls ours (start carry₀) parted)) ≡ 1
 
 computed : Computed
-unfolding carry₀ scratch₀ reply₀ computing
+unfolding carry₀ scratch₀ reply₀ computing dropOf failedBy settleFailed failedOf
 computed = record {
   oneTooSmall-closes = record { count = 3; before = refl; after = refl; wrong = refl };
   lastOnly-closes = record { count = 1; before = refl; after = refl; wrong = refl };
@@ -111,6 +137,10 @@ computed = record {
   neverClosing-stays = record { asked = refl; taken = refl; after = refl };
   unasked-hands = λ a. no-way (sym (a .0));
   deaf-hands = λ a. no-way (sym (a .0));
+  keepingOwed-owes = refl;
+  keepingOwed-drops = refl;
+  stuckOpening-owes = refl;
+  stuckOpening-opens = refl;
   same-bytes = refl;
   same-calls = refl;
   one-report = refl;
@@ -126,6 +156,17 @@ computed = record {
 }
 
 -- ---- the claims are false of each
+dropped-owes : EverySound keepingOwed → ⊥
+dropped-owes claim =
+    let sound = sound-after keepingOwed dropping claim in
+    let present = ap isPresent (owed-session sound (computed .keepingOwed-owes) .fits .0) in
+    no-way (sym present ∙ ap isPresent (computed .keepingOwed-drops))
+
+opening-for-good : EverySound stuckOpening → ⊥
+opening-for-good claim =
+    let s = sound-after stuckOpening failing claim .each 0 in
+    Option·none-ne-some 0 (sym (ap opensAt (computed .stuckOpening-owes)) ∙ s .opening 0 (computed .stuckOpening-opens))
+
 cut-closer-lost : CutsAlike closerLost → ⊥
 cut-closer-lost alike =
     let w = start carry₀ in
@@ -167,6 +208,8 @@ teeth =
       neverClosed = stays-open _ _ (computed .neverClosing-stays);
       neverAllowed = hands-badly unasked unallowed dataPiece (computed .unasked-hands);
       afterACancel = hands-badly deaf canceled dataPiece (computed .deaf-hands);
+      droppedOwes = dropped-owes;
+      openingForGood = opening-for-good;
       cutCloserLost = cut-closer-lost;
       refusedFeedConsumes = refused-consumes;
       refusedFeedReplies = refused-replies;

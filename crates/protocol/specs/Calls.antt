@@ -14,29 +14,24 @@ use Rattle.frames.specs.declared.Scanned.{Scanned}
 use Rattle.command.specs.Slots.{noCommand}
 use Rattle.command.specs.Read.{Answer, scratchRoom, readOf}
 use Rattle.command.specs.declared.Command.{Command}
-use Rattle.protocol.specs.Replies.{replyRoom, noReply, repliedOf}
-use Rattle.protocol.specs.Files.{stepped}
-use Rattle.protocol.specs.Sessions.{obeyOf}
-use Rattle.protocol.specs.Answers.{refused, settleDone, settleFailed, allowedOf, deniedOf, droppedOf}
+use Rattle.protocol.specs.Replies.{replyRoom, repliedOf}
+use Rattle.protocol.specs.Change.{telling}
+use Rattle.protocol.specs.Sessions.{obeyOf, settleDone, settleFailed, decidedOf}
 use Rattle.protocol.specs.declared.Owed.{Owed}
 use Rattle.protocol.specs.declared.Owed.the-variants as Owed
 use Rattle.protocol.specs.declared.Table.{Table}
 use Rattle.protocol.specs.declared.Receiver.{Receiver}
 use Rattle.protocol.specs.declared.Failure.{Failure}
+use Rattle.protocol.specs.declared.Decision.the-variants as Decision
 use Rattle.protocol.specs.declared.Told.{Told}
 use Rattle.protocol.specs.declared.Told.the-variants as Told
-use Rattle.protocol.specs.declared.Reply.{Reply}
 use Rattle.protocol.specs.declared.Stepped.{Stepped}
 use Rattle.protocol.specs.declared.Fed.{Fed}
 use Rattle.protocol.specs.declared.Answered.{Answered}
 
 abbrev pub isOwed : Owed → Bool
 isOwed Owed.Nothing = false
-isOwed (Owed.OpenFile i j) = true
-isOwed (Owed.OpenDirectory i j) = true
-isOwed (Owed.Write i j n) = true
-isOwed (Owed.WriteLast i j n) = true
-isOwed (Owed.Commit i) = true
+isOwed (Owed.For i d) = true
 
 -- ---- feed
 -- what a feed gives: its answer, and the carry, the scratch and the reply buffer afterwards
@@ -58,11 +53,7 @@ pub record Acted : Type 0 where
 abbrev pub acted : Stepped → Command → List ℕ → Acted
 acted s c scratch = record { step = s; command = c; scratch = scratch }
 
--- nothing but something told: the table as before, no reply
-abbrev pub telling : Table → Told → Stepped
-telling t w = stepped t w noReply
-
--- the same, where no command was read
+-- nothing but something told, where no command was read
 abbrev pub unread : Table → Told → List ℕ → Acted
 unread t w scratch = acted (telling t w) noCommand scratch
 
@@ -130,21 +121,21 @@ replied f s reply = let b = repliedOf (s .reply) reply in outcome (answeredBy f 
 unfoldable pub guarded : Receiver → Stepped → List ℕ → Outcome Answered
 guarded r s reply =
     cond (ltb (length reply) replyRoom)
-    (outcome (answeredBy (r .framing) (refused (r .table) 9) 0) reply)
+    (outcome (answeredBy (r .framing) (telling (r .table) (Told.Refused 9)) 0) reply)
     (replied (r .framing) s reply)
 
 unfoldable pub allowOf : Receiver → List ℕ → List ℕ → Outcome Answered
-allowOf r id reply = guarded r (allowedOf (r .table) id) reply
+allowOf r id reply = guarded r (decidedOf (r .table) Decision.Allow id) reply
 
 unfoldable pub denyOf : Receiver → List ℕ → List ℕ → Outcome Answered
-denyOf r id reply = guarded r (deniedOf (r .table) id) reply
+denyOf r id reply = guarded r (decidedOf (r .table) Decision.Deny id) reply
 
 -- drop is lent no buffer
 unfoldable pub dropOf : Receiver → List ℕ → Answered
-dropOf r id = answeredBy (r .framing) (droppedOf (r .table) id) 0
+dropOf r id = answeredBy (r .framing) (decidedOf (r .table) Decision.Drop id) 0
 
 unfoldable pub doneOf : Receiver → List ℕ → Outcome Answered
-doneOf r reply = guarded r (settleDone (r .table) (r .table .owed)) reply
+doneOf r reply = guarded r (settleDone (r .table)) reply
 
 unfoldable pub failedOf : Receiver → Failure → List ℕ → Outcome Answered
-failedOf r e reply = guarded r (settleFailed (r .table) e (r .table .owed)) reply
+failedOf r e reply = guarded r (settleFailed (r .table) e) reply

@@ -90,7 +90,8 @@ abbrev pub reportOf : List ℕ → Feeding → List Output
 reportOf piece f =
     let text = textOf piece (f .carry) (f .fed .report) in
     let command = valuesOf (f .fed .command) text (f .scratch) in
-    cond (isReport (f .fed .report)) (reporting text command (saying (f .fed .told) (f .scratch)) (take (f .fed .«reply_len») (f .reply)) ∷ []) []
+    let reply = take (f .fed .«reply_len») (f .reply) in
+    cond (isReport (f .fed .report)) (reporting text command (saying (f .fed .told) (f .scratch)) reply ∷ []) []
 
 -- of a console call that was lent that buffer: its answer; none of one refused with 9
 abbrev pub answerOf : Move → List ℕ → Outcome Answered → List Output

@@ -1,13 +1,15 @@
 pub mod Table
 pub mod Actions
 pub mod Replies
+pub mod Change
 pub mod Files
+pub mod Rule
 pub mod Sessions
-pub mod Answers
 pub mod Calls
 pub mod History
 pub mod Stretches
 pub mod Machine
+pub mod Sound
 pub mod Promises
 pub mod Claim
 pub mod Cuts

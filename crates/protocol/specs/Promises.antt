@@ -13,6 +13,7 @@ use Rattle.command.specs.Meaning.{Meaning, meaningOf}
 use Rattle.protocol.specs.Table.{idRoom, sessionAt, fileAt}
 use Rattle.protocol.specs.Replies.{replyRoom, statusWord, statusText, statusValues}
 use Rattle.protocol.specs.Files.{countLimit}
+use Rattle.protocol.specs.Sound.{IsId}
 use Rattle.protocol.specs.Calls.{Feeding}
 use Rattle.protocol.specs.Machine.{Machine, isUnfed, isRefused}
 use Rattle.protocol.specs.declared.Session.{Session}
@@ -61,12 +62,6 @@ EveryCall m = (r : Receiver) → Sized (r .table) → (piece carry scratch reply
     → Promises m r piece carry scratch reply id code
 
 -- ---- what a reply says
--- an id that was read: "safe string, at most 32 bytes", and not empty
-pub record IsId (k : List ℕ) : Type 0 where
-  pub safe : every safeByte k ≡ true
-  pub some : 1 ≤ length k
-  pub short : length k ≤ idRoom
-
 -- "canonical text with `ac=status`, the id, the fid if the reply concerns a file, `sz` as above, `st`", which reads back as these
 pub record StatusPromise (id file : List ℕ) (size : ℕ) (w : Status) : Type 0 where
   pub written : statusText id file size (statusWord w) ≡ canonical (statusValues id file size (statusWord w))

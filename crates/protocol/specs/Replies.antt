@@ -10,7 +10,9 @@ use Rattle.octets.specs.Outcome.{Outcome, storedAt}
 use Rattle.base64.specs.Encode as Base64
 use Rattle.decimal.specs.Write as Decimal
 use Rattle.command.specs.Values.{Value, count}
-use Rattle.protocol.specs.Table.{zeros, padded}
+use Rattle.protocol.specs.Table.{zeros}
+use Rattle.protocol.specs.declared.FileRecord.{FileRecord}
+use Rattle.protocol.specs.declared.Session.{Session}
 use Rattle.protocol.specs.declared.Status.{Status}
 use Rattle.protocol.specs.declared.Status.the-variants as Status
 use Rattle.protocol.specs.declared.Failure.{Failure}
@@ -72,14 +74,23 @@ abbrev pub noReply : Reply
 noReply =
     record { due = false; status = Status.Ok; quiet = 0; id = zeros; «id_len» = 0; «file_id» = zeros; «file_id_len» = 0; size = 0 }
 
--- one about a session, and one about a file of it, by their ids
-abbrev pub sessionReply : Status → ℕ → List ℕ → ℕ → Reply
-sessionReply s quiet id len =
-    record { due = true; status = s; quiet = quiet; id = id; «id_len» = len; «file_id» = zeros; «file_id_len» = 0; size = 0 }
+-- one about a session, and one about a file of it, by their records
+abbrev pub sessionReply : Status → Session → Reply
+sessionReply w s =
+    record { due = true; status = w; quiet = s .quiet; id = s .id; «id_len» = s .«id_len»; «file_id» = zeros; «file_id_len» = 0; size = 0 }
 
-abbrev pub fileReply : Status → ℕ → List ℕ → ℕ → List ℕ → ℕ → ℕ → Reply
-fileReply s quiet id len file fileLen size =
-    record { due = true; status = s; quiet = quiet; id = id; «id_len» = len; «file_id» = file; «file_id_len» = fileLen; size = size }
+abbrev pub fileReply : Status → Session → FileRecord → ℕ → Reply
+fileReply w s f size =
+    record {
+      due = true;
+      status = w;
+      quiet = s .quiet;
+      id = s .id;
+      «id_len» = s .«id_len»;
+      «file_id» = f .id;
+      «file_id_len» = f .«id_len»;
+      size = size;
+    }
 
 -- ---- its bytes: "opener, canonical text with `ac=status`, the id, the fid .., `sz` as above, `st`, then closer"
 -- a field that is left out where its value is empty

@@ -1,86 +1,99 @@
--- The session rule: what a command that was read does, while nothing is owed.
+-- The table of four sessions: which one a command or a call concerns, and its step put back.
 use Prim.Native.Nat.{ℕ}
 use mathlib.Core.List.{List}
 use lib.ListN.{length, replicate}
+use Rattle.octets.specs.Slices.{partOf}
+use Rattle.command.specs.Slots.{nowhere}
+use Rattle.command.specs.declared.Place.{Place}
 use Rattle.command.specs.declared.Command.{Command}
-use Rattle.protocol.specs.Table.{fileRoom, freeFile, padded, sessionAt, findSession, first, isAbsent, putSession, dropAt}
+use Rattle.protocol.specs.Table.{fileRoom, freeFile, padded, sessionAt, findSession, first, isAbsent, putSession}
 use Rattle.protocol.specs.Actions.{kindOf}
-use Rattle.protocol.specs.Replies.{noReply, sessionReply}
-use Rattle.protocol.specs.Files.{idIn, stepped, ignored, fileOf, dataOf, finishOf}
-use Rattle.protocol.specs.declared.SessionState.{SessionState}
+use Rattle.protocol.specs.Replies.{sessionReply}
+use Rattle.protocol.specs.Change.{stepped, telling, stepBy}
+use Rattle.protocol.specs.Files.{Request, request}
+use Rattle.protocol.specs.Rule.{obeyedBy, doneBy, failedBy, decidedBy}
 use Rattle.protocol.specs.declared.SessionState.the-variants as SessionState
 use Rattle.protocol.specs.declared.Session.{Session}
 use Rattle.protocol.specs.declared.Kind.{Kind}
 use Rattle.protocol.specs.declared.Kind.the-variants as Kind
+use Rattle.protocol.specs.declared.Due.{Due}
+use Rattle.protocol.specs.declared.Owed.{Owed}
+use Rattle.protocol.specs.declared.Owed.the-variants as Owed
 use Rattle.protocol.specs.declared.Table.{Table}
 use Rattle.protocol.specs.declared.Status.{Status}
 use Rattle.protocol.specs.declared.Status.the-variants as Status
-use Rattle.protocol.specs.declared.Told.{Told}
+use Rattle.protocol.specs.declared.Failure.{Failure}
+use Rattle.protocol.specs.declared.Decision.{Decision}
 use Rattle.protocol.specs.declared.Told.the-variants as Told
+use Rattle.protocol.specs.declared.Change.{Change}
 use Rattle.protocol.specs.declared.Stepped.{Stepped}
 use Rattle.protocol.specs.declared.Found.{Found}
 use Rattle.protocol.specs.declared.Found.the-variants as Found
-use mathlib.Core.Bool.{true, false}
 
--- ---- absent
--- a status for a command whose session is absent: "The session's quiet counts, or the command's own where the session is absent"
-abbrev pub absentStatus : Table → Command → List ℕ → Status → Stepped
-absentStatus t c text w =
-    stepped t (Told.Status w) (sessionReply w (c .quiet) (padded (idIn c text)) (length (idIn c text)))
+-- ---- a command's strings: the ids stand in the text, the name in the scratch
+abbrev pub stringIn : List ℕ → Place → List ℕ
+stringIn l p = partOf l (p .start) (p .len)
 
-abbrev pub askedSession : Command → List ℕ → Session
-askedSession c text =
-    let id = idIn c text in
-    record { state = SessionState.Asked; quiet = c .quiet; id = padded id; «id_len» = length id; files = replicate fileRoom freeFile }
+abbrev pub idIn : Command → List ℕ → List ℕ
+idIn c text = stringIn text (c .id)
+
+abbrev pub fileIdIn : Command → List ℕ → List ℕ
+fileIdIn c text = stringIn text (c .«file_id»)
+
+abbrev pub requestIn : Command → (text scratch : List ℕ) → Request
+requestIn c text scratch = request c (fileIdIn c text) (stringIn scratch (c .name))
+
+-- ---- a command whose session is absent
+-- the session that `send` makes
+abbrev pub askedSession : (quiet : ℕ) (id : List ℕ) → Session
+askedSession quiet id =
+    record { state = SessionState.Asked; quiet = quiet; id = padded id; «id_len» = length id; files = replicate fileRoom freeFile }
+
+-- a status about it: "The session's quiet counts, or the command's own where the session is absent"
+abbrev pub absentStatus : Table → Session → Status → Stepped
+absentStatus t s w = stepped t (Told.Status w) (sessionReply w s)
 
 -- "four present: EBUSY; else asked, console told"
-abbrev pub sendRoom : Table → Command → List ℕ → Found → Stepped
-sendRoom t c text Found.Nowhere = absentStatus t c text Status.Ebusy
-sendRoom t c text (Found.At i) = stepped (putSession t i (askedSession c text)) Told.Asked noReply
+abbrev pub sendRoom : Table → Session → Found → Stepped
+sendRoom t s Found.Nowhere = absentStatus t s Status.Ebusy
+sendRoom t s (Found.At i) = telling (putSession t i s) Told.Asked
 
-abbrev pub absentResult : Table → Command → List ℕ → Kind → Stepped
-absentResult t c text Kind.Ignore = ignored t
-absentResult t c text Kind.Ask = sendRoom t c text (first isAbsent (t .sessions))
-absentResult t c text Kind.Unsupported = absentStatus t c text Status.Enotsup
-absentResult t c text Kind.Invalid = ignored t
-absentResult t c text Kind.Cancel = ignored t
-absentResult t c text Kind.Withdraw = ignored t
-absentResult t c text Kind.File = ignored t
-absentResult t c text Kind.Data = ignored t
-absentResult t c text Kind.EndData = ignored t
-absentResult t c text Kind.Finish = ignored t
+-- the kinds of a present session do nothing to an absent one
+abbrev pub absentResult : Table → Session → Kind → Stepped
+absentResult t s Kind.Ignore = telling t Told.Ignored
+absentResult t s Kind.Ask = sendRoom t s (first isAbsent (t .sessions))
+absentResult t s Kind.Unsupported = absentStatus t s Status.Enotsup
+absentResult t s Kind.Invalid = telling t Told.Ignored
+absentResult t s Kind.Cancel = telling t Told.Ignored
+absentResult t s Kind.Withdraw = telling t Told.Ignored
+absentResult t s Kind.File = telling t Told.Ignored
+absentResult t s Kind.Data = telling t Told.Ignored
+absentResult t s Kind.EndData = telling t Told.Ignored
+absentResult t s Kind.Finish = telling t Told.Ignored
 
--- ---- present
--- a drop is told: "an asked one as withdrawn, an open one .. as discarded"
-abbrev pub dropTold : SessionState → Told
-dropTold SessionState.Absent = Told.Ignored
-dropTold SessionState.Asked = Told.Withdrawn
-dropTold SessionState.Open = Told.Discarded
-
--- "dropped, CANCELED"
-abbrev pub canceled : Table → ℕ → Session → Stepped
-canceled t i s = stepped (dropAt t i) (dropTold (s .state)) (sessionReply Status.Canceled (s .quiet) (s .id) (s .«id_len»))
-
--- "EINVAL, nothing changed"
-abbrev pub invalid : Table → Session → Stepped
-invalid t s = stepped t (Told.Status Status.Einval) (sessionReply Status.Einval (s .quiet) (s .id) (s .«id_len»))
-
-abbrev pub presentResult : Table → ℕ → Command → List ℕ → List ℕ → Kind → Stepped
-presentResult t i c text scratch Kind.Ignore = ignored t
-presentResult t i c text scratch Kind.Ask = ignored t
-presentResult t i c text scratch Kind.Unsupported = ignored t
-presentResult t i c text scratch Kind.Invalid = invalid t (sessionAt t i)
-presentResult t i c text scratch Kind.Cancel = canceled t i (sessionAt t i)
-presentResult t i c text scratch Kind.Withdraw = stepped (dropAt t i) (dropTold (sessionAt t i .state)) noReply
-presentResult t i c text scratch Kind.File = fileOf t i c text scratch
-presentResult t i c text scratch Kind.Data = dataOf t i false c text
-presentResult t i c text scratch Kind.EndData = dataOf t i true c text
-presentResult t i c text scratch Kind.Finish = finishOf t i
-
--- ---- the session by its id, and then the action table
-abbrev pub foundResult : Table → Command → List ℕ → List ℕ → Found → Stepped
-foundResult t c text scratch Found.Nowhere = absentResult t c text (kindOf SessionState.Absent (c .action))
-foundResult t c text scratch (Found.At i) = presentResult t i c text scratch (kindOf (sessionAt t i .state) (c .action))
+-- ---- a command that was read, while nothing is owed: the session by its id, and then the action table
+abbrev pub foundResult : Table → Command → (id : List ℕ) → Request → Found → Stepped
+foundResult t c id q Found.Nowhere = absentResult t (askedSession (c .quiet) id) (kindOf SessionState.Absent (c .action))
+foundResult t c id q (Found.At i) = stepBy t i (c .payload) (obeyedBy (sessionAt t i) q)
 
 unfoldable pub obeyOf : Table → Command → List ℕ → List ℕ → Stepped
-obeyOf t c text scratch = foundResult t c text scratch (findSession t (idIn c text))
+obeyOf t c text scratch = let id = idIn c text in foundResult t c id (requestIn c text scratch) (findSession t id)
+
+-- ---- done and failed: an answer to what is owed, 11 where nothing is
+abbrev pub answeredWith : Table → (Session → Due → Change) → Owed → Stepped
+answeredWith t f Owed.Nothing = telling t (Told.Refused 11)
+answeredWith t f (Owed.For i d) = stepBy t i nowhere (f (sessionAt t i) d)
+
+unfoldable pub settleDone : Table → Stepped
+settleDone t = answeredWith t doneBy (t .owed)
+
+unfoldable pub settleFailed : Table → Failure → Stepped
+settleFailed t e = answeredWith t (failedBy e) (t .owed)
+
+-- ---- allow, deny and drop: a decision on the session with the id, 12 where there is none
+abbrev pub decidedAt : Table → Decision → Found → Stepped
+decidedAt t d Found.Nowhere = telling t (Told.Refused 12)
+decidedAt t d (Found.At i) = stepBy t i nowhere (decidedBy d (sessionAt t i))
+
+unfoldable pub decidedOf : Table → Decision → List ℕ → Stepped
+decidedOf t d k = decidedAt t d (findSession t k)

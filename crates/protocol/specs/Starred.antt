@@ -13,10 +13,11 @@ use Rattle.command.specs.Meaning.{Meaning, meaningOf}
 use Rattle.command.specs.Read.{scratchRoom, readOf}
 use Rattle.protocol.specs.Table.{absentSession, emptyTable, sessionAt, fileAt, padded, putFile, putSession}
 use Rattle.protocol.specs.Replies.{statusWord, statusText}
-use Rattle.protocol.specs.Answers.{settleDone}
+use Rattle.protocol.specs.Sessions.{settleDone}
 use Rattle.protocol.specs.Calls.{readAct}
 use Rattle.protocol.specs.declared.FileState.the-variants as FileState
 use Rattle.protocol.specs.declared.SessionState.the-variants as SessionState
+use Rattle.protocol.specs.declared.Due.the-variants as Due
 use Rattle.protocol.specs.declared.Owed.the-variants as Owed
 use Rattle.protocol.specs.declared.Table.{Table}
 use Rattle.protocol.specs.declared.Status.{Status}
@@ -44,12 +45,12 @@ abbrev pub obeyed : List ℕ → Table
 obeyed text = readAct halfway text (readOf text (replicate scratchRoom 0)) .step .table
 
 abbrev pub countAfter : Table → ℕ
-countAfter t = fileAt (sessionAt (settleDone t (t .owed) .table) 0) 0 .count
+countAfter t = fileAt (sessionAt (settleDone t .table) 0) 0 .count
 
 abbrev pub Holds : Case → Type 0
 Holds (Case.decodes text bytes) = decodeOf text (replicate (length bytes) 0) 0 ≡ outcome (Decoded.Length (length bytes)) bytes
 Holds (Case.reads text key result) = valueOf (numberOf keys key) (meaningOf text) ≡ result
-Holds (Case.adds text n) = (obeyed text .owed ≡ Owed.Write 0 0 n) × (countAfter (obeyed text) ≡ 3 + n)
+Holds (Case.adds text n) = (obeyed text .owed ≡ Owed.For 0 (Due.Write 0 n)) × (countAfter (obeyed text) ≡ 3 + n)
 Holds (Case.shows w text) = statusText (ascii "m") [] 0 (statusWord w) ≡ ascii "5113;ac=status;id=m;st=" ++ text
 
 abbrev pub AllHold : List Case → Type 0

@@ -1,6 +1,6 @@
 -- The table of sessions: room, ids, finding, and what is put back.
 use Prim.Native.Nat.{ℕ, zero, suc}
-use mathlib.Core.Bool.{Bool, true, false, cond, _&&_}
+use mathlib.Core.Bool.{Bool, true, false, not, _&&_}
 use mathlib.Core.List.{List, [], _∷_, _++_}
 use lib.ListN.{take, getD, set, replicate}
 use Rattle.octets.specs.Slices.{equals}
@@ -87,8 +87,11 @@ isPresent SessionState.Absent = false
 isPresent SessionState.Asked = true
 isPresent SessionState.Open = true
 
+abbrev pub sessionUsed : Session → Bool
+sessionUsed s = isPresent (s .state)
+
 abbrev pub isAbsent : Session → Bool
-isAbsent s = cond (isPresent (s .state)) false true
+isAbsent s = not (sessionUsed s)
 
 abbrev pub isUsed : FileState → Bool
 isUsed FileState.Free = false
@@ -97,8 +100,11 @@ isUsed FileState.Started = true
 isUsed FileState.Done = true
 isUsed FileState.Failed = true
 
+abbrev pub fileUsed : FileRecord → Bool
+fileUsed f = isUsed (f .state)
+
 abbrev pub isFree : FileRecord → Bool
-isFree f = cond (isUsed (f .state)) false true
+isFree f = not (fileUsed f)
 
 abbrev pub isStartedState : FileState → Bool
 isStartedState FileState.Free = false
@@ -112,10 +118,10 @@ isStarted f = isStartedState (f .state)
 
 -- "Ids match only if length and all bytes agree"
 abbrev pub hasId : List ℕ → Session → Bool
-hasId k s = isPresent (s .state) && equals (idOf s) k
+hasId k s = sessionUsed s && equals (idOf s) k
 
 abbrev pub hasFileId : List ℕ → FileRecord → Bool
-hasFileId k f = isUsed (f .state) && equals (fileIdOf f) k
+hasFileId k f = fileUsed f && equals (fileIdOf f) k
 
 -- the place of a session by its id, and of a file of it by its id
 abbrev pub findSession : Table → List ℕ → Found
@@ -125,9 +131,6 @@ abbrev pub findFile : Session → List ℕ → Found
 findFile s k = first (hasFileId k) (s .files)
 
 -- ---- put back
-abbrev pub withOwed : Table → Owed → Table
-withOwed t o = record { sessions = t .sessions; owed = o }
-
 abbrev pub putSession : Table → ℕ → Session → Table
 putSession t i s = record { sessions = set (t .sessions) i s; owed = t .owed }
 
@@ -140,10 +143,3 @@ putFile s j f = record { state = s .state; quiet = s .quiet; id = s .id; «id_le
 -- a file's record in another state, with a count
 abbrev pub moved : FileRecord → FileState → ℕ → FileRecord
 moved f g n = record { state = g; id = f .id; «id_len» = f .«id_len»; count = n }
-
-abbrev pub putFileAt : Table → ℕ → ℕ → FileRecord → Table
-putFileAt t i j f = putSession t i (putFile (sessionAt t i) j f)
-
--- "dropped": its place is free again
-abbrev pub dropAt : Table → ℕ → Table
-dropAt t i = putSession t i absentSession

@@ -8,19 +8,24 @@ use Rattle.octets.specs.Ascii.{ascii}
 use Rattle.octets.specs.Outcome.{Outcome, outcome}
 use Rattle.octets.specs.Slices.{equals}
 use Rattle.frames.specs.declared.Framing.the-variants as Framing
-use Rattle.protocol.specs.Table.{freeFile, sessionAt, fileAt, putSession, putFileAt, moved, withOwed, withState}
+use Rattle.protocol.specs.Table.{freeFile, sessionAt, fileAt, putSession, putFile, moved, withState}
 use Rattle.protocol.specs.Replies.{framed}
 use Rattle.protocol.specs.Calls.{Feeding, feedOf, allowOf, denyOf, dropOf, doneOf, failedOf}
 use Rattle.protocol.specs.Machine.{Machine, isUnfed}
+use Rattle.protocol.specs.Sound.{EverySound}
 use Rattle.protocol.specs.Promises.{EveryCall}
 use Rattle.protocol.specs.Claim.{EveryHistory}
 use Rattle.protocol.specs.Cuts.{CutsAlike}
 use Rattle.protocol.specs.declared.SessionState.{SessionState}
 use Rattle.protocol.specs.declared.SessionState.the-variants as SessionState
+use Rattle.protocol.specs.declared.FileRecord.{FileRecord}
+use Rattle.protocol.specs.declared.Due.{Due}
+use Rattle.protocol.specs.declared.Due.the-variants as Due
 use Rattle.protocol.specs.declared.Owed.{Owed}
 use Rattle.protocol.specs.declared.Owed.the-variants as Owed
 use Rattle.protocol.specs.declared.Table.{Table}
 use Rattle.protocol.specs.declared.Receiver.{Receiver}
+use Rattle.protocol.specs.declared.Failure.{Failure}
 use Rattle.protocol.specs.declared.Answered.{Answered}
 
 -- ---- pieces: the commands of session m and its file a
@@ -50,12 +55,18 @@ abbrev pub statusPiece : List ℕ
 statusPiece = framed (ascii "5113;ac=status;id=m")
 
 -- ---- wrappers
--- our calls but for feed, or but for done
+-- our calls but for feed, done, drop or failed
 abbrev pub feedingBy : (Receiver → List ℕ → List ℕ → List ℕ → List ℕ → Feeding) → Machine
 feedingBy f = record { feeds = f; allows = allowOf; denies = denyOf; drops = dropOf; dones = doneOf; fails = failedOf }
 
 abbrev pub answeringBy : (Receiver → List ℕ → Outcome Answered) → Machine
 answeringBy d = record { feeds = feedOf; allows = allowOf; denies = denyOf; drops = dropOf; dones = d; fails = failedOf }
+
+abbrev pub droppingBy : (Receiver → List ℕ → Answered) → Machine
+droppingBy d = record { feeds = feedOf; allows = allowOf; denies = denyOf; drops = d; dones = doneOf; fails = failedOf }
+
+abbrev pub failingBy : (Receiver → Failure → List ℕ → Outcome Answered) → Machine
+failingBy f = record { feeds = feedOf; allows = allowOf; denies = denyOf; drops = dropOf; dones = doneOf; fails = f }
 
 abbrev pub withTable : Receiver → Table → Receiver
 withTable r t = record { framing = r .framing; table = t }
@@ -104,14 +115,21 @@ mistaking one other f =
 abbrev pub answeringOf : (Table → Owed → Table) → Machine
 answeringOf f = answeringBy (λ r. doneOf (withTable r (f (r .table) (r .table .owed))))
 
+-- the table with something else owed, and with another file record
+abbrev pub withOwed : Table → Owed → Table
+withOwed t o = record { sessions = t .sessions; owed = o }
+
+abbrev pub withFile : Table → ℕ → ℕ → FileRecord → Table
+withFile t i j f = putSession t i (putFile (sessionAt t i) j f)
+
 -- what is owed, a last part changed
-abbrev pub withLast : (ℕ → ℕ → ℕ → Owed) → Owed → Owed
+abbrev pub withLast : (ℕ → ℕ → Due) → Owed → Owed
 withLast f Owed.Nothing = Owed.Nothing
-withLast f (Owed.OpenFile i j) = Owed.OpenFile i j
-withLast f (Owed.OpenDirectory i j) = Owed.OpenDirectory i j
-withLast f (Owed.Write i j n) = Owed.Write i j n
-withLast f (Owed.WriteLast i j n) = f i j n
-withLast f (Owed.Commit i) = Owed.Commit i
+withLast f (Owed.For i (Due.OpenFile j)) = Owed.For i (Due.OpenFile j)
+withLast f (Owed.For i (Due.OpenDirectory j)) = Owed.For i (Due.OpenDirectory j)
+withLast f (Owed.For i (Due.Write j n)) = Owed.For i (Due.Write j n)
+withLast f (Owed.For i (Due.WriteLast j n)) = Owed.For i (f j n)
+withLast f (Owed.For i Due.Commit) = Owed.For i Due.Commit
 
 -- ---- wrong counts
 -- one too small, in the record and in the reply
@@ -120,16 +138,16 @@ less zero = zero
 less (suc n) = n
 
 abbrev pub oneTooSmall : Machine
-oneTooSmall = answeringOf (λ t o. withOwed t (withLast (λ i j n. Owed.WriteLast i j (less n)) o))
+oneTooSmall = answeringOf (λ t o. withOwed t (withLast (λ j n. Due.WriteLast j (less n)) o))
 
 -- that of the last part only, in the record and in the reply
 abbrev pub uncounted : Table → Owed → Table
 uncounted t Owed.Nothing = t
-uncounted t (Owed.OpenFile i j) = t
-uncounted t (Owed.OpenDirectory i j) = t
-uncounted t (Owed.Write i j n) = t
-uncounted t (Owed.WriteLast i j n) = let f = fileAt (sessionAt t i) j in putFileAt t i j (moved f (f .state) 0)
-uncounted t (Owed.Commit i) = t
+uncounted t (Owed.For i (Due.OpenFile j)) = t
+uncounted t (Owed.For i (Due.OpenDirectory j)) = t
+uncounted t (Owed.For i (Due.Write j n)) = t
+uncounted t (Owed.For i (Due.WriteLast j n)) = let f = fileAt (sessionAt t i) j in withFile t i j (moved f (f .state) 0)
+uncounted t (Owed.For i Due.Commit) = t
 
 abbrev pub lastOnly : Machine
 lastOnly = answeringOf uncounted
@@ -138,7 +156,7 @@ lastOnly = answeringOf uncounted
 abbrev pub otherSize : Machine
 otherSize =
     answeringBy (λ r reply.
-    let b = doneOf (withTable r (withOwed (r .table) (withLast (λ i j n. Owed.WriteLast i j (suc n)) (r .table .owed)))) reply in
+    let b = doneOf (withTable r (withOwed (r .table) (withLast (λ j n. Due.WriteLast j (suc n)) (r .table .owed)))) reply in
     let a = b .answer in
     outcome (record { receiver = doneOf r reply .answer .receiver; told = a .told; «reply_len» = a .«reply_len» }) (b .buffer))
 
@@ -162,11 +180,11 @@ dataOpens = mistaking dataPiece filePiece (λ r. r)
 
 -- no EEXIST: a directory takes the record of a started file
 abbrev pub reopening : Machine
-reopening = mistaking directoryPiece directoryPiece (λ r. withTable r (putFileAt (r .table) 0 0 freeFile))
+reopening = mistaking directoryPiece directoryPiece (λ r. withTable r (withFile (r .table) 0 0 freeFile))
 
 -- a last part answered done leaves its file started
 abbrev pub neverClosing : Machine
-neverClosing = answeringOf (λ t o. withOwed t (withLast Owed.Write o))
+neverClosing = answeringOf (λ t o. withOwed t (withLast Due.Write o))
 
 -- ---- parts outside an allowed session
 -- in one that was never allowed
@@ -184,6 +202,21 @@ unasked =
 -- after a cancel was read
 abbrev pub deaf : Machine
 deaf = mistaking cancelPiece statusPiece (λ r. r)
+
+-- ---- tables
+-- what a call answers, with another table
+abbrev pub leaving : Table → Answered → Answered
+leaving t a = record { receiver = withTable (a .receiver) t; told = a .told; «reply_len» = a .«reply_len» }
+
+-- a drop leaves what is owed, also where the session dropped owed it
+abbrev pub keepingOwed : Machine
+keepingOwed = droppingBy (λ r id. let a = dropOf r id in leaving (withOwed (a .receiver .table) (r .table .owed)) a)
+
+-- an open that failed leaves its record opening
+abbrev pub stuckOpening : Machine
+stuckOpening =
+    failingBy (λ r code reply.
+    let b = failedOf r code reply in outcome (leaving (withOwed (r .table) Owed.Nothing) (b .answer)) (b .buffer))
 
 -- ---- cuts
 -- a closer is lost whose 1B and 5C fall in two pieces
@@ -225,6 +258,8 @@ pub record Teeth : Type 0 where
   pub neverClosed : EveryHistory neverClosing → ⊥
   pub neverAllowed : EveryHistory unasked → ⊥
   pub afterACancel : EveryHistory deaf → ⊥
+  pub droppedOwes : EverySound keepingOwed → ⊥
+  pub openingForGood : EverySound stuckOpening → ⊥
   pub cutCloserLost : CutsAlike closerLost → ⊥
   pub refusedFeedConsumes : EveryCall hungry → ⊥
   pub refusedFeedReplies : EveryCall talking → ⊥

@@ -7,6 +7,7 @@ ghost use mathlib.Core.Path.{_≡_};
 ghost use Rattle.protocol.specs.Claim.{EveryHistory};
 ghost use Rattle.protocol.specs.Cuts.{CutsAlike};
 ghost use Rattle.protocol.specs.Machine.{ours};
+ghost use Rattle.protocol.specs.Sound.{EverySound};
 ghost use Rattle.protocol.specs.Starred.{AllHold, starred};
 ghost use Rattle.protocol.specs.Table.{freshReceiver};
 ghost use Rattle.protocol.specs.WrongMachines.{Teeth};
@@ -47,15 +48,20 @@ pub struct Session {
     pub files: [FileRecord; Session::FILES],
 }
 
-// What the console owes an answer to, with the places of the session and its file in the table, and
-// the part's length.
+// What the console was asked to do for a session and has not answered, with the place of the file in
+// the session and the part's length.
+pub enum Due {
+    OpenFile(usize),
+    OpenDirectory(usize),
+    Write(usize, usize),
+    WriteLast(usize, usize),
+    Commit,
+}
+
+// What the console owes an answer to: nothing, or what is due for the session at a place.
 pub enum Owed {
     Nothing,
-    OpenFile(usize, usize),
-    OpenDirectory(usize, usize),
-    Write(usize, usize, usize),
-    WriteLast(usize, usize, usize),
-    Commit(usize),
+    For(usize, Due),
 }
 
 pub struct Table {
@@ -119,6 +125,13 @@ pub enum Failure {
     Enospc,
 }
 
+// What the console decides of a session.
+pub enum Decision {
+    Allow,
+    Deny,
+    Drop,
+}
+
 // What a call tells.
 pub enum Told {
     Nothing,
@@ -151,7 +164,34 @@ pub struct Reply {
     pub size: u64,
 }
 
-// What a step of the rule gives: the table afterwards, what is told, and the reply.
+// ---- What a step makes of one session.
+// The session is as it was, an asked one is open, a file record is put at a place, or the session is
+// dropped.
+pub enum Edit {
+    Same,
+    Opened,
+    Filed(usize),
+    Dropped,
+}
+
+// What the console hears of a step: something told while what is owed stays, something told while what
+// the session owed is cleared, or an ask, which is owed from then on.
+pub enum News {
+    Tells(Told),
+    Clears(Told),
+    Asks(Due),
+}
+
+// What becomes of a session at a step, by an edit with the file record that it puts, what the console
+// hears, and the reply. It names no place in the table.
+pub struct Change {
+    pub edit: Edit,
+    pub file: FileRecord,
+    pub news: News,
+    pub reply: Reply,
+}
+
+// What a step gives: the table afterwards, what is told, and the reply.
 pub struct Stepped {
     pub table: Table,
     pub told: Told,
@@ -258,14 +298,26 @@ impl Table {
 impl Reply {
     // "No reply is longer than 124 bytes": what a reply buffer has at least.
     pub const ROOM: usize = 124;
+
+    // None is due.
+    pub const NONE: Reply = Reply {
+        due: false,
+        status: Status::Ok,
+        quiet: 0,
+        id: [0; 32],
+        id_len: 0,
+        file_id: [0; 32],
+        file_id_len: 0,
+        size: 0,
+    };
 }
 
 impl Receiver {
     // "A fresh receiver has no session, no file and nothing owed." What every list of calls from here
-    // keeps (demand 3), that cuts do not matter, and document 01's starred cases stand here too, so that
-    // nobody can drop a theorem unseen.
+    // keeps (demand 3), that cuts do not matter, what holds of every table, and document 01's starred
+    // cases stand here too, so that nobody can drop a theorem unseen.
     pub fn fresh() -> Receiver
-        ensures { λ r. ⌜ (r ≡ freshReceiver) × EveryHistory ours × CutsAlike ours × Teeth × AllHold starred ⌝ }
+        ensures { λ r. ⌜ (r ≡ freshReceiver) × EveryHistory ours × CutsAlike ours × EverySound ours × Teeth × AllHold starred ⌝ }
     {
         Receiver {
             framing: Framing::Plain,

@@ -4,24 +4,26 @@ ghost use mathlib.Core.Path.{_≡_};
 ghost use Prim.Native.Nat.{ℕ};
 ghost use Rattle.command.specs.Read.{readOf};
 ghost use Rattle.command.specs.Slots.{refusalNumber};
+ghost use Rattle.sessions.specs.Leaving.{taken};
 ghost use Rattle.protocol.specs.Calls.{acted, unread, readAct, reportAct};
 use command::Command;
 use command::Reading;
 use command::Refusal;
 use frames::Report;
-use protocol::Stepped;
 use protocol::Table;
 use protocol::Told;
+use sessions::next::Next;
 
-// A step, and the command that was read for it.
+// What a step leaves, and the command that was read for it.
 pub(crate) struct Acted {
-    pub step: Stepped,
+    pub next: Next,
     pub command: Command,
 }
 
 // A report, given its text.
 pub(crate) fn act(table: Table, report: Report, text: &[u8], scratch: &mut [u8]) -> Acted
-    ensures { λ a. ⌜ acted (a .step) (a .command) (now (scratch .exit)) ≡ reportAct table report (now (text .entry)) (now (scratch .entry)) ⌝ }
+    ensures { λ a. ⌜ acted (taken table (a .next)) (a .command) (now (scratch .exit))
+        ≡ reportAct table report (now (text .entry)) (now (scratch .entry)) ⌝ }
 {
     match report {
         Report::Nothing => tell(table, Told::Nothing),
@@ -35,11 +37,12 @@ pub(crate) fn act(table: Table, report: Report, text: &[u8], scratch: &mut [u8])
 
 // A command text is read, and its command obeyed.
 fn read(table: Table, text: &[u8], scratch: &mut [u8]) -> Acted
-    ensures { λ a. ⌜ acted (a .step) (a .command) (now (scratch .exit)) ≡ readAct table (now (text .entry)) (readOf (now (text .entry)) (now (scratch .entry))) ⌝ }
+    ensures { λ a. ⌜ acted (taken table (a .next)) (a .command) (now (scratch .exit))
+        ≡ readAct table (now (text .entry)) (readOf (now (text .entry)) (now (scratch .entry))) ⌝ }
 {
     match command_reader::read(text, scratch) {
         Reading::Read(command) => Acted {
-            step: sessions::obey(table, command, text, scratch),
+            next: sessions::obey(table, command, text, scratch),
             command: command,
         },
         Reading::Refused(refusal) => tell(table, Told::Refused(number(refusal))),
@@ -64,10 +67,10 @@ fn number(refusal: Refusal) -> u8
 
 // Nothing but something told, where no command was read.
 fn tell(table: Table, told: Told) -> Acted
-    ensures { λ a. ⌜ ((scratch : List ℕ) → acted (a .step) (a .command) scratch ≡ unread table told scratch) ⌝ }
+    ensures { λ a. ⌜ ((scratch : List ℕ) → acted (taken table (a .next)) (a .command) scratch ≡ unread table told scratch) ⌝ }
 {
     Acted {
-        step: tables::replies::telling(table, told),
+        next: sessions::next::tell(table, told),
         command: Command::NONE,
     }
 }

@@ -15,6 +15,7 @@ ghost use Rattle.protocol.specs.Machine.{ours};
 ghost use Rattle.protocol.specs.Promises.{EveryCall};
 use acts::act;
 use protocol::Answered;
+use protocol::Decision;
 use protocol::Failure;
 use protocol::Fed;
 use protocol::Receiver;
@@ -33,7 +34,8 @@ pub fn feed(
     scratch: &mut [u8],
     reply: &mut [u8],
 ) -> Fed
-    ensures { λ f. ⌜ feeding f (now (carry .exit)) (now (scratch .exit)) (now (reply .exit)) ≡ feedOf receiver (now (piece .entry)) (now (carry .entry)) (now (scratch .entry)) (now (reply .entry)) ⌝ }
+    ensures { λ f. ⌜ feeding f (now (carry .exit)) (now (scratch .exit)) (now (reply .exit))
+        ≡ feedOf receiver (now (piece .entry)) (now (carry .entry)) (now (scratch .entry)) (now (reply .entry)) ⌝ }
     ensures { λ _. ⌜ EveryCall ours ⌝ }
 {
     let framing = receiver.framing;
@@ -42,13 +44,13 @@ pub fn feed(
         return refused(receiver, 9);
     }
     let owed = table.owed;
-    if answers::is_owed(owed) {
+    if sessions::is_owed(owed) {
         return refused(receiver, 10);
     }
     let scanned = frames::scan(framing, piece, carry);
     let report = scanned.report;
     let done = act(table, report, frames::text(piece, carry, report), scratch);
-    fed(scanned, done, reply)
+    fed(table, scanned, done, reply)
 }
 
 // The user lets the asked session with this id be open: reply OK.
@@ -56,7 +58,11 @@ pub fn allow(receiver: Receiver, id: &[u8], reply: &mut [u8]) -> Answered
     ensures { λ a. ⌜ outcome a (now (reply .exit)) ≡ allowOf receiver (now (id .entry)) (now (reply .entry)) ⌝ }
 {
     let table = receiver.table;
-    guarded(receiver, answers::allow(table, id), reply)
+    guarded(
+        receiver,
+        sessions::decide(table, Decision::Allow, id),
+        reply,
+    )
 }
 
 // The user turns the asked session with this id away: reply EPERM.
@@ -64,16 +70,15 @@ pub fn deny(receiver: Receiver, id: &[u8], reply: &mut [u8]) -> Answered
     ensures { λ a. ⌜ outcome a (now (reply .exit)) ≡ denyOf receiver (now (id .entry)) (now (reply .entry)) ⌝ }
 {
     let table = receiver.table;
-    guarded(receiver, answers::deny(table, id), reply)
+    guarded(receiver, sessions::decide(table, Decision::Deny, id), reply)
 }
 
 // The console drops the session with this id, asked or open, and what it owed is cleared.
 pub fn drop(receiver: Receiver, id: &[u8]) -> Answered
     ensures { λ a. ⌜ a ≡ dropOf receiver (now (id .entry)) ⌝ }
 {
-    let framing = receiver.framing;
     let table = receiver.table;
-    answered(framing, answers::drop(table, id), 0)
+    answered(receiver, sessions::decide(table, Decision::Drop, id), 0)
 }
 
 // The console has done what it was asked last.
@@ -81,7 +86,7 @@ pub fn done(receiver: Receiver, reply: &mut [u8]) -> Answered
     ensures { λ a. ⌜ outcome a (now (reply .exit)) ≡ doneOf receiver (now (reply .entry)) ⌝ }
 {
     let table = receiver.table;
-    guarded(receiver, answers::done(table), reply)
+    guarded(receiver, sessions::done(table), reply)
 }
 
 // The console has failed to do what it was asked last.
@@ -89,5 +94,5 @@ pub fn failed(receiver: Receiver, failure: Failure, reply: &mut [u8]) -> Answere
     ensures { λ a. ⌜ outcome a (now (reply .exit)) ≡ failedOf receiver failure (now (reply .entry)) ⌝ }
 {
     let table = receiver.table;
-    guarded(receiver, answers::failed(table, failure), reply)
+    guarded(receiver, sessions::failed(table, failure), reply)
 }

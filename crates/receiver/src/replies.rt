@@ -1,14 +1,13 @@
 // A step's end: its reply stored in the lent buffer, and the answer put together.
 ghost use mathlib.Core.Bool.{_||_};
 ghost use mathlib.Core.Path.{_≡_};
-ghost use Prim.Native.Nat.{ℕ};
 ghost use lib.Dec.{ltb};
 ghost use Rattle.octets.specs.Outcome.{outcome};
 ghost use Rattle.frames.specs.Stream.{textLimit};
 ghost use Rattle.command.specs.Read.{scratchRoom};
-ghost use Rattle.protocol.specs.Answers as Answers;
 ghost use Rattle.protocol.specs.Calls as Calls;
-ghost use Rattle.protocol.specs.Replies.{replyRoom, repliedOf};
+ghost use Rattle.protocol.specs.Replies.{replyRoom};
+ghost use Rattle.sessions.specs.Leaving.{taken};
 ghost use Rattle.receiver.specs.Fed.{fedWith};
 use crate::acts::Acted;
 use command::Command;
@@ -19,8 +18,10 @@ use protocol::Answered;
 use protocol::Fed;
 use protocol::Receiver;
 use protocol::Reply;
-use protocol::Stepped;
+use protocol::Table;
 use protocol::Told;
+use sessions::next::Next;
+use sessions::next::put;
 
 // Whether a buffer is too short for a feed.
 pub(crate) fn is_short(carry: usize, scratch: usize, reply: usize) -> bool
@@ -50,21 +51,20 @@ pub(crate) fn refused(receiver: Receiver, number: u8) -> Fed
 }
 
 // A feed's end, after its scan and its act.
-pub(crate) fn fed(scanned: Scanned, acted: Acted, buffer: &mut [u8]) -> Fed
-    ensures { λ r. ⌜ outcome r (now (buffer .exit)) ≡ fedWith scanned (acted .step) (acted .command) (now (buffer .entry)) ⌝ }
+pub(crate) fn fed(table: Table, scanned: Scanned, acted: Acted, buffer: &mut [u8]) -> Fed
+    ensures { λ r. ⌜ outcome r (now (buffer .exit)) ≡ fedWith scanned (taken table (acted .next)) (acted .command) (now (buffer .entry)) ⌝ }
 {
     let framing = scanned.framing;
     let report = scanned.report;
     let command = acted.command;
-    let step = acted.step;
-    let table = step.table;
-    let told = step.told;
-    let due = step.reply;
+    let next = acted.next;
+    let told = next.told;
+    let due = next.reply;
     let n = reply::send(due, buffer);
     Fed {
         receiver: Receiver {
             framing: framing,
-            table: table,
+            table: put(table, next),
         },
         consumed: scanned.consumed,
         report: report,
@@ -75,8 +75,8 @@ pub(crate) fn fed(scanned: Scanned, acted: Acted, buffer: &mut [u8]) -> Fed
 }
 
 // A console call's end: refusal 9 where the buffer is too short, else the step with its reply stored.
-pub(crate) fn guarded(receiver: Receiver, step: Stepped, buffer: &mut [u8]) -> Answered
-    ensures { λ r. ⌜ outcome r (now (buffer .exit)) ≡ Calls.guarded receiver step (now (buffer .entry)) ⌝ }
+pub(crate) fn guarded(receiver: Receiver, next: Next, buffer: &mut [u8]) -> Answered
+    ensures { λ r. ⌜ outcome r (now (buffer .exit)) ≡ Calls.guarded receiver (taken (receiver .table) next) (now (buffer .entry)) ⌝ }
 {
     if buffer.len() < Reply::ROOM {
         return Answered {
@@ -85,21 +85,21 @@ pub(crate) fn guarded(receiver: Receiver, step: Stepped, buffer: &mut [u8]) -> A
             reply_len: 0,
         };
     }
-    let framing = receiver.framing;
-    let due = step.reply;
+    let due = next.reply;
     let n = reply::send(due, buffer);
-    answered(framing, step, n)
+    answered(receiver, next, n)
 }
 
-pub(crate) fn answered(framing: Framing, step: Stepped, reply_len: usize) -> Answered
-    ensures { λ r. ⌜ r ≡ Calls.answeredBy framing step «reply_len» ⌝ }
+pub(crate) fn answered(receiver: Receiver, next: Next, reply_len: usize) -> Answered
+    ensures { λ r. ⌜ r ≡ Calls.answeredBy (receiver .framing) (taken (receiver .table) next) «reply_len» ⌝ }
 {
-    let table = step.table;
-    let told = step.told;
+    let framing = receiver.framing;
+    let table = receiver.table;
+    let told = next.told;
     Answered {
         receiver: Receiver {
             framing: framing,
-            table: table,
+            table: put(table, next),
         },
         told: told,
         reply_len: reply_len,

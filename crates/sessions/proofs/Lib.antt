@@ -1,2 +1,1 @@
-pub mod ActionLaws
-pub mod KindLaws
+mod KindLaws

@@ -1,27 +1,124 @@
-// The session rule on a command: what a command that was read does to the table. A step takes the
-// table by value and gives it back, with what to tell the console and the reply that is due; it equals
-// what `protocol` defines, for any table.
+// The table of four sessions: which one a command or a call of the console concerns, its step, and
+// what the table then takes. A step gives the one session that it leaves, with its place, what is owed,
+// what to tell the console and the reply that is due; taken by the table, that equals what `protocol`
+// defines, for any table.
 //
-// Not here: reading a command's text, the console's answers and decisions, and the bytes of a reply.
-mod files;
-mod parts;
-mod rule;
+// Not here: what the step makes of the session (`session_rule`), reading a command's text, and the
+// bytes of a reply.
+mod absent;
+mod changes;
+mod find;
+pub mod next;
+mod places;
 
 ghost use mathlib.Core.Path.{_≡_};
-ghost use Rattle.protocol.specs.Sessions.{obeyOf};
+ghost use Rattle.protocol.specs.Calls.{isOwed};
+ghost use Rattle.protocol.specs.Sessions.{requestIn, obeyOf, settleDone, settleFailed, decidedOf};
+ghost use Rattle.protocol.specs.Change.{stepBy};
+ghost use Rattle.protocol.specs.Rule.{obeyedBy};
+ghost use Rattle.protocol.specs.Table.{sessionAt};
+ghost use Rattle.sessions.specs.Leaving.{taken};
+use absent::absent;
 use command::Command;
+use command::Place;
+use find::find_session;
+use next::Next;
+use next::step;
+use next::tell;
+use places::session_at;
+use protocol::Decision;
+use protocol::Failure;
 use protocol::Found;
-use protocol::Stepped;
+use protocol::Owed;
 use protocol::Table;
-use tables::find::find_session;
+use protocol::Told;
+use session_rule::answers;
+use session_rule::commands;
+use session_rule::decisions;
 
 // What a command does, while nothing is owed; its ids stand in the text, its name in the scratch.
-pub fn obey(table: Table, command: Command, text: &[u8], scratch: &[u8]) -> Stepped
-    ensures { λ r. ⌜ r ≡ obeyOf table command (now (text .entry)) (now (scratch .entry)) ⌝ }
+pub fn obey(table: Table, command: Command, text: &[u8], scratch: &[u8]) -> Next
+    ensures { λ n. ⌜ taken table n ≡ obeyOf table command (now (text .entry)) (now (scratch .entry)) ⌝ }
 {
     let place = command.id;
-    match find_session(table, octets::part(text, place.start, place.len)) {
-        Found::Nowhere => rule::absent(table, command, text),
-        Found::At(i) => rule::present(table, i, command, text, scratch),
+    let action = command.action;
+    let id = octets::part(text, place.start, place.len);
+    match find_session(table, id) {
+        Found::Nowhere => absent(table, action, command.quiet, id),
+        Found::At(i) => present(table, i, command, text, scratch),
+    }
+}
+
+// A command of the session at place i.
+fn present(table: Table, i: usize, command: Command, text: &[u8], scratch: &[u8]) -> Next
+    ensures { λ n. let q = requestIn command (now (text .entry)) (now (scratch .entry)) in
+        ⌜ taken table n ≡ stepBy table i (command .payload) (obeyedBy (sessionAt table i) q) ⌝ }
+{
+    let file = command.file_id;
+    let name = command.name;
+    let payload = command.payload;
+    let owed = table.owed;
+    let session = session_at(table, i);
+    let change = commands::obey(
+        session,
+        command,
+        octets::part(text, file.start, file.len),
+        octets::part(scratch, name.start, name.len),
+    );
+    step(session, i, owed, payload, change)
+}
+
+// The console has done what it was asked.
+pub fn done(table: Table) -> Next
+    ensures { λ n. ⌜ taken table n ≡ settleDone table ⌝ }
+{
+    let owed = table.owed;
+    match owed {
+        Owed::Nothing => tell(table, Told::Refused(11)),
+        Owed::For(i, due) => {
+            let session = session_at(table, i);
+            let change = answers::done(session, due);
+            step(session, i, owed, Place::NOWHERE, change)
+        }
+    }
+}
+
+// The console has failed to do what it was asked.
+pub fn failed(table: Table, failure: Failure) -> Next
+    ensures { λ n. ⌜ taken table n ≡ settleFailed table failure ⌝ }
+{
+    let owed = table.owed;
+    match owed {
+        Owed::Nothing => tell(table, Told::Refused(11)),
+        Owed::For(i, due) => {
+            let session = session_at(table, i);
+            let change = answers::failed(failure, session, due);
+            step(session, i, owed, Place::NOWHERE, change)
+        }
+    }
+}
+
+// The console lets an asked session be open, turns it away, or drops one, asked or open.
+pub fn decide(table: Table, decision: Decision, id: &[u8]) -> Next
+    ensures { λ n. ⌜ taken table n ≡ decidedOf table decision (now (id .entry)) ⌝ }
+{
+    let owed = table.owed;
+    match find_session(table, id) {
+        Found::Nowhere => tell(table, Told::Refused(12)),
+        Found::At(i) => {
+            let session = session_at(table, i);
+            let change = decisions::decide(decision, session);
+            step(session, i, owed, Place::NOWHERE, change)
+        }
+    }
+}
+
+// Whether the console owes an answer.
+pub fn is_owed(owed: Owed) -> bool
+    ensures { λ r. ⌜ r ≡ isOwed owed ⌝ }
+{
+    match owed {
+        Owed::Nothing => false,
+        Owed::For(_, _) => true,
     }
 }

@@ -3,8 +3,8 @@ use borrow.Author.Needs.{needs}
 use Rattle.receiver.proofs.allow.Statement.{statement}
 use Rattle.receiver.proofs.allow.Tie as tie
 
-allow-requires : tie.Need-allow-requires
-allow-requires c κs = search needs
+decide-requires : tie.Need-decide-requires
+decide-requires c κs = search needs
 
 guarded-requires : tie.Need-guarded-requires
 guarded-requires c κs = search needs
@@ -14,7 +14,7 @@ same-length c = search needs
 
 returns : tie.Need-returns
 unfolding allowOf
-returns c = rw (← c .before .before .before .before .allow .ensures) (c .before .before .guarded .ensures)
+returns c = rw (← c .before .before .before .before .decide .ensures) (c .before .before .guarded .ensures)
 
 pub allow-spec : {M : Type 1} → statement M
-allow-spec = tie.close (tie.spec allow-requires guarded-requires same-length returns)
+allow-spec = tie.close (tie.spec decide-requires guarded-requires same-length returns)

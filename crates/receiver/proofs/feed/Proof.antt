@@ -28,8 +28,16 @@ returns-2 : tie.Need-returns-2
 unfolding feedOf
 returns-2 c =
     let owed = c .before .before in
-    let short = owed .before in
-    (rw (c .refused2 .ensures, ← short .before .is-short .ensures, short .if1 .left, ← owed .is-owed .ensures, c .before .if2 .taken), every-call)
+    let short = owed .before in (
+      rw (
+        c .refused2 .ensures,
+        ← short .before .is-short .ensures,
+        short .if1 .left,
+        ← owed .is-owed .ensures,
+        c .before .if2 .taken,
+      ),
+      every-call,
+    )
 
 scan-requires : tie.Need-scan-requires
 scan-requires c κs = search needs
@@ -70,7 +78,9 @@ returns-3 c =
         ← text .text .ensures,
         ← act .act .ensures,
       )
-          (ap (λ (o : Outcome Fed). feeding (o .answer) (scan .scan .last .1 .1 .0) (act .act .last .1 .1 .1 .0) (o .buffer)) (fed .fed .ensures)),
+          (ap
+          (λ (o : Outcome Fed). feeding (o .answer) (scan .scan .last .1 .1 .0) (act .act .last .1 .1 .1 .0) (o .buffer))
+          (fed .fed .ensures)),
       every-call,
     )
 

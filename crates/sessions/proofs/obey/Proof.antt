@@ -2,12 +2,6 @@ use Rattle.protocol.specs.Sessions.{obeyOf}
 use borrow.Author.Needs.{needs}
 use Rattle.sessions.proofs.obey.Statement.{statement}
 use Rattle.sessions.proofs.obey.Tie as tie
-use Rattle.sessions.proofs.obey.Reads as reads
-use Rattle.sessions.proofs.obey.Lts as lts
-use Rattle.octets.proofs.part.Reads as part-reads
-use Rattle.tables.proofs.find.find_session.Reads as find-session-reads
-use Rattle.sessions.proofs.rule.absent.Reads as absent-reads
-use Rattle.sessions.proofs.rule.present.Reads as present-reads
 
 part-requires : tie.Need-part-requires
 part-requires c κs = search needs
@@ -29,11 +23,17 @@ present-requires c κs = search needs
 
 returns : tie.Need-returns
 unfolding obeyOf
-returns c = rw (c .absent .ensures, ← c .before .before .before .before .part .ensures, ← c .before .before .before .find-session .ensures, c .before .enum-told .given .1)
+returns c =
+    let arm = c .before in
+    let found = arm .before .before in
+    rw (← found .before .part .ensures, ← found .find-session .ensures, arm .enum-told .given .1) (c .absent .ensures)
 
 returns-2 : tie.Need-returns-2
 unfolding obeyOf
-returns-2 c = rw (c .present .ensures, ← c .before .before .before .before .before .part .ensures, ← c .before .before .before .before .find-session .ensures, c .before .before .i .given .1)
+returns-2 c =
+    let arm = c .before .before in
+    let found = arm .before .before in
+    rw (← found .before .part .ensures, ← found .find-session .ensures, arm .i .given .1) (c .present .ensures)
 
 pub obey-spec : {M : Type 1} → statement M
 obey-spec =

@@ -24,13 +24,19 @@ same-length : tie.Need-same-length
 same-length c = search needs
 
 returns : tie.Need-returns
-returns c = rw (← c .before .before .before .before .before .before .before .read .ensures .0, c .before .before .before .command .given .1, c .obey .ensures)
+returns c =
+    let arm = c .before .before .before in
+    let reading = arm .before .before .before .before in
+    rw (← reading .read .ensures .0, arm .command .given .1, c .obey .ensures)
 
 same-length-2 : tie.Need-same-length-2
 same-length-2 c = search needs
 
 returns-2 : tie.Need-returns-2
-returns-2 c = rw (← c .before .before .before .before .before .before .before .read .ensures .0, c .before .before .before .refusal .given .1, ← c .before .number .ensures) (c .tell .ensures _)
+returns-2 c =
+    let arm = c .before .before .before in
+    let reading = arm .before .before .before .before in
+    rw (← reading .read .ensures .0, arm .refusal .given .1, ← c .before .number .ensures) (c .tell .ensures _)
 
 pub read-spec : {M : Type 1} → statement M
 read-spec =

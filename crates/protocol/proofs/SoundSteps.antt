@@ -1,0 +1,136 @@
+-- The rule of one session keeps it sound: every command while nothing is due, every answer to what is due, every decision.
+use Prim.Native.Nat.{ℕ, _≤_, _<_}
+use mathlib.Core.Path.{_≡_, refl, sym, _∙_}
+use mathlib.Core.Bool.{Bool, true, false}
+use mathlib.Core.Option.{Option, Option·some-injective}
+use mathlib.Core.List.{List}
+use native.Mathlib.Omega.{arith}
+use lib.ListN.{length}
+use Rattle.octets.specs.Members.{every}
+use Rattle.frames.proofs.Choices.{by-cond}
+use Rattle.command.specs.Letters.{safeByte}
+use Rattle.protocol.specs.Table.{idRoom, noFile, fileAt, fileIdOf, sessionUsed, fileUsed, isFree}
+use Rattle.protocol.specs.Replies.{noReply, sessionReply, failureStatus}
+use Rattle.protocol.specs.Change.{asks, opens}
+use Rattle.protocol.specs.Files.{Request, opening, isDirectory, openDue, writeDue}
+use Rattle.protocol.specs.Rule.{obeyedBy, grown, doneBy, failedBy, isAsked, decidedBy}
+use Rattle.protocol.specs.Sound.{IsId, FileIs, PartFits, SoundSession}
+use Rattle.protocol.specs.declared.FileState.the-variants as FileState
+use Rattle.protocol.specs.declared.SessionState.{SessionState}
+use Rattle.protocol.specs.declared.SessionState.the-variants as SessionState
+use Rattle.protocol.specs.declared.Session.{Session}
+use Rattle.protocol.specs.declared.Due.{Due}
+use Rattle.protocol.specs.declared.Due.the-variants as Due
+use Rattle.protocol.specs.declared.Status.the-variants as Status
+use Rattle.protocol.specs.declared.Failure.{Failure}
+use Rattle.protocol.specs.declared.Decision.{Decision}
+use Rattle.protocol.specs.declared.Decision.the-variants as Decision
+use Rattle.protocol.specs.declared.Told.the-variants as Told
+use Rattle.protocol.specs.declared.Change.{Change}
+use Rattle.protocol.proofs.Laws.{no-way, equals-same, first-at, found-at, found-nowhere}
+use Rattle.protocol.proofs.Ways.{NewFile, PartOf, Way, nothing, dropped, openAsked, partFailed, writeAsked, commitAsked, way}
+use Rattle.protocol.proofs.SoundRule.{Steps, tells-steps, drops-steps, opened-steps, settled-steps, file-failed-steps, none-opens}
+use Rattle.protocol.proofs.SoundRule.{asks-steps, opens-steps}
+
+-- ---- a command while nothing is due
+-- a file id that was read: it may be empty
+pub record IsFileId (k : List ℕ) : Type 0 where
+  pub safe : every safeByte k ≡ true
+  pub short : length k ≤ idRoom
+
+module _ {s : Session} (ok : SoundSession s Option.none) (q : Request) (id : IsFileId (q .file)) where
+  abbrev Kept : Change → Type 0
+  Kept = Steps true s Option.none
+
+  -- a new file's record
+  open-steps : (j : ℕ) → s .state ≡ SessionState.Open → NewFile s q j → (b : Bool) → Kept (opens j (opening (q .file)) (openDue b j))
+  open-steps j o n = go
+    where
+      within : j < length (s .files)
+      within = first-at isFree noFile (s .files) j (n .room) .0
+
+      the-id : IsId (q .file)
+      the-id = let some = n .some in record { safe = id .safe; some = omega arith; short = id .short }
+
+      differs : (k : ℕ) → fileUsed (fileAt s k) ≡ true → fileIdOf (fileAt s k) ≡ q .file → ⊥
+      differs k u e =
+          no-way (sym (equals-same _ _ e) ∙ found-nowhere fileUsed fileIdOf noFile (s .files) (q .file) refl (n .new) k u)
+
+      go : (b : Bool) → Kept (opens j (opening (q .file)) (openDue b j))
+      go true = opens-steps ok o j (q .file) (Due.OpenDirectory j) within the-id differs refl (λ f. f)
+      go false = opens-steps ok o j (q .file) (Due.OpenFile j) within the-id differs refl (λ f. f)
+
+  -- a part of a started file
+  started : (j : ℕ) → PartOf s q j → FileIs s j FileState.Started
+  started j p = record { within = found-at fileUsed fileIdOf noFile (s .files) (q .file) j (p .found) .0; state = p .started }
+
+  write-steps : (last : Bool) (j n : ℕ) → s .state ≡ SessionState.Open → PartFits s j n → Kept (asks (writeDue last j n))
+  write-steps true j n o fits = asks-steps ok o (Due.WriteLast j n) fits
+  write-steps false j n o fits = asks-steps ok o (Due.Write j n) fits
+
+  way-steps : {c : Change} → Way s q c → Kept c
+  way-steps (nothing w r _ _ _ _) = tells-steps w r ok
+  way-steps (dropped w r _ _) = drops-steps w r
+  way-steps (openAsked j o n) = open-steps j o n (isDirectory (q .type))
+  way-steps (partFailed j w o p) = file-failed-steps ok o j FileState.Started refl (started j p) (λ i. none-opens) w
+  way-steps (writeAsked last j o p short fits) =
+      write-steps last j (q .long) o (record { file = started j p; short = short; fits = fits })
+  way-steps (commitAsked o _ e) = asks-steps ok o Due.Commit e
+
+  pub obeyed-steps : sessionUsed s ≡ true → Kept (obeyedBy s q)
+  obeyed-steps u = way-steps (way s q u)
+
+-- ---- an answer to what is due
+-- the file whose open is due is the only one that is opening
+opens-only : {n j : ℕ} → Option.some j ≡ Option.some n → n ≡ j
+opens-only {n} {j} e = sym (Option·some-injective j n e)
+
+module _ {s : Session} where
+  -- the count is at most the cap, whatever was written
+  pub done-steps : (d : Due) → SoundSession s (Option.some d) → Steps false s (Option.some d) (doneBy s d)
+  unfolding doneBy
+  done-steps (Due.OpenFile j) ok =
+      let f = ok .fits in
+      settled-steps ok (f .0) j FileState.Opening refl (f .1) (λ n. opens-only) FileState.Started refl 0 (omega arith) Status.Started 0
+  done-steps (Due.OpenDirectory j) ok =
+      let f = ok .fits in
+      settled-steps ok (f .0) j FileState.Opening refl (f .1) (λ n. opens-only) FileState.Done refl 0 (omega arith) Status.Ok 0
+  done-steps (Due.Write j n) ok =
+      let f = ok .fits in
+      settled-steps ok (f .0) j FileState.Started refl (f .1 .file) (λ i. none-opens) FileState.Started refl (grown s j n) (omega arith)
+      Status.Progress (grown s j n)
+  done-steps (Due.WriteLast j n) ok =
+      let f = ok .fits in
+      settled-steps ok (f .0) j FileState.Started refl (f .1 .file) (λ i. none-opens) FileState.Done refl (grown s j n) (omega arith)
+      Status.Ok (grown s j n)
+  done-steps Due.Commit ok = drops-steps Told.Committed noReply
+
+  pub failed-steps : (e : Failure) (d : Due) → SoundSession s (Option.some d) → Steps false s (Option.some d) (failedBy e s d)
+  unfolding failedBy
+  failed-steps e (Due.OpenFile j) ok =
+      file-failed-steps ok (ok .fits .0) j FileState.Opening refl (ok .fits .1) (λ n. opens-only) (failureStatus e)
+  failed-steps e (Due.OpenDirectory j) ok =
+      file-failed-steps ok (ok .fits .0) j FileState.Opening refl (ok .fits .1) (λ n. opens-only) (failureStatus e)
+  failed-steps e (Due.Write j n) ok =
+      file-failed-steps ok (ok .fits .0) j FileState.Started refl (ok .fits .1 .file) (λ i. none-opens) (failureStatus e)
+  failed-steps e (Due.WriteLast j n) ok =
+      file-failed-steps ok (ok .fits .0) j FileState.Started refl (ok .fits .1 .file) (λ i. none-opens) (failureStatus e)
+  failed-steps e Due.Commit ok = drops-steps Told.Discarded (sessionReply (failureStatus e) s)
+
+-- ---- a decision, whatever is due
+pub asked-state : (g : SessionState) → isAsked g ≡ true → g ≡ SessionState.Asked
+asked-state SessionState.Absent e = no-way (sym e)
+asked-state SessionState.Asked e = refl
+asked-state SessionState.Open e = no-way (sym e)
+
+pub decided-steps : {s : Session} {due : Option Due} → SoundSession s due → (d : Decision) → Steps false s due (decidedBy d s)
+unfolding decidedBy
+decided-steps {s} {due} ok Decision.Allow =
+    by-cond (Steps false s due) (isAsked (s .state))
+    (λ e. opened-steps Told.Nothing (sessionReply Status.Ok s) ok (asked-state (s .state) e))
+    (λ _. tells-steps (Told.Refused 12) noReply ok)
+decided-steps {s} {due} ok Decision.Deny =
+    by-cond (Steps false s due) (isAsked (s .state))
+    (λ _. drops-steps Told.Nothing (sessionReply Status.Eperm s))
+    (λ _. tells-steps (Told.Refused 12) noReply ok)
+decided-steps ok Decision.Drop = drops-steps Told.Nothing noReply

@@ -1,0 +1,112 @@
+-- What holds of the table alone, whatever the history: of every table that calls on a fresh receiver make, with any bytes lent.
+use Prim.Native.Nat.{ℕ, _+_, _≤_, _<_}
+use mathlib.Core.Path.{_≡_}
+use mathlib.Core.Bool.{Bool, true, false, cond}
+use mathlib.Core.Option.{Option}
+use mathlib.Core.List.{List, [], _∷_}
+use lib.ListN.{length, getD}
+use lib.Dec.{eqb}
+use Rattle.octets.specs.Members.{every}
+use Rattle.command.specs.Letters.{safeByte}
+use Rattle.protocol.specs.Table.{sessionRoom, fileRoom, idRoom, freeFile, absentSession, noFile, noSession, sessionAt, fileAt}
+use Rattle.protocol.specs.Table.{idOf, fileIdOf, padded, first, sessionUsed, fileUsed, isStarted}
+use Rattle.protocol.specs.Files.{partLimit, countLimit}
+use Rattle.protocol.specs.Machine.{Machine, Call, World, step, start}
+use Rattle.protocol.specs.declared.FileState.{FileState}
+use Rattle.protocol.specs.declared.FileState.the-variants as FileState
+use Rattle.protocol.specs.declared.FileRecord.{FileRecord}
+use Rattle.protocol.specs.declared.SessionState.the-variants as SessionState
+use Rattle.protocol.specs.declared.Session.{Session}
+use Rattle.protocol.specs.declared.Due.{Due}
+use Rattle.protocol.specs.declared.Due.the-variants as Due
+use Rattle.protocol.specs.declared.Owed.{Owed}
+use Rattle.protocol.specs.declared.Owed.the-variants as Owed
+use Rattle.protocol.specs.declared.Table.{Table}
+use Rattle.protocol.specs.declared.Found.the-variants as Found
+
+-- ---- ids
+-- an id that was read: "safe string, at most 32 bytes", and not empty
+pub record IsId (k : List ℕ) : Type 0 where
+  pub safe : every safeByte k ≡ true
+  pub some : 1 ≤ length k
+  pub short : length k ≤ idRoom
+
+-- the used members differ in their ids
+abbrev pub Unique : {A : Type 0} → (A → Bool) → (A → List ℕ) → A → List A → Type 0
+Unique used key d l =
+    (j j′ : ℕ) → used (getD l j d) ≡ true → used (getD l j′ d) ≡ true → key (getD l j d) ≡ key (getD l j′ d) → j ≡ j′
+
+-- ---- a file record: its id padded with zeros, its count at most 2^40; a free one is blank
+pub record SoundFile (f : FileRecord) : Type 0 where
+  pub blank : fileUsed f ≡ false → f ≡ freeFile
+  pub named : fileUsed f ≡ true → IsId (fileIdOf f)
+  pub filled : f .id ≡ padded (fileIdOf f)
+  pub counted : f .count ≤ countLimit
+
+-- ---- what is due for a session
+-- its file j is in a state
+pub record FileIs (s : Session) (j : ℕ) (g : FileState) : Type 0 where
+  pub within : j < length (s .files)
+  pub state : fileAt s j .state ≡ g
+
+-- "at most 4,096 decoded bytes", and the count with them at most 2^40
+pub record PartFits (s : Session) (j n : ℕ) : Type 0 where
+  pub file : FileIs s j FileState.Started
+  pub short : n ≤ partLimit
+  pub fits : fileAt s j .count + n ≤ countLimit
+
+abbrev pub Fits : Session → Due → Type 0
+Fits s (Due.OpenFile j) = FileIs s j FileState.Opening
+Fits s (Due.OpenDirectory j) = FileIs s j FileState.Opening
+Fits s (Due.Write j n) = PartFits s j n
+Fits s (Due.WriteLast j n) = PartFits s j n
+Fits s Due.Commit = first isStarted (s .files) ≡ Found.Nowhere
+
+-- only an open session is asked for something
+abbrev pub DueFits : Session → Option Due → Type 0
+DueFits s Option.none = Unit {0}
+DueFits s (Option.some d) = (s .state ≡ SessionState.Open) × Fits s d
+
+-- the file whose open is due
+abbrev pub opensAt : Option Due → Option ℕ
+opensAt Option.none = Option.none
+opensAt (Option.some (Due.OpenFile j)) = Option.some j
+opensAt (Option.some (Due.OpenDirectory j)) = Option.some j
+opensAt (Option.some (Due.Write j n)) = Option.none
+opensAt (Option.some (Due.WriteLast j n)) = Option.none
+opensAt (Option.some Due.Commit) = Option.none
+
+-- ---- a session, with what is due for it
+pub record SoundSession (s : Session) (due : Option Due) : Type 0 where
+  pub room : length (s .files) ≡ fileRoom
+  -- an absent one is blank, and one that is not open has no file
+  pub blank : sessionUsed s ≡ false → s ≡ absentSession
+  pub shut : (s .state ≡ SessionState.Open → ⊥) → (j : ℕ) → fileAt s j ≡ freeFile
+  pub named : sessionUsed s ≡ true → IsId (idOf s)
+  pub filled : s .id ≡ padded (idOf s)
+  pub quiet : s .quiet ≤ 2
+  -- its files have different ids
+  pub alone : Unique fileUsed fileIdOf noFile (s .files)
+  pub each : (j : ℕ) → SoundFile (fileAt s j)
+  -- a file is opening exactly where its open is due
+  pub opening : (j : ℕ) → fileAt s j .state ≡ FileState.Opening → opensAt due ≡ Option.some j
+  pub fits : DueFits s due
+
+-- what is due for the session at a place
+abbrev pub dueOf : Owed → ℕ → Option Due
+dueOf Owed.Nothing i = Option.none
+dueOf (Owed.For k d) i = cond (eqb k i) (Option.some d) Option.none
+
+-- ---- the table: present sessions have different ids. What is owed is due for an open session, so its place is one of the four.
+pub record Sound (t : Table) : Type 0 where
+  pub room : length (t .sessions) ≡ sessionRoom
+  pub alone : Unique sessionUsed idOf noSession (t .sessions)
+  pub each : (i : ℕ) → SoundSession (sessionAt t i) (dueOf (t .owed) i)
+
+-- ---- the claim: at each of any list of calls, refused ones too, whatever they are lent
+abbrev pub AllSound : Machine → World → List Call → Type 0
+AllSound m w [] = Sound (w .receiver .table)
+AllSound m w (c ∷ cs) = Sound (w .receiver .table) × AllSound m (step m w c) cs
+
+abbrev pub EverySound : Machine → Type 0
+EverySound m = (carry : List ℕ) (calls : List Call) → AllSound m (start carry) calls

@@ -1,0 +1,26 @@
+use mathlib.Core.Path.{_≡_}
+use native.Mathlib.Omega.{arith}
+use lib.ListN.{length}
+use lib.Seq.{set-out}
+use Rattle.session_rule.proofs.ArrayLaws.{length-mapped}
+use borrow.Author.Needs.{needs}
+use Rattle.sessions.proofs.changes.put_file.Statement.{statement}
+use Rattle.sessions.proofs.changes.put_file.Tie as tie
+
+mul-file : tie.Need-mul-file
+mul-file c = search needs
+
+element-set-from-file : tie.Need-element-set-from-file
+element-set-from-file c = search needs
+
+returns : tie.Need-returns
+returns c = search needs
+
+returns-2 : tie.Need-returns-2
+returns-2 c =
+    let a = c .before .args in
+    let e : length (a .session .files) ≡ 32 = search (needs, length-mapped) in
+    rw (set-out (a .session .files) (a .j) (a .file) (omega arith))
+
+pub put-file-spec : {M : Type 1} → statement M
+put-file-spec = tie.close (tie.spec mul-file element-set-from-file returns returns-2)

@@ -1,0 +1,89 @@
+// A session's change: the session edited, what is owed afterwards, and what is told.
+ghost use mathlib.Core.Path.{_≡_};
+ghost use Rattle.protocol.specs.Change.{edited, cleared, owedAfter, askOf, toldBy};
+ghost use Rattle.protocol.specs.Table.{putFile};
+use crate::places::emptied;
+use command::Place;
+use protocol::Ask;
+use protocol::Due;
+use protocol::Edit;
+use protocol::FileRecord;
+use protocol::News;
+use protocol::Owed;
+use protocol::Session;
+use protocol::SessionState;
+use protocol::Told;
+
+pub(crate) fn edited(session: Session, file: FileRecord, edit: Edit) -> Session
+    ensures { λ r. ⌜ r ≡ edited session file edit ⌝ }
+{
+    match edit {
+        Edit::Same => session,
+        Edit::Opened => Session {
+            state: SessionState::Open,
+            ..session
+        },
+        Edit::Filed(j) => put_file(session, j, file),
+        Edit::Dropped => emptied(session),
+    }
+}
+
+fn put_file(session: Session, j: usize, file: FileRecord) -> Session
+    ensures { λ r. ⌜ r ≡ putFile session j file ⌝ }
+{
+    if j < Session::FILES {
+        let mut next = session;
+        next.files[j] = file;
+        next
+    } else {
+        session
+    }
+}
+
+// What is owed afterwards, the session's place being i.
+pub(crate) fn owed_after(owed: Owed, i: usize, news: News) -> Owed
+    ensures { λ r. ⌜ r ≡ owedAfter owed i news ⌝ }
+{
+    match news {
+        News::Tells(_) => owed,
+        News::Clears(_) => clear(i, owed),
+        News::Asks(due) => Owed::For(i, due),
+    }
+}
+
+// What the session at place i owed is cleared, and nothing that another owes.
+fn clear(i: usize, owed: Owed) -> Owed
+    ensures { λ r. ⌜ r ≡ cleared i owed ⌝ }
+{
+    match owed {
+        Owed::Nothing => Owed::Nothing,
+        Owed::For(k, _) => {
+            if k == i {
+                return Owed::Nothing;
+            }
+            owed
+        }
+    }
+}
+
+pub(crate) fn told_by(payload: Place, news: News) -> Told
+    ensures { λ r. ⌜ r ≡ toldBy payload news ⌝ }
+{
+    match news {
+        News::Tells(told) => told,
+        News::Clears(told) => told,
+        News::Asks(due) => Told::Ask(ask_of(payload, due)),
+    }
+}
+
+fn ask_of(payload: Place, due: Due) -> Ask
+    ensures { λ r. ⌜ r ≡ askOf payload due ⌝ }
+{
+    match due {
+        Due::OpenFile(_) => Ask::Open,
+        Due::OpenDirectory(_) => Ask::Open,
+        Due::Write(_, _) => Ask::Write(payload),
+        Due::WriteLast(_, _) => Ask::WriteLast(payload),
+        Due::Commit => Ask::Commit,
+    }
+}

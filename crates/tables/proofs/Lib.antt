@@ -1,4 +1,0 @@
-pub mod ArrayLaws
-pub mod SearchLaws
-pub mod CountLaws
-pub mod PadLaws
