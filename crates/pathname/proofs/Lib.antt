@@ -1,2 +1,4 @@
+pub mod Leads
 pub mod Sequences
+pub mod Alone
 pub mod Components

@@ -6,6 +6,7 @@ mod utf8;
 ghost use mathlib.Core.Path.{_≡_};
 ghost use Prim.Native.Nat.{_+_, _-_};
 ghost use Rattle.octets.specs.Claims.{Divides};
+ghost use Rattle.pathname.specs.Claims.{CutsCharactersNowhere};
 ghost use Rattle.pathname.specs.Name.{validName, validComponents, validComponent, rooted};
 
 // "1 to 4,096 bytes"
@@ -46,10 +47,12 @@ fn is_rooted(name: &[u8]) -> bool
     octets::starts_with(name, b"~/")
 }
 
-// Whether each component is good. That the components are what stands between slashes stands here.
+// Whether each component is good. That the components are what stands between slashes stands here, and
+// that a slash cuts no character.
 fn has_valid_components(name: &[u8]) -> bool
     ensures { λ r. ⌜ r ≡ validComponents (now (name .entry)) ⌝ }
     ensures { λ _. ⌜ Divides ⌝ }
+    ensures { λ _. ⌜ CutsCharactersNowhere ⌝ }
 {
     let mut at = 0;
     while at <= name.len() {

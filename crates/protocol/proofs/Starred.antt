@@ -10,7 +10,7 @@ use Rattle.base64.specs.Encode as Encode
 use Rattle.decimal.specs.Read as Read
 use Rattle.decimal.specs.Write as Write
 use Rattle.pathname.specs.Name.{rooted, validComponent, validComponents, validName}
-use Rattle.pathname.specs.Utf8.{followers, sequences}
+use Rattle.pathname.specs.Utf8.{followersIn, sequences}
 use Rattle.frames.specs.Stream.{readByte, stream}
 use Rattle.frames.specs.Framings.{mayBeCommand}
 use Rattle.frames.specs.Steps.{stepOf, walkFrom}
@@ -47,7 +47,7 @@ unfolding Read.parseOf Read.magnitudeOf Read.digitsOf Read.rangedOf Write.writab
 decimal = tt
 
 pathname : Unit {0}
-unfolding rooted validComponent validComponents validName followers sequences
+unfolding rooted validComponent validComponents validName followersIn sequences
 pathname = tt
 
 frames : Unit {0}

@@ -8,6 +8,7 @@ use Rattle.octets.proofs.Splits.{divides}
 use borrow.Author.Needs.{needs}
 use borrow.Author.Tests.{le-leb, lt-leb, not-true, not-false}
 use Rattle.pathname.specs.Name.{validComponents}
+use Rattle.pathname.proofs.Alone.{cuts-nowhere}
 use Rattle.pathname.proofs.Components.{restValid, rest-at}
 use Rattle.pathname.proofs.has_valid_components.Statement.{statement}
 use Rattle.pathname.proofs.has_valid_components.Tie as tie
@@ -55,7 +56,7 @@ is-valid-component-requires : tie.Need-is-valid-component-requires Inv-loop μ-l
 is-valid-component-requires c κs = search needs
 
 returns : tie.Need-returns Inv-loop μ-loop
-returns c = (sym (turn (c .before) ∙ rw (not-true (c .before .is-valid-component .result) (c .if1 .taken))), divides)
+returns c = (sym (turn (c .before) ∙ rw (not-true (c .before .is-valid-component .result) (c .if1 .taken))), (divides, cuts-nowhere))
 
 add-at : tie.Need-add-at Inv-loop μ-loop
 add-at c = omega (arith, within (c .before .before .before))
@@ -71,7 +72,7 @@ loop-again c =
 returns-2 : tie.Need-returns-2 Inv-loop μ-loop
 returns-2 c =
     let l = c .before .loop in
-    (rw (lt-leb (l .at) (length (c .before .before .before .args .name .now)) (omega arith)) at (l .inv .1), divides)
+    (rw (lt-leb (l .at) (length (c .before .before .before .args .name .now)) (omega arith)) at (l .inv .1), (divides, cuts-nowhere))
 
 pub has-valid-components-spec : {M : Type 1} → statement M
 has-valid-components-spec =
