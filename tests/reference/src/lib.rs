@@ -1,4 +1,4 @@
-//! An independent receiver, written from document 01, its readings and the scripted console's paper.
+//! An independent receiver, written from document 01, its readings, the orders' pages and the scripted console's paper.
 
 pub mod console;
 pub mod receiver;

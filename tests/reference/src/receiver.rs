@@ -9,6 +9,7 @@ mod reply;
 mod rules;
 pub mod scan;
 mod session;
+mod utf8;
 
 pub use reply::Status;
 pub use session::Id;

@@ -2,7 +2,7 @@
 //! a paper, or for document 01's cases written from its rules; none was made by the program.
 
 use reference::console::{self, Console};
-use reference::receiver::{command, name, Answer, Refusal, Told};
+use reference::receiver::{base64, command, name, Answer, Refusal, Told};
 use reference::replay::Replay;
 use reference::script::Op;
 
@@ -85,8 +85,8 @@ fn reply(bytes: &[u8]) -> String {
     let value =
         |key: &str| text.split(';').find_map(|field| field.strip_prefix(key)?.strip_prefix('='));
     let st = value("st").unwrap().as_bytes();
-    let mut word = vec![0; reference::receiver::base64::check(st).unwrap()];
-    reference::receiver::base64::decode(st, &mut word);
+    let mut word = vec![0; base64::check(st).unwrap()];
+    base64::decode(st, &mut word);
     let fid = value("fid").map_or(String::new(), |fid| format!("/{fid}"));
     let size = value("sz").map_or(String::new(), |size| format!("={size}"));
     format!("{}{fid}{size}", String::from_utf8(word).unwrap())
@@ -175,7 +175,7 @@ fn check(file: &str) -> usize {
             "carry" => assert_eq!(carry(given), bytes(expected), "{line}"),
             "run" => assert_eq!(run(given), expected, "{line}"),
             "replay" => assert_eq!(replay(given), bytes(expected), "{line}"),
-            "name" => assert_eq!(name::good(&bytes(given)), expected == "good", "{line}"),
+            "name" | "name2" => assert_eq!(name::good(&bytes(given)), expected == "good", "{line}"),
             _ => panic!("no such kind: {line}"),
         }
         count += 1;
@@ -191,6 +191,61 @@ fn the_readings() {
 #[test]
 fn document_01() {
     assert_eq!(check(include_str!("document01.txt")), DOCUMENT);
+}
+
+/// The page's places for a sequence: after `/` and after `~/a`, each at the end and with `/z` behind it.
+fn names_with(sequence: &[u8]) -> Vec<Vec<u8>> {
+    let places = [("/", ""), ("/", "/z"), ("~/a", ""), ("~/a", "/z")];
+    places.iter().map(|(a, b)| [a.as_bytes(), sequence, b.as_bytes()].concat()).collect()
+}
+
+/// What a file command with this name gives in an open session.
+fn run_file(name: &[u8]) -> String {
+    let mut encoded = vec![0; name.len().div_ceil(3) * 4];
+    base64::encode(name, &mut encoded);
+    let encoded = String::from_utf8(encoded).unwrap();
+    let file = format!("^[]5113;ac=file;id=m;fid=a;n={encoded}^[\\");
+    run(&format!("^[]5113;ac=send;id=m^[\\ | [allow m] | {file}"))
+}
+
+#[test]
+fn the_edges_of_order_2() {
+    let mut count = 0;
+    for line in include_str!("order02.txt").lines().filter(|line| !line.starts_with('#')) {
+        let (words, sequences) = line.split_once(": ").unwrap();
+        let good = words == "good";
+        assert!(good || words.starts_with("bad "), "{line}");
+        let last = if good { "ask open" } else { "status EINVAL/a" };
+        for notation in sequences.split("  ") {
+            let byte = |hex| u8::from_str_radix(hex, 16).unwrap();
+            let sequence: Vec<u8> = notation.split(' ').map(byte).collect();
+            for name in names_with(&sequence) {
+                assert_eq!(name::good(&name), good, "{notation}");
+                assert_eq!(run_file(&name), format!("asked | ok OK | {last}"), "{notation}");
+            }
+            count += 1;
+        }
+    }
+    assert_eq!(count, ORDER_2);
+}
+
+#[test]
+fn an_overlong_slash() {
+    assert!(!name::good(b"/..\xc0\xafx"));
+    assert!(!name::good(b"/a\xc0\xaf.."));
+}
+
+/// Order 2 touches the names of files alone.
+#[test]
+fn what_is_only_read_may_be_any_bytes() {
+    // C0 AF and 80.
+    for value in ["wK8=", "gA=="] {
+        for key in ["n", "st", "d"] {
+            assert_eq!(read(&format!("5113;ac=status;id=m;{key}={value}")), "0");
+        }
+        let send = format!("^[]5113;ac=send;id=m;n={value};st={value}^[\\");
+        assert_eq!(run(&send), "asked");
+    }
 }
 
 #[test]
@@ -238,5 +293,6 @@ fn bad_scripts() {
 }
 
 /// The number of examples in each file, so that none is lost unseen.
-const READINGS: usize = 146;
+const READINGS: usize = 145;
 const DOCUMENT: usize = 18;
+const ORDER_2: usize = 60;

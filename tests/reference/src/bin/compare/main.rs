@@ -15,6 +15,7 @@ mod programs;
 mod recordings;
 mod rng;
 mod scripts;
+mod sequences;
 mod shrink;
 mod special;
 mod streams;

@@ -2,6 +2,7 @@
 
 use crate::fields::random_bytes;
 use crate::rng::Rng;
+use crate::sequences;
 
 const PLAIN: [&[u8]; 26] = [
     b"/A",
@@ -32,39 +33,9 @@ const PLAIN: [&[u8]; 26] = [
     b"~/a b",
 ];
 
-/// Sequences at the edges of UTF-8: whole, cut, overlong, surrogates, beyond its end.
-const SEQUENCES: [&[u8]; 26] = [
-    b"\x7f",
-    b"\x80",
-    b"\xbf",
-    b"\xc0\x80",
-    b"\xc0\xaf",
-    b"\xc1\xbf",
-    b"\xc2\x80",
-    b"\xc3",
-    b"\xc3\xa9",
-    b"\xdf\xbf",
-    b"\xdf\x7f",
-    b"\xdf\xc0",
-    b"\xe0\x80\x80",
-    b"\xe2\x82\xac",
-    b"\xe2\x82",
-    b"\xed\xa0\x80",
-    b"\xef\xbf\xbf",
-    b"\xef\xbf\x2f",
-    b"\xf0\x9f\x98\x80",
-    b"\xf0\x9f\x98",
-    b"\xf4\x8f\xbf\xbf",
-    b"\xf4\x90\x80\x80",
-    b"\xf7\xbf\xbf\xbf",
-    b"\xf8\x80\x80\x80",
-    b"\xfe",
-    b"\xff",
-];
-
 /// Any name, about half of them good.
 pub fn name(rng: &mut Rng) -> Vec<u8> {
-    match rng.weighted(&[30, 35, 15, 8, 8, 4]) {
+    match rng.weighted(&[25, 45, 13, 7, 7, 3]) {
         0 => rng.pick(&PLAIN).to_vec(),
         1 => with_sequence(rng),
         2 => {
@@ -91,21 +62,29 @@ pub fn good(rng: &mut Rng) -> Vec<u8> {
     }
 }
 
+/// One sequence that may be bad, alone or among good ones: so only it decides.
 fn with_sequence(rng: &mut Rng) -> Vec<u8> {
-    let mut name = rng.word(&["/", "~/", "/a/", "/..", "/x"]).to_vec();
-    for _ in 0..rng.within(1, 3) {
-        let sequence = *rng.pick(&SEQUENCES);
-        name.extend_from_slice(sequence);
+    let mut name = rng.word(&["/", "~/", "/a/", "/..", "/x", "~/a"]).to_vec();
+    for _ in 0..rng.weighted(&[60, 30, 10]) {
+        name.extend_from_slice(sequences::good(rng));
+    }
+    name.extend(sequences::any(rng));
+    if rng.chance(30) {
+        name.extend_from_slice(sequences::good(rng));
     }
     if rng.chance(40) {
-        name.extend_from_slice(rng.word(&["/", "/b", "z", "/.."]));
+        name.extend_from_slice(rng.word(&["/", "/b", "z", "/z", "/.."]));
     }
     name
 }
 
+/// Bytes count, not characters.
 fn with_component(rng: &mut Rng, len: usize) -> Vec<u8> {
     let mut name = rng.word(&["/", "~/", "/a/"]).to_vec();
-    name.resize(name.len() + len, b'x');
+    let character = rng.word(&["x", "x", "\u{e9}", "\u{20ac}"]);
+    let component = character.repeat(len / character.len());
+    name.extend_from_slice(&component);
+    name.resize(name.len() + len - component.len(), b'x');
     name.extend_from_slice(rng.word(&["", "/", "/b"]));
     name
 }

@@ -1,6 +1,9 @@
-//! Cases that no seed makes: scripts at the length limit, scripts that are none, tiny recordings.
+//! Cases that no seed makes: scripts at the length limit, scripts that are none, tiny recordings, every edge of UTF-8.
 
+use crate::fields::{encoded, Fields};
+use crate::framing::framed;
 use crate::judge::{Case, Tally};
+use crate::sequences;
 use reference::console::LONGEST_SCRIPT;
 
 /// Judges them all, each in a run of its own.
@@ -40,7 +43,7 @@ fn long(len: usize) -> Vec<u8> {
     script
 }
 
-/// Tiny recordings, and document 01's example cut off at many places.
+/// Tiny recordings, document 01's example cut off at many places, and files with every edge of UTF-8 in their names.
 pub fn recordings() -> Vec<Case> {
     let example: &[u8] = b"\x1b]5113;ac=send;id=m\x1b\\\x1b]5113;ac=file;id=m;fid=a;n=L256\x1b\\\
         \x1b]5113;ac=data;id=m;fid=a;d=YWJj\x1b\\\x1b]5113;ac=end_data;id=m;fid=a\x1b\\\
@@ -51,5 +54,21 @@ pub fn recordings() -> Vec<Case> {
         .collect();
     // Every cut of the example, as a recording that ends there.
     all.extend((1..example.len()).step_by(7).map(|len| example[..len].to_vec()));
+    all.extend([("/", ""), ("/", "/z"), ("~/a", ""), ("~/a", "/z")].map(edges));
     named("recording", all)
+}
+
+/// A file for each listed sequence, in this place of a name. The session begins anew before its 32 files are full.
+fn edges((before, behind): (&str, &str)) -> Vec<u8> {
+    let mut recording = Vec::new();
+    for (i, sequence) in sequences::listed().enumerate() {
+        if i % 32 == 0 {
+            recording.extend(framed(&Fields::new("cancel", b"m").text()));
+            recording.extend(framed(&Fields::new("send", b"m").text()));
+        }
+        let name = [before.as_bytes(), sequence, behind.as_bytes()].concat();
+        let file = Fields::new("file", b"m").with("fid", i.to_string().as_bytes());
+        recording.extend(framed(&file.with("n", &encoded(&name)).text()));
+    }
+    recording
 }
