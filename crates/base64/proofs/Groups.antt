@@ -13,7 +13,7 @@ use Rattle.base64.specs.Alphabet.{pad, valueOf}
 use Rattle.base64.specs.Decode.{unused, ending, scan, verdictOf}
 use Rattle.base64.specs.declared.Fault.{Fault}
 use Rattle.base64.specs.declared.Verdict.the-variants.{Valid, Invalid}
-use Rattle.base64.proofs.Letters.{Letter, is-letter, value-pad, not-pad}
+use Rattle.base64.proofs.Letters.{Letter, is-letter, value-pad}
 
 -- a text with that many padding characters
 pub data Groups : List ℕ → ℕ → Type 0 where
@@ -46,10 +46,10 @@ groups-length (full ha hb hc hd g) = omega (arith, groups-length g)
 groups-length (pad1 ha hb hc z) = refl
 groups-length (pad2 ha hb z) = refl
 
--- a group that is not the last has no padding
-pub full-group : {a b c d k : ℕ} {r : List ℕ} → Groups (a ∷ b ∷ c ∷ d ∷ r) k → 0 < length r → (c ≡ pad → ⊥) × (d ≡ pad → ⊥) × Groups r k
-full-group (full {a} {b} {c} {d} ha hb hc hd g) h =
-    ((λ e. eqb-false _ _ (not-pad c hc) e), (λ e. eqb-false _ _ (not-pad d hd) e), g)
+-- a group that is not the last is of letters
+pub full-group : {a b c d k : ℕ} {r : List ℕ} → Groups (a ∷ b ∷ c ∷ d ∷ r) k → 0 < length r
+    → (Letter a) × (Letter b) × (Letter c) × (Letter d) × Groups r k
+full-group (full ha hb hc hd g) h = (ha, hb, hc, hd, g)
 full-group (pad1 ha hb hc z) h = absurd (omega arith)
 full-group (pad2 ha hb z) h = absurd (omega arith)
 

@@ -1,6 +1,9 @@
 pub mod Turns
+pub mod Tabled
+pub mod Words
 pub mod Letters
 pub mod Groups
+pub mod Inner
 pub mod Lengths
 pub mod RoundTrip
 pub mod Calls

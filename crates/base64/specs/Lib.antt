@@ -1,4 +1,5 @@
 pub mod Alphabet
+pub mod Values
 pub mod Decode
 pub mod Letters
 pub mod Encode

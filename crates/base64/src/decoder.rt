@@ -1,34 +1,33 @@
 // Decoding in two passes: the whole text is checked, and then its bytes are stored.
 ghost use mathlib.Core.Path.{_≡_};
-ghost use Prim.Native.Nat.{_+_, _≤_};
-ghost use lib.ListN.{length, drop};
+ghost use Prim.Native.Nat.{ℕ, _+_, _*_, _/_, _%_, _≤_, _<_};
+ghost use lib.ListN.{length, take, drop};
 ghost use lib.Seq.{sets};
 ghost use Rattle.octets.specs.Members.{every};
 ghost use Rattle.base64.specs.Decode.{scan, verdictOf, bytesOf};
 ghost use Rattle.base64.specs.Decode as Decode;
 ghost use Rattle.base64.specs.declared.Verdict.the-variants as Verdict;
 ghost use Rattle.base64.specs.Letters.{isLetter, valueBefore};
+ghost use Rattle.base64.specs.Values.{values};
 use crate::Fault;
 use crate::Verdict;
 use crate::alphabet::value;
 
 const PAD: u8 = 61;
 
-// How many characters are tested at once.
-const BLOCK: usize = 64;
-
 // What the whole text is. Its characters are taken left to right; p is the value of the last.
-pub(crate) fn check(text: &[u8]) -> Verdict
+pub(crate) fn check(table: &[u8; 256], text: &[u8]) -> Verdict
+    requires { ⌜ now table ≡ values ⌝ }
     ensures { λ r. ⌜ r ≡ verdictOf (now (text .entry)) ⌝ }
 {
     if text.len() % 4 != 0 {
         return Verdict::Invalid(Fault::Length);
     }
-    let mut i = pass_letters(text);
-    let mut p = before(text, i);
+    let mut i = pass_letters(table, text);
+    let mut p = before(table, text, i);
     while i < text.len() {
         let c = text[i];
-        let v = value(c);
+        let v = value(table, c);
         i += 1;
         if v == 64 {
             if c == PAD {
@@ -41,44 +40,44 @@ pub(crate) fn check(text: &[u8]) -> Verdict
     Verdict::Valid(0)
 }
 
-// Passes blocks of letters: a place from which on the text is what it is from its start on.
-fn pass_letters(text: &[u8]) -> usize
+// Passes letters, four at a time: a place from which on the text is what it is from its start on.
+fn pass_letters(table: &[u8; 256], text: &[u8]) -> usize
+    requires { ⌜ now table ≡ values ⌝ }
     ensures { λ r. ⌜ (r ≤ length (now (text .entry)))
         × (scan (valueBefore (now (text .entry)) r) (drop r (now (text .entry))) ≡ scan 0 (now (text .entry))) ⌝ }
 {
     let mut i = 0;
-    while text.len() - i >= BLOCK {
-        let e = i + BLOCK;
-        if !letters(&text[i..e]) {
+    while text.len() - i >= 4 {
+        if !four(table, text, i) {
             break;
         }
-        i = e;
+        i += 4;
     }
     i
 }
 
-// Whether each byte of s is a letter. No early way out, so that many are tested at once.
-fn letters(s: &[u8]) -> bool
-    ensures { λ r. ⌜ r ≡ every isLetter (now (s .entry)) ⌝ }
+// Whether four letters stand at place i. A byte that is none has the value 64, a bit that no letter has: one
+// test for the four, where a branch each would cost more than the look-ups.
+fn four(table: &[u8; 256], text: &[u8], i: usize) -> bool
+    requires { ⌜ (now table ≡ values) × (i + 4 ≤ length (now text)) ⌝ }
+    ensures { λ r. ⌜ r ≡ every isLetter (take 4 (drop i (now (text .entry)))) ⌝ }
 {
-    let mut all = true;
-    let mut k = 0;
-    while k < s.len() {
-        all = all & (value(s[k]) != 64);
-        k += 1;
-    }
-    all
+    let a = value(table, text[i]);
+    let b = value(table, text[i + 1]);
+    let c = value(table, text[i + 2]);
+    let d = value(table, text[i + 3]);
+    (a | b | c | d) < 64
 }
 
 // The value of the character before place i, and 0 at the start.
-fn before(text: &[u8], i: usize) -> u8
-    requires { ⌜ i ≤ length (now text) ⌝ }
+fn before(table: &[u8; 256], text: &[u8], i: usize) -> u8
+    requires { ⌜ (now table ≡ values) × (i ≤ length (now text)) ⌝ }
     ensures { λ r. ⌜ r ≡ valueBefore (now (text .entry)) i ⌝ }
 {
     if i == 0 {
         return 0;
     }
-    value(text[i - 1])
+    value(table, text[i - 1])
 }
 
 // What the text is by its end: before place i stands its first `=`, before that the value p.
@@ -109,64 +108,103 @@ fn unused(bits: u8, padding: usize) -> Verdict
     Verdict::Invalid(Fault::UnusedBits)
 }
 
-// Stores the bytes of a valid text in `out` from place `at` on. Only the last group has padding.
-pub(crate) fn fill(text: &[u8], padding: usize, out: &mut [u8], at: usize)
+// Stores the bytes of a valid text in `out` from place `at` on, two groups a turn: their words are made side by side.
+pub(crate) fn fill(table: &[u8; 256], text: &[u8], padding: usize, out: &mut [u8], at: usize)
+    requires { ⌜ now table ≡ values ⌝ }
     requires { ⌜ (verdictOf (now text) ≡ Verdict.Valid padding) × (at + length (bytesOf (now text)) ≤ length (now out)) ⌝ }
     ensures { λ _. ⌜ now (out .exit) ≡ sets (now (out .entry)) at (bytesOf (now (text .entry))) ⌝ }
 {
     let mut i = 0;
     let mut o = at;
-    while text.len() - i > 4 {
-        let a = value(text[i]);
-        let b = value(text[i + 1]);
-        let c = value(text[i + 2]);
-        let d = value(text[i + 3]);
-        out[o] = byte1(a, b);
-        out[o + 1] = byte2(b, c);
-        out[o + 2] = byte3(c, d);
-        i += 4;
-        o += 3;
+    while text.len() - i > 8 {
+        put(table, text, i, out, o);
+        put(table, text, i + 4, out, o + 3);
+        i += 8;
+        o += 6;
     }
-    if i < text.len() {
-        last(text, i, out, o);
-    }
+    rest(table, text, i, out, o);
 }
 
-// Stores the bytes of the last group, which starts at place i, from place o on.
-fn last(text: &[u8], i: usize, out: &mut [u8], o: usize)
+// Stores the bytes of the last groups, two at most, from place o on. Only the last of all has padding.
+fn rest(table: &[u8; 256], text: &[u8], i: usize, out: &mut [u8], o: usize)
+    requires { ⌜ (now table ≡ values) × ((k : ℕ) × (verdictOf (drop i (now text)) ≡ Verdict.Valid k)) ⌝ }
+    requires { ⌜ (i ≤ length (now text)) × (length (now text) ≤ i + 8) ⌝ }
+    requires { ⌜ o + length (bytesOf (drop i (now text))) ≤ length (now out) ⌝ }
+    ensures { λ _. ⌜ now (out .exit) ≡ sets (now (out .entry)) o (bytesOf (drop i (now (text .entry)))) ⌝ }
+{
+    let left = text.len() - i;
+    if left == 0 {
+        return;
+    }
+    if left == 4 {
+        last(table, text, i, out, o);
+        return;
+    }
+    put(table, text, i, out, o);
+    last(table, text, i + 4, out, o + 3);
+}
+
+// Stores the three bytes of a group that is not the last: those of the groups after it are left to store.
+fn put(table: &[u8; 256], text: &[u8], i: usize, out: &mut [u8], o: usize)
+    requires { ⌜ (now table ≡ values) × ((k : ℕ) × (verdictOf (drop i (now text)) ≡ Verdict.Valid k)) ⌝ }
+    requires { ⌜ (i + 4 < length (now text)) × (o + length (bytesOf (drop i (now text))) ≤ length (now out)) ⌝ }
+    ensures { λ _. ⌜ sets (now (out .exit)) (o + 3) (bytesOf (drop (i + 4) (now (text .entry))))
+        ≡ sets (now (out .entry)) o (bytesOf (drop i (now (text .entry)))) ⌝ }
+{
+    let a = value(table, text[i]);
+    let b = value(table, text[i + 1]);
+    let c = value(table, text[i + 2]);
+    let d = value(table, text[i + 3]);
+    let w = word(a, b, c, d);
+    out[o] = byte1(w);
+    out[o + 1] = byte2(w);
+    out[o + 2] = byte3(w);
+}
+
+// Stores the bytes of the last group, which starts at place i, from place o on. The value of a `=`, 64,
+// counts as 0.
+fn last(table: &[u8; 256], text: &[u8], i: usize, out: &mut [u8], o: usize)
+    requires { ⌜ now table ≡ values ⌝ }
     requires { ⌜ (i + 4 ≡ length (now text)) × (o + length (bytesOf (drop i (now text))) ≤ length (now out)) ⌝ }
     ensures { λ _. ⌜ now (out .exit) ≡ sets (now (out .entry)) o (bytesOf (drop i (now (text .entry)))) ⌝ }
 {
-    let a = value(text[i]);
-    let b = value(text[i + 1]);
-    let c = text[i + 2];
-    let d = text[i + 3];
-    out[o] = byte1(a, b);
-    if c == PAD {
+    let a = value(table, text[i]);
+    let b = value(table, text[i + 1]);
+    let c = value(table, text[i + 2]);
+    let d = value(table, text[i + 3]);
+    let w = word(a % 64, b % 64, c % 64, d % 64);
+    out[o] = byte1(w);
+    if text[i + 2] == PAD {
         return;
     }
-    let v = value(c);
-    out[o + 1] = byte2(b, v);
-    if d == PAD {
+    out[o + 1] = byte2(w);
+    if text[i + 3] == PAD {
         return;
     }
-    out[o + 2] = byte3(v, value(d));
+    out[o + 2] = byte3(w);
 }
 
-fn byte1(v: u8, w: u8) -> u8
-    ensures { λ r. ⌜ r ≡ Decode.byte1 v w ⌝ }
+// Four values of six bits as one number of 24, and its three bytes.
+fn word(a: u8, b: u8, c: u8, d: u8) -> u32
+    ensures { λ r. ⌜ r ≡ a * 262144 + b * 4096 + c * 64 + d ⌝ }
 {
-    v % 64 * 4 + w % 64 / 16
+    a as u32 * 262144 + b as u32 * 4096 + c as u32 * 64 + d as u32
 }
 
-fn byte2(v: u8, w: u8) -> u8
-    ensures { λ r. ⌜ r ≡ Decode.byte2 v w ⌝ }
+fn byte1(w: u32) -> u8
+    ensures { λ r. ⌜ r ≡ w / 65536 % 256 ⌝ }
 {
-    v % 16 * 16 + w % 64 / 4
+    (w / 65536 % 256) as u8
 }
 
-fn byte3(v: u8, w: u8) -> u8
-    ensures { λ r. ⌜ r ≡ Decode.byte3 v w ⌝ }
+fn byte2(w: u32) -> u8
+    ensures { λ r. ⌜ r ≡ w / 256 % 256 ⌝ }
 {
-    v % 4 * 64 + w % 64
+    (w / 256 % 256) as u8
+}
+
+fn byte3(w: u32) -> u8
+    ensures { λ r. ⌜ r ≡ w % 256 ⌝ }
+{
+    (w % 256) as u8
 }

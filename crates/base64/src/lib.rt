@@ -5,12 +5,14 @@
 mod alphabet;
 mod decoder;
 mod encoder;
+mod table;
 
 ghost use mathlib.Core.Path.{_≡_};
 ghost use Rattle.octets.specs.Outcome.{outcome};
 ghost use Rattle.base64.specs.Claims.{EncodedDecodes, DecodedEncodes};
 ghost use Rattle.base64.specs.Decode.{decodeOf};
 ghost use Rattle.base64.specs.Encode.{encodeOf};
+use crate::table::VALUES;
 use octets::Stored;
 
 // What is wrong with a text: its length or padding, a character, or bits that no byte uses.
@@ -39,13 +41,14 @@ pub fn decode(text: &[u8], out: &mut [u8], at: usize) -> Decoded
     ensures { λ r. ⌜ outcome r (now (out .exit)) ≡ decodeOf (now (text .entry)) (now (out .entry)) at ⌝ }
     ensures { λ _. ⌜ DecodedEncodes ⌝ }
 {
-    match decoder::check(text) {
+    let table = VALUES;
+    match decoder::check(&table, text) {
         Verdict::Valid(padding) => {
             let n = text.len() / 4 * 3 - padding;
             if !octets::fits(at, n, out.len()) {
                 return Decoded::NoRoom;
             }
-            decoder::fill(text, padding, out, at);
+            decoder::fill(&table, text, padding, out, at);
             Decoded::Length(n)
         }
         Verdict::Invalid(fault) => Decoded::Invalid(fault),

@@ -11,10 +11,10 @@ use Rattle.base64.proofs.decoder.check.Statement.{statement}
 use Rattle.base64.proofs.decoder.check.Tie as tie
 
 abbrev Inv-loop : tie.InvT-loop
-Inv-loop text i₀ p₀ i p = (i ≤ length text) × (scan p (drop i text) ≡ verdictOf text)
+Inv-loop table text i₀ p₀ i p = (i ≤ length text) × (scan p (drop i text) ≡ verdictOf text)
 
 abbrev μ-loop : tie.MeasureT-loop
-μ-loop text i₀ p₀ i p = length text - i
+μ-loop table text i₀ p₀ i p = length text - i
 
 returns : tie.Need-returns Inv-loop μ-loop
 unfolding verdictOf
@@ -24,7 +24,7 @@ pass-letters-requires : tie.Need-pass-letters-requires Inv-loop μ-loop
 pass-letters-requires c κs = search needs
 
 before-requires : tie.Need-before-requires Inv-loop μ-loop
-before-requires c κs = c .pass-letters .ensures .0
+before-requires c κs = (c .before .before .before .pre, c .pass-letters .ensures .0)
 
 loop-holds : tie.Need-loop-holds Inv-loop μ-loop
 unfolding verdictOf
