@@ -9,9 +9,9 @@ build() {
     rt check "$1" >"$out/check.txt" 2>&1 || { tail -5 "$out/check.txt"; exit 1; }
 }
 
-# Builds a Rust program of this folder.
+# Builds a Rust program of this folder; further words go to rustc.
 build_rust() {
-    rustc --edition 2021 -O -o "$out/$1" "bench/$2"
+    rustc --edition 2021 -O -o "$out/$1" "bench/$2" "${@:3}"
 }
 
 # CPU milliseconds of one run, user and system: from where it reads, where it writes, and the command.
