@@ -56,8 +56,8 @@ fn pass_letters(table: &[u8; 256], text: &[u8]) -> usize
     i
 }
 
-// Whether four letters stand at place i. A byte that is none has the value 64, a bit that no letter has: one
-// test for the four, where a branch each would cost more than the look-ups.
+// Whether four letters stand at place i. A byte that is none has the value 64, a bit that no letter's has,
+// so one test does for the four.
 fn four(table: &[u8; 256], text: &[u8], i: usize) -> bool
     requires { ⌜ (now table ≡ values) × (i + 4 ≤ length (now text)) ⌝ }
     ensures { λ r. ⌜ r ≡ every isLetter (take 4 (drop i (now (text .entry)))) ⌝ }
