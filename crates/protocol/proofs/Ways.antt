@@ -19,7 +19,7 @@ use Rattle.protocol.specs.Actions.{resultIn, kindOf}
 use Rattle.protocol.specs.Replies.{noReply, sessionReply, fileReply}
 use Rattle.protocol.specs.Change.{tells, asks, opens, drops}
 use Rattle.protocol.specs.Files.{Request, ignored, opening, fileStatus, linkLike, isRsync, badPermissions, isDirectory, openDue}
-use Rattle.protocol.specs.Files.{fileRoom, fileChecked, fileKnown, fileOf, failedFile, writeDue, partLimit, countLimit}
+use Rattle.protocol.specs.Files.{fileRecorded, fileChecked, fileKnown, fileOf, failedFile, writeDue, partLimit, countLimit}
 use Rattle.protocol.specs.Files.{partAsked, partFound, dataOf, finishFound, finishOf}
 use Rattle.protocol.specs.Rule.{isOpen, dropTold, presentResult, obeyedBy}
 use Rattle.protocol.specs.Sound.{Unique}
@@ -99,10 +99,10 @@ module _ (s : Session) (q : Request) where
     status-way : (w : Status) → Way s q (fileStatus s (q .file) w)
     status-way w = nothing (Told.Status w) _ refl (file w) (rw a) (λ e. no-way (sym (rw a at e)))
 
-    room-way : (length (q .file) ≡ 0 → ⊥) → findFile s (q .file) ≡ Found.Nowhere → linkLike (q .type) ≡ false
-        → (f : Found) → first isFree (s .files) ≡ f → Way s q (fileRoom s q f)
-    room-way some new e Found.Nowhere r = status-way Status.Emfile
-    room-way some new e (Found.At j) r = openAsked j o (record { action = a; type = e; some = some; new = new; room = r })
+    recorded-way : (length (q .file) ≡ 0 → ⊥) → findFile s (q .file) ≡ Found.Nowhere → linkLike (q .type) ≡ false
+        → (f : Found) → first isFree (s .files) ≡ f → Way s q (fileRecorded s q f)
+    recorded-way some new e Found.Nowhere r = status-way Status.Emfile
+    recorded-way some new e (Found.At j) r = openAsked j o (record { action = a; type = e; some = some; new = new; room = r })
 
     checked-way : (length (q .file) ≡ 0 → ⊥) → findFile s (q .file) ≡ Found.Nowhere → Way s q (fileChecked s q)
     unfolding fileChecked
@@ -113,11 +113,11 @@ module _ (s : Session) (q : Request) where
 
         go : (x : Bool) → linkLike (q .type) ≡ x → (y u v : Bool)
             → Way s q (cond (x || y) (refuses Status.Enotsup)
-            (cond u (refuses Status.Einval) (cond v (fileRoom s q (first isFree (s .files))) (refuses Status.Einval))))
+            (cond u (refuses Status.Einval) (cond v (fileRecorded s q (first isFree (s .files))) (refuses Status.Einval))))
         go true e y u v = status-way Status.Enotsup
         go false e true u v = status-way Status.Enotsup
         go false e false true v = status-way Status.Einval
-        go false e false false true = room-way some new e (first isFree (s .files)) refl
+        go false e false false true = recorded-way some new e (first isFree (s .files)) refl
         go false e false false false = status-way Status.Einval
 
     known-way : (length (q .file) ≡ 0 → ⊥) → (f : Found) → findFile s (q .file) ≡ f → Way s q (fileKnown s q f)

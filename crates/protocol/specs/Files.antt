@@ -93,16 +93,16 @@ openDue true j = Due.OpenDirectory j
 openDue false j = Due.OpenFile j
 
 -- "32 records EMFILE; else open is asked and the record is opening"
-abbrev pub fileRoom : Session → Request → Found → Change
-fileRoom s q Found.Nowhere = fileStatus s (q .file) Status.Emfile
-fileRoom s q (Found.At j) = opens j (opening (q .file)) (openDue (isDirectory (q .type)) j)
+abbrev pub fileRecorded : Session → Request → Found → Change
+fileRecorded s q Found.Nowhere = fileStatus s (q .file) Status.Emfile
+fileRecorded s q (Found.At j) = opens j (opening (q .file)) (openDue (isDirectory (q .type)) j)
 
 -- "symlink, link or rsync ENOTSUP; prm outside 0 to 4095 EINVAL; bad name EINVAL"
 unfoldable pub fileChecked : Session → Request → Change
 fileChecked s q =
     cond (unsupported q) (fileStatus s (q .file) Status.Enotsup)
     (cond (badPermissions (q .permissions)) (fileStatus s (q .file) Status.Einval)
-    (cond (validName (q .name)) (fileRoom s q (first isFree (s .files)))
+    (cond (validName (q .name)) (fileRecorded s q (first isFree (s .files)))
     (fileStatus s (q .file) Status.Einval)))
 
 -- "fid known EEXIST"

@@ -3,7 +3,7 @@ ghost use mathlib.Core.Bool.{_||_};
 ghost use mathlib.Core.Path.{_≡_};
 ghost use Rattle.protocol.specs.Table.{first, isFree};
 ghost use Rattle.protocol.specs.Files.{request, opening, fileStatus, linkLike, isRsync, badPermissions};
-ghost use Rattle.protocol.specs.Files.{isDirectory, openDue, fileRoom, fileChecked, fileOf};
+ghost use Rattle.protocol.specs.Files.{isDirectory, openDue, fileRecorded, fileChecked, fileOf};
 use crate::changes::opens;
 use crate::changes::tells;
 use crate::files::find_file;
@@ -50,14 +50,14 @@ fn checked(session: Session, command: Command, id: &[u8], name: &[u8]) -> Change
         return file_status(session, id, Status::Einval);
     }
     if pathname::is_valid(name) {
-        return room(session, command, id, name);
+        return recorded(session, command, id, name);
     }
     file_status(session, id, Status::Einval)
 }
 
 // A file that may be had: its open is asked where a record is free.
-fn room(session: Session, command: Command, id: &[u8], name: &[u8]) -> Change
-    ensures { λ c. ⌜ c ≡ fileRoom session (request command (now (id .entry)) (now (name .entry))) (first isFree (session .files)) ⌝ }
+fn recorded(session: Session, command: Command, id: &[u8], name: &[u8]) -> Change
+    ensures { λ c. ⌜ c ≡ fileRecorded session (request command (now (id .entry)) (now (name .entry))) (first isFree (session .files)) ⌝ }
 {
     let file_type = command.file_type;
     match free_file(session) {

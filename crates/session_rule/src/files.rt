@@ -101,7 +101,7 @@ fn is_sought(started: bool, state: FileState) -> bool
 fn is_free(state: FileState) -> bool
     ensures { λ r. ⌜ r ≡ not (isUsed state) ⌝ }
 {
-    if is_used(state) { false } else { true }
+    !is_used(state)
 }
 
 pub(crate) fn is_started(state: FileState) -> bool

@@ -25,7 +25,7 @@ pub fn session_reply(status: Status, session: Session) -> Reply
 }
 
 // A reply about a file of a session, with a size.
-pub fn file_reply(status: Status, session: Session, file: FileRecord, size: u64) -> Reply
+pub(crate) fn file_reply(status: Status, session: Session, file: FileRecord, size: u64) -> Reply
     ensures { λ r. ⌜ r ≡ fileReply status session file size ⌝ }
 {
     let id = session.id;

@@ -29,8 +29,8 @@ returns-2 c =
 is-valid-requires : tie.Need-is-valid-requires
 is-valid-requires c κs = search needs
 
-room-requires : tie.Need-room-requires
-room-requires c κs = search needs
+recorded-requires : tie.Need-recorded-requires
+recorded-requires c κs = search needs
 
 returns-3 : tie.Need-returns-3
 unfolding fileChecked
@@ -38,7 +38,7 @@ returns-3 c =
     let b = c .before .before .before in
     let a = b .before .before in
     rw (← a .before .is-unsupported .ensures, a .if1 .left, ← b .before .are-outside .ensures, b .if2 .left)
-    (rw (← c .before .before .is-valid .ensures, c .before .if3 .taken) (c .room .ensures))
+    (rw (← c .before .before .is-valid .ensures, c .before .if3 .taken) (c .recorded .ensures))
 
 file-status-requires-3 : tie.Need-file-status-requires-3
 file-status-requires-3 c κs = search needs
@@ -62,7 +62,7 @@ checked-spec =
     file-status-requires-2
     returns-2
     is-valid-requires
-    room-requires
+    recorded-requires
     returns-3
     file-status-requires-3
     returns-4)

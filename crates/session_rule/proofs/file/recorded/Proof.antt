@@ -1,6 +1,6 @@
 use borrow.Author.Needs.{needs}
-use Rattle.session_rule.proofs.file.room.Statement.{statement}
-use Rattle.session_rule.proofs.file.room.Tie as tie
+use Rattle.session_rule.proofs.file.recorded.Statement.{statement}
+use Rattle.session_rule.proofs.file.recorded.Tie as tie
 
 free-file-requires : tie.Need-free-file-requires
 free-file-requires c κs = search needs
@@ -35,8 +35,8 @@ returns-2 c =
     rw (c .opens .ensures, c .before .open-due .ensures, b .opening .ensures)
     (rw (← a .before .before .free-file .ensures, a .j .given .1))
 
-pub room-spec : {M : Type 1} → statement M
-room-spec =
+pub recorded-spec : {M : Type 1} → statement M
+recorded-spec =
     tie.close
     (tie.spec
     free-file-requires
