@@ -24,6 +24,7 @@ use Rattle.command.specs.Keys.{Alias, Kind}
 use Rattle.command.specs.Letters.{safeByte}
 use Rattle.command.specs.Values.{Value, count, over}
 use Rattle.command.specs.Grammar.{CanonicalValue, a-word, a-string, an-integer, a-base64}
+use Rattle.command.specs.declared.Refusal.{Refusal}
 use Rattle.command.proofs.WrittenValues.{Spelled, writable-nought}
 use Rattle.command.proofs.WrittenValues as Spelled
 
@@ -32,9 +33,9 @@ use Rattle.command.proofs.WrittenValues as Spelled
 abbrev Spelling : Kind → List ℕ → Type 0
 Spelling k t = (x : Value) × Spelled k x t
 
-word-spelled : (first : ℕ) (ws : List (List ℕ)) (aliases : List Alias) (t : List ℕ) (i : ℕ) → i < length ws → getD ws i [] ≡ t
-    → (first + i ≡ 0 → ⊥) → Spelling (Kind.word first ws aliases) t
-word-spelled first ws aliases t i h w z =
+word-spelled : (unknown : Refusal) (first : ℕ) (ws : List (List ℕ)) (aliases : List Alias) (t : List ℕ) (i : ℕ) → i < length ws
+    → getD ws i [] ≡ t → (first + i ≡ 0 → ⊥) → Spelling (Kind.word unknown first ws aliases) t
+word-spelled unknown first ws aliases t i h w z =
     let s : first + i - first ≡ i = omega arith in
     let l : first + i - first < length ws = omega arith in
     let g : getD ws (first + i - first) [] ≡ t = rw s w in
@@ -61,7 +62,7 @@ base64-spelled [] padding d z = absurd (z refl)
 base64-spelled (x ∷ t) padding d z = (Value.bytes (bytesOf (x ∷ t)), Spelled.base64 (bytes-below (x ∷ t)) (text-bytes (x ∷ t) padding d))
 
 pub value-spelled : {k : Kind} {t : List ℕ} → CanonicalValue k t → Spelling k t
-value-spelled (a-word {first} {ws} {aliases} {v} i h w z) = word-spelled first ws aliases v i h w z
+value-spelled (a-word {unknown} {first} {ws} {aliases} {v} i h w z) = word-spelled unknown first ws aliases v i h w z
 value-spelled (a-string {short} {v} s l z) = string-spelled short v s l z
 value-spelled (an-integer {v} n p c z) = integer-spelled v n p c z
 value-spelled (a-base64 {v} padding d z) = base64-spelled v padding d z
@@ -73,7 +74,7 @@ unfolding parseOf startsWith magnitudeOf digitsOf rangedOf
 zero-text n w e = let p : Integer (count 0) ≡ Integer n = rw e at (decimal.read-written n w) in let q : count 0 ≡ n = cc in rw (← q)
 
 pub spelled-canonical : {k : Kind} {v : Value} {t : List ℕ} → Spelled k v t → CanonicalValue k t
-spelled-canonical (Spelled.word {first} {ws} {aliases} {n} s z i e) =
+spelled-canonical (Spelled.word {unknown} {first} {ws} {aliases} {n} s z i e) =
     a-word (n .magnitude - first) i e (λ (q : first + (n .magnitude - first) ≡ 0). z (omega arith))
 spelled-canonical (Spelled.string {short} {x} {v} s l) =
     a-string {short = short} s (λ (q : short ≡ true). ltb-false 32 (length (x ∷ v)) (rw q at l)) (λ q. omega (arith, ap length q))

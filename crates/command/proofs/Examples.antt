@@ -1,9 +1,9 @@
 -- The theorems and the grammar are not empty: a text that is read though not canonical, its command, the canonical text of that
--- command, and texts that are not canonical because a value is not of its kind.
+-- command, a text for each refusal of a value, and texts that are not canonical because a value is not of its kind.
 use Prim.Native.Nat.{ℕ}
 use mathlib.Core.Path.{_≡_, refl}
 use mathlib.Core.Bool.{Bool, true, false, not}
-use mathlib.Core.List.{List, [], _∷_}
+use mathlib.Core.List.{List, [], _∷_, map}
 use native.Mathlib.Omega.{arith}
 use lib.ListN.{replicate}
 use Rattle.bytes.specs.Bytes.{indexOf, indexAfter}
@@ -61,11 +61,31 @@ unfolding meaningOf textRead fieldsRead fieldRead isKey keyByte textByte safeByt
     parseOf magnitudeOf digitsOf rangedOf
 loose-read = refl
 
+-- a text for each refusal of a value; then a `q` that is no number, and a string that is too long besides
+abbrev mistaken : List (List ℕ)
+mistaken =
+    ascii "5113;ac=Send;id=m"
+    ∷ ascii "5113;ac=send;id=a b"
+    ∷ ascii "5113;ac=send;id=m;sz=99999999999999999999"
+    ∷ ascii "5113;ac=send;id=m;sz=9999999999999999999"
+    ∷ ascii "5113;ac=send;id=m;d=A=!="
+    ∷ ascii "5113;ac=send;id=m;d=!A=A"
+    ∷ ascii "5113;ac=send;id=m;d=AR=="
+    ∷ ascii "5113;ac=send;id=m;q=x"
+    ∷ ascii "5113;ac=send;id=m;fid=012345678901234567890123456789012!"
+    ∷ []
+
+mistaken-read : map meaningOf mistaken ≡ map Meaning.refused (61 ∷ 62 ∷ 63 ∷ 64 ∷ 65 ∷ 66 ∷ 67 ∷ 64 ∷ 62 ∷ [])
+unfolding meaningOf textRead fieldsRead fieldRead isKey keyByte textByte safeByte every startsWith equals split onto
+    indexOf indexAfter placeIn valueRead wordRead aliasRead safeRead verdictOf scan ending bytesOf group valueOf
+    parseOf magnitudeOf digitsOf rangedOf
+mistaken-read = refl
+
 finish-written : (canonical finish ≡ tight)
     × (writeOf finish (replicate 33 0) .answer ≡ Answer.written 33)
     × (writeOf finish (replicate 32 0) .answer ≡ Answer.refused 9)
 unfolding writeOf checkedOf canonical fieldsOf shown wordShown safeShown integerShown base64Shown every safeByte
-    indexOf indexAfter join split onto Base64.textOf letterOf Decimal.writable Decimal.textOf Decimal.fixed Decimal.widthFrom
+    indexOf indexAfter join split onto Base64.textOf letterOf Decimal.textOf Decimal.fixed Decimal.widthFrom
 finish-written = (refl, refl, refl)
 
 -- by the theorems
@@ -123,7 +143,7 @@ unfolding again meaningOf textRead fieldsRead fieldRead isKey keyByte textByte s
     indexOf indexAfter
     placeIn valueRead wordRead aliasRead safeRead verdictOf scan ending bytesOf group valueOf parseOf magnitudeOf digitsOf rangedOf
     canonical fieldsOf shown wordShown safeShown integerShown base64Shown join Base64.textOf letterOf
-    Decimal.writable Decimal.textOf Decimal.fixed Decimal.widthFrom
+    Decimal.textOf Decimal.fixed Decimal.widthFrom
 strange-tested = refl
 
 none-of : (ts : List (List ℕ)) → every (λ (t : List ℕ). not (again (meaningOf t) t)) ts ≡ true → NoneCanonical ts

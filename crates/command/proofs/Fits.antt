@@ -18,6 +18,7 @@ use Rattle.command.specs.Meaning.{numberIn, bytesIn, actionCode, idOf, m
 use Rattle.command.specs.Canonical.{field, fieldsOf}
 use Rattle.command.specs.Grammar.{needed, CanonicalFields, no-more, left-out, there}
 use Rattle.command.specs.Write.{Checked, before, checkedOf}
+use Rattle.command.specs.declared.Refusal.{Refusal}
 use Rattle.command.proofs.Calm.{either-test}
 use Rattle.command.proofs.WrittenValues.{Spelled, Met, met, spelled-shown, absent-shown}
 use Rattle.command.proofs.WrittenValues as Written
@@ -127,8 +128,8 @@ spelled-at (out a n r) (suc i) e = spelled-at r i e
 spelled-at (with-text v s r) zero e = (v, s)
 spelled-at (with-text v s r) (suc i) e = spelled-at r i e
 
-word-there : {first : ℕ} {ws : List (List ℕ)} {aliases : List Alias} {x : Value} {v : List ℕ} → Spelled (Kind.word first ws aliases) x v
-    → numberIn x .magnitude ≡ 0 → ⊥
+word-there : {unknown : Refusal} {first : ℕ} {ws : List (List ℕ)} {aliases : List Alias} {x : Value} {v : List ℕ}
+    → Spelled (Kind.word unknown first ws aliases) x v → numberIn x .magnitude ≡ 0 → ⊥
 word-there (Written.word s z i e) = z
 
 string-there : {short : Bool} {x : Value} {v : List ℕ} → Spelled (Kind.safe short) x v → length (bytesIn x) ≡ 0 → ⊥

@@ -16,6 +16,7 @@ use Rattle.command.specs.Slots.{actionCode, actionOf, fileTypeCode, file
 use Rattle.command.specs.Slots.{free, slotsOf, commandOf, valueAt, valuesAt, valuesOf}
 use Rattle.command.specs.Read.{frees}
 use Rattle.command.specs.declared.Slot.{Slot}
+use Rattle.command.specs.declared.Refusal.{Refusal}
 use Rattle.command.proofs.ReadValues.{codesEnd, as-word, as-string, as-bytes}
 use Rattle.command.proofs.SimulationValues.{Holds, empty, full, holds-value}
 
@@ -49,8 +50,9 @@ module _ {H : Key → Slot → Field → Type 0} where
 
 -- ---- what a slot keeps, by its kind
 module _ {t scratch : List ℕ} {used : ℕ} {name : List ℕ} where
-  pub word-slot : {s : Slot} {f : Field} {first : ℕ} {ws : List (List ℕ)} {aliases : List Alias} → 0 < codesEnd (first + length ws) aliases
-      → Holds t scratch used (record { name = name; kind = Kind.word first ws aliases }) s f
+  pub word-slot : {s : Slot} {f : Field} {unknown : Refusal} {first : ℕ} {ws : List (List ℕ)} {aliases : List Alias}
+      → 0 < codesEnd (first + length ws) aliases
+      → Holds t scratch used (record { name = name; kind = Kind.word unknown first ws aliases }) s f
       → (count (s .number .magnitude) ≡ s .number) × (s .number .magnitude < codesEnd (first + length ws) aliases)
   word-slot h empty = (refl, h)
   word-slot h (full at from v a (as-word l) w e) = (refl, l)
@@ -80,10 +82,11 @@ module _ (t scratch : List ℕ) where
     gives h = holds-value t scratch used room h
 
     -- a code that an enum holds comes back as it was, if it does for each code that the kind has
-    coded : {s : Slot} {f : Field} {name : List ℕ} {first : ℕ} {ws : List (List ℕ)} {aliases : List Alias} (code : ℕ → ℕ) (end : ℕ)
+    coded : {s : Slot} {f : Field} {name : List ℕ} {unknown : Refusal} {first : ℕ} {ws : List (List ℕ)} {aliases : List Alias}
+        (code : ℕ → ℕ) (end : ℕ)
         → codesEnd (first + length ws) aliases ≡ end → 0 < end → Below.all end (λ n. eqb (code n) n) ≡ true
-        → Holds t scratch used (record { name = name; kind = Kind.word first ws aliases }) s f
-        → Value.number (count (code (s .number .magnitude))) ≡ valueIn (record { name = name; kind = Kind.word first ws aliases }) f
+        → Holds t scratch used (record { name = name; kind = Kind.word unknown first ws aliases }) s f
+        → Value.number (count (code (s .number .magnitude))) ≡ valueIn (record { name = name; kind = Kind.word unknown first ws aliases }) f
     coded {s} code end q p e h =
         let w = word-slot (rw q p) h in
         let m = s .number .magnitude in

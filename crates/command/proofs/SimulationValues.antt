@@ -48,7 +48,7 @@ holds-new {t} {at} {v} {x} k scratch used a r h = full at used v a r (omega arit
 -- ---- what the slot gives
 module _ (t scratch : List ℕ) (used : ℕ) (room : used ≤ length scratch) where
   empty-value : (k : Kind) → valueAt k free t scratch ≡ absent k
-  empty-value (Kind.word first ws aliases) = refl
+  empty-value (Kind.word unknown first ws aliases) = refl
   empty-value (Kind.safe short) = bytes-at t 0 [] (omega arith) refl
   empty-value Kind.integer = refl
   empty-value Kind.base64 = bytes-at scratch 0 [] (omega arith) refl

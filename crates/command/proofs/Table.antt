@@ -15,6 +15,7 @@ use Rattle.octets.proofs.Below.{both-test, all, at}
 use Rattle.command.specs.Keys.{Alias, Kind, Key, key, keys, placeIn, numberOf, kindAt}
 use Rattle.command.specs.Letters.{keyByte, textByte}
 use Rattle.command.specs.Fields.{isKey}
+use Rattle.command.specs.declared.Refusal.{Refusal}
 use Rattle.command.proofs.Calm.{calm}
 
 -- ---- the test
@@ -24,7 +25,7 @@ apart ws i = eqb (placeIn ws (getD ws i [])) i && every calm (getD ws i [])
 
 -- of a kind of words: codes count from 0 or 1, and the words are told apart
 unfoldable pub fit : Kind → Bool
-fit (Kind.word first ws aliases) = leb first 1 && all (length ws) (apart ws)
+fit (Kind.word unknown first ws aliases) = leb first 1 && all (length ws) (apart ws)
 fit (Kind.safe short) = true
 fit Kind.integer = true
 fit Kind.base64 = true
@@ -35,9 +36,10 @@ pub record Words (first : ℕ) (ws : List (List ℕ)) : Type 0 where
   pub found : (i : ℕ) → i < length ws → placeIn ws (getD ws i []) ≡ i
   pub quiet : (i : ℕ) → i < length ws → every calm (getD ws i []) ≡ true
 
-pub fit-words : (first : ℕ) (ws : List (List ℕ)) (aliases : List Alias) → fit (Kind.word first ws aliases) ≡ true → Words first ws
+pub fit-words : (unknown : Refusal) (first : ℕ) (ws : List (List ℕ)) (aliases : List Alias)
+    → fit (Kind.word unknown first ws aliases) ≡ true → Words first ws
 unfolding fit apart
-fit-words first ws aliases e =
+fit-words unknown first ws aliases e =
     let a = both-test (leb first 1) (all (length ws) (apart ws)) e in
     let w : (i : ℕ) → i < length ws → (eqb (placeIn ws (getD ws i [])) i ≡ true) × (every calm (getD ws i []) ≡ true) =
     λ i h. both-test _ _ (at (length ws) (apart ws) (a .1) i h) in

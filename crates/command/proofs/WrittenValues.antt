@@ -6,7 +6,7 @@ use mathlib.Core.List.{List, [], _∷_}
 use native.Mathlib.Omega.{arith}
 use lib.ListN.{length, getD}
 use lib.Dec.{ltb, eqb}
-use borrow.Author.Tests.{eqb-true, eqb-false, ne-eqb, ltb-true, lt-ltb}
+use borrow.Author.Tests.{eqb-true, eqb-false, ne-eqb, ltb-true, lt-ltb, le-ltb}
 use Rattle.octets.specs.Bytes.{Bytes}
 use Rattle.octets.specs.Members.{every}
 use Rattle.base64.specs.Decode.{bytesOf}
@@ -20,16 +20,18 @@ use Rattle.decimal.proofs.Writes.{writable-is}
 use Rattle.command.specs.Keys.{Alias, Kind, placeIn}
 use Rattle.command.specs.Letters.{safeByte, isByte}
 use Rattle.command.specs.Values.{Value, count, absent, Got, wordRead, over, safeRead, valueRead}
-use Rattle.command.specs.Values.{Shown, textOr, wordShown, safeShown, integerShown, base64Shown, shown}
+use Rattle.command.specs.Values.{Shown, unshown, textOr, wordShown, safeShown, integerShown, base64Shown, shown}
+use Rattle.command.specs.declared.Refusal.{Refusal}
+use Rattle.command.specs.declared.Refusal.the-variants as Refusal
 use Rattle.command.proofs.Every.{every-map, bytes-every, every-bytes}
 use Rattle.command.proofs.Calm.{calm, safe-calm, integer-calm, groups-calm}
 use Rattle.command.proofs.Table.{fit, Words, fit-words}
 
 -- ---- a value that is written as a text, by its kind
 pub data Spelled : Kind → Value → List ℕ → Type 0 where
-  word : {first : ℕ} {ws : List (List ℕ)} {aliases : List Alias} {n : Number} {v : List ℕ}
+  word : {unknown : Refusal} {first : ℕ} {ws : List (List ℕ)} {aliases : List Alias} {n : Number} {v : List ℕ}
       → n .negative ≡ false → (n .magnitude ≡ 0 → ⊥) → n .magnitude - first < length ws → getD ws (n .magnitude - first) [] ≡ v
-      → Spelled (Kind.word first ws aliases) (Value.number n) v
+      → Spelled (Kind.word unknown first ws aliases) (Value.number n) v
   string : {short : Bool} {x : ℕ} {v : List ℕ} → every safeByte (x ∷ v) ≡ true → over short (x ∷ v) ≡ false
       → Spelled (Kind.safe short) (Value.bytes (x ∷ v)) (x ∷ v)
   integer : {n : Number} {v : List ℕ} → Decimal.writable n ≡ true → (n .magnitude ≡ 0 → ⊥) → Decimal.textOf n ≡ v
@@ -57,14 +59,14 @@ writable-nought n w z = go (n .negative) refl (rw z at (writable-is n w .0))
     go true e q = let y : _≡_ {A = ℕ} 0 1 = cc in absurd (omega arith)
     go false e q = nought n e z
 
-met-word : (first : ℕ) (ws : List (List ℕ)) (aliases : List Alias) (n : Number)
-    → Met (Kind.word first ws aliases) (Value.number n) (wordShown first ws n)
+met-word : (unknown : Refusal) (first : ℕ) (ws : List (List ℕ)) (aliases : List Alias) (n : Number)
+    → Met (Kind.word unknown first ws aliases) (Value.number n) (wordShown unknown first ws n)
 unfolding wordShown
-met-word first ws aliases n = go (n .negative) refl (eqb (n .magnitude) 0) refl (ltb (n .magnitude - first) (length ws)) refl
+met-word unknown first ws aliases n = go (n .negative) refl (eqb (n .magnitude) 0) refl (ltb (n .magnitude - first) (length ws)) refl
   where
     go : (x : Bool) → n .negative ≡ x → (y : Bool) → eqb (n .magnitude) 0 ≡ y → (z : Bool) → ltb (n .magnitude - first) (length ws) ≡ z
-        → Met (Kind.word first ws aliases) (Value.number n)
-        (cond x (Shown.refused 6) (cond y Shown.leftOut (cond z (Shown.text (getD ws (n .magnitude - first) [])) (Shown.refused 6))))
+        → Met (Kind.word unknown first ws aliases) (Value.number n)
+        (cond x (unshown unknown) (cond y Shown.leftOut (cond z (Shown.text (getD ws (n .magnitude - first) [])) (unshown unknown))))
     go true ex y ey z ez = refused
     go false ex true ey z ez = out (ap Value.number (nought n ex (eqb-true _ _ ey)))
     go false ex false ey true ez = there (word ex (eqb-false _ _ ey) (ltb-true _ _ ez) refl)
@@ -79,20 +81,26 @@ met-string short b = go (every safeByte b) refl (over short b) refl
     spelled (c ∷ b) s l = there (string s l)
 
     go : (x : Bool) → every safeByte b ≡ x → (y : Bool) → over short b ≡ y
-        → Met (Kind.safe short) (Value.bytes b) (cond x (cond y (Shown.refused 8) (textOr b)) (Shown.refused 6))
+        → Met (Kind.safe short) (Value.bytes b) (cond x (cond y (unshown Refusal.TooLong) (textOr b)) (unshown Refusal.UnsafeCharacter))
     go true ex false ey = spelled b ex ey
     go true ex true ey = refused
     go false ex y ey = refused
 
 met-integer : (n : Number) → Met Kind.integer (Value.number n) (integerShown n)
 unfolding integerShown
-met-integer n = go (Decimal.writable n) refl (eqb (n .magnitude) 0) refl
+met-integer n = go (Decimal.negativeZero n) refl (Decimal.outOfRange n) refl (eqb (n .magnitude) 0) refl
   where
-    go : (x : Bool) → Decimal.writable n ≡ x → (y : Bool) → eqb (n .magnitude) 0 ≡ y
-        → Met Kind.integer (Value.number n) (cond x (cond y Shown.leftOut (Shown.text (Decimal.textOf n))) (Shown.refused 6))
-    go true ex true ey = out (ap Value.number (writable-nought n ex (eqb-true _ _ ey)))
-    go true ex false ey = there (integer ex (eqb-false _ _ ey) refl)
-    go false ex y ey = refused
+    ours : Decimal.negativeZero n ≡ false → Decimal.outOfRange n ≡ false → Decimal.writable n ≡ true
+    ours ez er = unfold Decimal.writable in rw (ez, er)
+
+    go : (z : Bool) → Decimal.negativeZero n ≡ z → (r : Bool) → Decimal.outOfRange n ≡ r → (y : Bool) → eqb (n .magnitude) 0 ≡ y
+        → Met Kind.integer (Value.number n)
+        (cond z (unshown Refusal.MalformedInteger)
+        (cond r (unshown Refusal.OutOfRange) (cond y Shown.leftOut (Shown.text (Decimal.textOf n)))))
+    go true ez r er y ey = refused
+    go false ez true er y ey = refused
+    go false ez false er true ey = out (ap Value.number (writable-nought n (ours ez er) (eqb-true _ _ ey)))
+    go false ez false er false ey = there (integer (ours ez er) (eqb-false _ _ ey) refl)
 
 met-base64 : (b : List ℕ) → Met Kind.base64 (Value.bytes b) (base64Shown b)
 unfolding base64Shown
@@ -102,15 +110,16 @@ met-base64 b = go (every isByte b) refl
     spelled [] e h = out (ap Value.bytes (sym (bytes-text b h) ∙ ap bytesOf e ∙ (unfold bytesOf in refl)))
     spelled (c ∷ t) e h = there (base64 h e)
 
-    go : (x : Bool) → every isByte b ≡ x → Met Kind.base64 (Value.bytes b) (cond x (textOr (Base64.textOf b)) (Shown.refused 6))
+    go : (x : Bool) → every isByte b ≡ x
+        → Met Kind.base64 (Value.bytes b) (cond x (textOr (Base64.textOf b)) (unshown Refusal.Base64Length))
     go true ex = spelled (Base64.textOf b) refl (bytes-every b ex)
     go false ex = refused
 
 pub met : (k : Kind) (v : Value) → Met k v (shown k v)
 unfolding shown
-met (Kind.word first ws aliases) (Value.number n) = met-word first ws aliases n
-met (Kind.word first ws aliases) (Value.bytes b) = refused
-met (Kind.word first ws aliases) Value.outside = refused
+met (Kind.word unknown first ws aliases) (Value.number n) = met-word unknown first ws aliases n
+met (Kind.word unknown first ws aliases) (Value.bytes b) = refused
+met (Kind.word unknown first ws aliases) Value.outside = refused
 met (Kind.safe short) (Value.number n) = refused
 met (Kind.safe short) (Value.bytes b) = met-string short b
 met (Kind.safe short) Value.outside = refused
@@ -124,15 +133,15 @@ met Kind.base64 Value.outside = refused
 -- ---- such a value is written as that text
 pub spelled-shown : {k : Kind} {v : Value} {t : List ℕ} → Spelled k v t → shown k v ≡ Shown.text t
 unfolding shown wordShown safeShown integerShown base64Shown
-spelled-shown (word {first} {ws} {aliases} {n} s z i e) = rw (s, ne-eqb _ _ z, lt-ltb _ _ i, e)
+spelled-shown (word {unknown} {first} {ws} {aliases} {n} s z i e) = rw (s, ne-eqb _ _ z, lt-ltb _ _ i, e)
 spelled-shown (string s l) = rw (s, l)
-spelled-shown (integer w z e) = rw (w, ne-eqb _ _ z, e)
+spelled-shown (integer {n} w z e) = let h = writable-is n w in rw (h .0, le-ltb _ _ (h .1), ne-eqb _ _ z, e)
 spelled-shown (base64 {b} h e) = rw (every-bytes b h, e)
 
 -- what absent means is left out
 pub absent-shown : (k : Kind) → shown k (absent k) ≡ Shown.leftOut
-unfolding shown wordShown safeShown integerShown base64Shown every Decimal.writable Base64.textOf
-absent-shown (Kind.word first ws aliases) = refl
+unfolding shown wordShown safeShown integerShown base64Shown every Base64.textOf
+absent-shown (Kind.word unknown first ws aliases) = refl
 absent-shown (Kind.safe true) = refl
 absent-shown (Kind.safe false) = refl
 absent-shown Kind.integer = refl
@@ -140,20 +149,20 @@ absent-shown Kind.base64 = refl
 
 -- ---- written, then read
 -- a word reads as its code
-word-reads : (first : ℕ) (ws : List (List ℕ)) (aliases : List Alias) → Words first ws
+word-reads : (unknown : Refusal) (first : ℕ) (ws : List (List ℕ)) (aliases : List Alias) → Words first ws
     → (i : ℕ) (v : List ℕ) → i < length ws → getD ws i [] ≡ v
-    → wordRead first ws aliases v ≡ Got.got (Value.number (count (first + i)))
+    → wordRead unknown first ws aliases v ≡ Got.got (Value.number (count (first + i)))
 unfolding wordRead
-word-reads first ws aliases f i v h e =
+word-reads unknown first ws aliases f i v h e =
     let p : placeIn ws v ≡ i = ap (placeIn ws) (sym e) ∙ f .found i h in
     rw (p, lt-ltb i (length ws) h)
 
 pub spelled-reads : {k : Kind} {v : Value} {t : List ℕ} → Spelled k v t → fit k ≡ true → valueRead k t ≡ Got.got v
 unfolding valueRead
-spelled-reads (word {first} {ws} {aliases} {n} {v} s z i e) f =
-    let o = fit-words first ws aliases f in
+spelled-reads (word {unknown} {first} {ws} {aliases} {n} {v} s z i e) f =
+    let o = fit-words unknown first ws aliases f in
     let b = o .counted in
-    word-reads first ws aliases o (n .magnitude - first) v i e
+    word-reads unknown first ws aliases o (n .magnitude - first) v i e
     ∙ ap (λ (m : Number). Got.got (Value.number m)) (ap count (omega arith) ∙ sym (unsigned n s))
 spelled-reads (string s l) f = unfold safeRead in rw (s, l)
 spelled-reads (integer {n} w z e) f = rw (← e, decimal.read-written n w)
@@ -161,7 +170,8 @@ spelled-reads (base64 {b} h e) f = rw (← e, valid-text b h, bytes-text b h)
 
 -- as a calm text
 pub spelled-calm : {k : Kind} {v : Value} {t : List ℕ} → Spelled k v t → fit k ≡ true → every calm t ≡ true
-spelled-calm (word {first} {ws} {aliases} {n} s z i e) f = rw e at (fit-words first ws aliases f .quiet (n .magnitude - first) i)
+spelled-calm (word {unknown} {first} {ws} {aliases} {n} s z i e) f =
+    rw e at (fit-words unknown first ws aliases f .quiet (n .magnitude - first) i)
 spelled-calm (string {short} {x} {v} s l) f = every-map safeByte calm safe-calm (x ∷ v) s
 spelled-calm (integer {n} w z e) f = rw e at (integer-calm n)
 spelled-calm (base64 {b} h e) f = rw e at (groups-calm (valid-groups (Base64.textOf b) (paddingOf b) (valid-text b h)))

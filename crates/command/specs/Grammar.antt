@@ -17,12 +17,13 @@ use Rattle.decimal.specs.declared.Parsed.the-variants.{Integer}
 use Rattle.frames.specs.Stream.{textLimit}
 use Rattle.command.specs.Keys.{Alias, Kind, Key, keys}
 use Rattle.command.specs.Letters.{safeByte}
+use Rattle.command.specs.declared.Refusal.{Refusal}
 
 -- the text of a value of a kind, other than what absent means: "defaults left out"
 pub data CanonicalValue : Kind → List ℕ → Type 0 where
   -- one of the words, and no alias: "`finish` and never `finished`". Code 0 is what absent means
-  a-word : {first : ℕ} {ws : List (List ℕ)} {aliases : List Alias} {v : List ℕ} (i : ℕ)
-      → i < length ws → getD ws i [] ≡ v → (first + i ≡ 0 → ⊥) → CanonicalValue (Kind.word first ws aliases) v
+  a-word : {unknown : Refusal} {first : ℕ} {ws : List (List ℕ)} {aliases : List Alias} {v : List ℕ} (i : ℕ)
+      → i < length ws → getD ws i [] ≡ v → (first + i ≡ 0 → ⊥) → CanonicalValue (Kind.word unknown first ws aliases) v
   -- "safe string", and "at most 32 bytes" where that is asked; not empty
   a-string : {short : Bool} {v : List ℕ}
       → every safeByte v ≡ true → (short ≡ true → length v ≤ 32) → (v ≡ [] → ⊥) → CanonicalValue (Kind.safe short) v

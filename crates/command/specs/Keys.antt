@@ -7,6 +7,8 @@ use lib.ListN.{getD}
 use Rattle.octets.specs.Ascii.{ascii}
 use Rattle.octets.specs.Slices.{equals}
 use Rattle.octets.specs.Split.{split}
+use Rattle.command.specs.declared.Refusal.{Refusal}
+use Rattle.command.specs.declared.Refusal.the-variants as Refusal
 
 -- a word that is read as another one's code, and never written
 pub record Alias : Type 0 where
@@ -15,7 +17,8 @@ pub record Alias : Type 0 where
 
 -- the kinds of values
 pub data Kind : Type 0 where
-  word : ℕ → List (List ℕ) → List Alias → Kind  -- the first word's code (the others count on), the words, the aliases
+  -- the refusal of an unknown word, the first word's code (the others count on), the words, the aliases
+  word : Refusal → ℕ → List (List ℕ) → List Alias → Kind
   safe : Bool → Kind  -- a safe string, and whether it is "at most 32 bytes"
   integer : Kind
   base64 : Kind
@@ -35,18 +38,26 @@ words s = split 32 (ascii s)
 abbrev pub finished : Alias
 finished = record { text = ascii "finished"; code = 6 }
 
+-- "61 unknown word (ac, zip, ft, tt)"
+abbrev pub named : ℕ → List (List ℕ) → List Alias → Kind
+named = word Refusal.UnknownWord
+
+-- "64 .. also any `q` but `0`, `1`, `2`"
+abbrev pub levels : Kind
+levels = word Refusal.OutOfRange 0 (words "0 1 2") []
+
 -- "fields in the order ac zip ft tt id fid pw q mod prm sz n st pr d". Code 0 is what absent means: no action, and of the other
 -- words the first.
 abbrev pub keys : List Key
 keys =
-    key "ac" (word 1 (words "send receive file data end_data finish cancel status") (finished ∷ []))
-    ∷ key "zip" (word 0 (words "none") [])
-    ∷ key "ft" (word 0 (words "regular directory symlink link") [])
-    ∷ key "tt" (word 0 (words "simple rsync") [])
+    key "ac" (named 1 (words "send receive file data end_data finish cancel status") (finished ∷ []))
+    ∷ key "zip" (named 0 (words "none") [])
+    ∷ key "ft" (named 0 (words "regular directory symlink link") [])
+    ∷ key "tt" (named 0 (words "simple rsync") [])
     ∷ key "id" (safe true)
     ∷ key "fid" (safe true)
     ∷ key "pw" (safe false)
-    ∷ key "q" (word 0 (words "0 1 2") [])
+    ∷ key "q" levels
     ∷ key "mod" integer
     ∷ key "prm" integer
     ∷ key "sz" integer

@@ -1,3 +1,4 @@
+pub mod Refusals
 pub mod Keys
 pub mod Letters
 pub mod Classes

@@ -11,7 +11,8 @@ use Rattle.command.specs.Keys.{Kind, Key, keys, kindAt}
 use Rattle.command.specs.Values.{Value, Got, valueRead}
 use Rattle.command.specs.Fields.{Turn, Step, textRead}
 use Rattle.command.specs.Meaning.{Meaning, meaningOf, numberIn, bytesIn}
-use Rattle.command.specs.Slots.{refusalNumber, actionCode, free, commandOf, valuesOf}
+use Rattle.command.specs.Refusals.{refusalNumber}
+use Rattle.command.specs.Slots.{actionCode, free, commandOf, valuesOf}
 use Rattle.command.specs.declared.Place.{Place}
 use Rattle.command.specs.declared.Slot.{Slot}
 use Rattle.command.specs.declared.Command.{Command}
@@ -27,14 +28,14 @@ pub record Reader : Type 0 where
 -- ---- a value kept
 -- where a value stands: a string where it was read, Base64's bytes after those before it
 abbrev pub placeFor : Kind → ℕ → ℕ → Value → Place
-placeFor (Kind.word first ws aliases) at used v = record { start = 0; len = 0 }
+placeFor (Kind.word unknown first ws aliases) at used v = record { start = 0; len = 0 }
 placeFor (Kind.safe short) at used v = record { start = at; len = length (bytesIn v) }
 placeFor Kind.integer at used v = record { start = 0; len = 0 }
 placeFor Kind.base64 at used v = record { start = used; len = length (bytesIn v) }
 
 -- what it stores in the scratch
 abbrev pub storedFor : Kind → Value → List ℕ
-storedFor (Kind.word first ws aliases) v = []
+storedFor (Kind.word unknown first ws aliases) v = []
 storedFor (Kind.safe short) v = []
 storedFor Kind.integer v = []
 storedFor Kind.base64 v = bytesIn v

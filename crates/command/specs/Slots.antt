@@ -16,19 +16,6 @@ use Rattle.command.specs.declared.Transmission.the-variants as Transmiss
 use Rattle.command.specs.declared.Place.{Place}
 use Rattle.command.specs.declared.Slot.{Slot}
 use Rattle.command.specs.declared.Command.{Command}
-use Rattle.command.specs.declared.Refusal.{Refusal}
-use Rattle.command.specs.declared.Refusal.the-variants as Refusal
-
--- document 01's number of a refusal
-abbrev pub refusalNumber : Refusal → ℕ
-refusalNumber Refusal.TextTooLong = 1
-refusalNumber Refusal.BadByte = 3
-refusalNumber Refusal.BadField = 4
-refusalNumber Refusal.Repeated = 5
-refusalNumber Refusal.BadValue = 6
-refusalNumber Refusal.Missing = 7
-refusalNumber Refusal.TooLong = 8
-refusalNumber Refusal.ShortBuffer = 9
 
 -- ---- the codes of the words, as `keys` counts them
 abbrev pub actionCode : Action → ℕ
@@ -148,7 +135,7 @@ bytesAt l p = cond (leb (p .start + p .len) (length l)) (Value.bytes (take (p .l
 
 -- the value of a slot: strings stand in the text, Base64's bytes in the scratch
 abbrev pub valueAt : Kind → Slot → List ℕ → List ℕ → Value
-valueAt (Kind.word first ws aliases) s text scratch = Value.number (s .number)
+valueAt (Kind.word unknown first ws aliases) s text scratch = Value.number (s .number)
 valueAt (Kind.safe short) s text scratch = bytesAt text (s .place)
 valueAt Kind.integer s text scratch = Value.number (s .number)
 valueAt Kind.base64 s text scratch = bytesAt scratch (s .place)

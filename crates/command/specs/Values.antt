@@ -8,6 +8,8 @@ use Rattle.octets.specs.Members.{every}
 use Rattle.octets.specs.Slices.{equals}
 use Rattle.base64.specs.Decode.{verdictOf, bytesOf}
 use Rattle.base64.specs.Encode as Base64
+use Rattle.base64.specs.declared.Fault.{Fault}
+use Rattle.base64.specs.declared.Fault.the-variants as Fault
 use Rattle.base64.specs.declared.Verdict.{Verdict}
 use Rattle.base64.specs.declared.Verdict.the-variants as Verdict
 use Rattle.decimal.specs.Read.{parseOf}
@@ -15,8 +17,11 @@ use Rattle.decimal.specs.Write as Decimal
 use Rattle.decimal.specs.declared.Number.{Number}
 use Rattle.decimal.specs.declared.Parsed.{Parsed}
 use Rattle.decimal.specs.declared.Parsed.the-variants.{Integer, Malformed, OutOfRange}
+use Rattle.command.specs.Refusals.{refusalNumber}
 use Rattle.command.specs.Keys.{Alias, Kind, placeIn}
 use Rattle.command.specs.Letters.{safeByte, isByte}
+use Rattle.command.specs.declared.Refusal.{Refusal}
+use Rattle.command.specs.declared.Refusal.the-variants as Refusal
 
 -- a value: a number (a word's code is one) or bytes; or what a place that passes its buffer's end gives, which is of no kind
 pub data Value : Type 0 where
@@ -30,7 +35,7 @@ count n = record { negative = false; magnitude = n }
 
 -- "Absent means: none, regular, simple, empty, zero"
 abbrev pub absent : Kind → Value
-absent (Kind.word first ws aliases) = Value.number (count 0)
+absent (Kind.word unknown first ws aliases) = Value.number (count 0)
 absent (Kind.safe short) = Value.bytes []
 absent Kind.integer = Value.number (count 0)
 absent Kind.base64 = Value.bytes []
@@ -40,39 +45,49 @@ pub data Got : Type 0 where
   got : Value → Got
   refused : ℕ → Got
 
+abbrev pub refuses : Refusal → Got
+refuses r = Got.refused (refusalNumber r)
+
 -- the code of an alias
-unfoldable pub aliasRead : List Alias → List ℕ → Got
-aliasRead [] v = Got.refused 6
-aliasRead (a ∷ more) v = cond (equals v (a .text)) (Got.got (Value.number (count (a .code)))) (aliasRead more v)
+unfoldable pub aliasRead : Refusal → List Alias → List ℕ → Got
+aliasRead unknown [] v = refuses unknown
+aliasRead unknown (a ∷ more) v = cond (equals v (a .text)) (Got.got (Value.number (count (a .code)))) (aliasRead unknown more v)
 
 -- one of the words, else one of the aliases
-unfoldable pub wordRead : ℕ → List (List ℕ) → List Alias → List ℕ → Got
-wordRead first ws aliases v =
-    cond (ltb (placeIn ws v) (length ws)) (Got.got (Value.number (count (first + placeIn ws v)))) (aliasRead aliases v)
+unfoldable pub wordRead : Refusal → ℕ → List (List ℕ) → List Alias → List ℕ → Got
+wordRead unknown first ws aliases v =
+    cond (ltb (placeIn ws v) (length ws)) (Got.got (Value.number (count (first + placeIn ws v)))) (aliasRead unknown aliases v)
 
 -- "at most 32 bytes", where that is asked
 abbrev pub over : Bool → List ℕ → Bool
 over short v = short && ltb 32 (length v)
 
--- refusal 6, then 8
+-- "62 character not allowed in a safe string (id, fid, pw, pr)", then 8
 unfoldable pub safeRead : Bool → List ℕ → Got
 safeRead short v =
     cond (every safeByte v)
-    (cond (over short v) (Got.refused 8) (Got.got (Value.bytes v)))
-    (Got.refused 6)
+    (cond (over short v) (refuses Refusal.TooLong) (Got.got (Value.bytes v)))
+    (refuses Refusal.UnsafeCharacter)
 
+-- "63 integer malformed or over 19 digits, 64 out of range (mod, prm, sz)"
 abbrev pub integerRead : Parsed → Got
 integerRead (Integer n) = Got.got (Value.number n)
-integerRead Malformed = Got.refused 6
-integerRead OutOfRange = Got.refused 6
+integerRead Malformed = refuses Refusal.MalformedInteger
+integerRead OutOfRange = refuses Refusal.OutOfRange
+
+-- "65, 66, 67 Base64 (n, st, d)"
+abbrev pub base64Refusal : Fault → Refusal
+base64Refusal Fault.Length = Refusal.Base64Length
+base64Refusal Fault.Character = Refusal.Base64Character
+base64Refusal Fault.UnusedBits = Refusal.UnusedBits
 
 abbrev pub base64Read : Verdict → List ℕ → Got
 base64Read (Verdict.Valid padding) b = Got.got (Value.bytes b)
-base64Read (Verdict.Invalid fault) b = Got.refused 6
+base64Read (Verdict.Invalid fault) b = refuses (base64Refusal fault)
 
 -- the value of a kind that a text is
 unfoldable pub valueRead : Kind → List ℕ → Got
-valueRead (Kind.word first ws aliases) v = wordRead first ws aliases v
+valueRead (Kind.word unknown first ws aliases) v = wordRead unknown first ws aliases v
 valueRead (Kind.safe short) v = safeRead short v
 valueRead Kind.integer v = integerRead (parseOf v)
 valueRead Kind.base64 v = base64Read (verdictOf v) (bytesOf v)
@@ -84,44 +99,56 @@ pub data Shown : Type 0 where
   text : List ℕ → Shown
   refused : ℕ → Shown
 
+abbrev pub unshown : Refusal → Shown
+unshown r = Shown.refused (refusalNumber r)
+
 abbrev pub textOr : List ℕ → Shown
 textOr [] = Shown.leftOut
 textOr (x ∷ xs) = Shown.text (x ∷ xs)
 
 -- the word of a code
-unfoldable pub wordShown : ℕ → List (List ℕ) → Number → Shown
-wordShown first ws n =
-    cond (n .negative) (Shown.refused 6)
+unfoldable pub wordShown : Refusal → ℕ → List (List ℕ) → Number → Shown
+wordShown unknown first ws n =
+    cond (n .negative) (unshown unknown)
     (cond (eqb (n .magnitude) 0) Shown.leftOut
-    (cond (ltb (n .magnitude - first) (length ws)) (Shown.text (getD ws (n .magnitude - first) [])) (Shown.refused 6)))
+    (cond (ltb (n .magnitude - first) (length ws)) (Shown.text (getD ws (n .magnitude - first) [])) (unshown unknown)))
 
 unfoldable pub safeShown : Bool → List ℕ → Shown
 safeShown short b =
     cond (every safeByte b)
-    (cond (over short b) (Shown.refused 8) (textOr b))
-    (Shown.refused 6)
+    (cond (over short b) (unshown Refusal.TooLong) (textOr b))
+    (unshown Refusal.UnsafeCharacter)
 
--- a negative zero and a number past signed 64 bits are not of their kind
+-- a number has no digits to count: only a negative zero is malformed, being in range; what is past signed 64 bits is out of range
 unfoldable pub integerShown : Number → Shown
 integerShown n =
-    cond (Decimal.writable n)
-    (cond (eqb (n .magnitude) 0) Shown.leftOut (Shown.text (Decimal.textOf n)))
-    (Shown.refused 6)
+    cond (Decimal.negativeZero n) (unshown Refusal.MalformedInteger)
+    (cond (Decimal.outOfRange n) (unshown Refusal.OutOfRange)
+    (cond (eqb (n .magnitude) 0) Shown.leftOut (Shown.text (Decimal.textOf n))))
 
+-- any bytes have a Base64 text
 unfoldable pub base64Shown : List ℕ → Shown
-base64Shown b = cond (every isByte b) (textOr (Base64.textOf b)) (Shown.refused 6)
+base64Shown b = cond (every isByte b) (textOr (Base64.textOf b)) (unshown Refusal.Base64Length)
 
--- a value as its kind is written; a value of another kind is refused
+-- the refusal of a value that is of another kind, or of none since its place passes its buffer's end: of a safe string its characters,
+-- of Base64 its length
+abbrev pub strange : Kind → Shown
+strange (Kind.word unknown first ws aliases) = unshown unknown
+strange (Kind.safe short) = unshown Refusal.UnsafeCharacter
+strange Kind.integer = unshown Refusal.MalformedInteger
+strange Kind.base64 = unshown Refusal.Base64Length
+
+-- a value as its kind is written
 unfoldable pub shown : Kind → Value → Shown
-shown (Kind.word first ws aliases) (Value.number n) = wordShown first ws n
-shown (Kind.word first ws aliases) (Value.bytes b) = Shown.refused 6
-shown (Kind.word first ws aliases) Value.outside = Shown.refused 6
-shown (Kind.safe short) (Value.number n) = Shown.refused 6
+shown (Kind.word unknown first ws aliases) (Value.number n) = wordShown unknown first ws n
+shown (Kind.word unknown first ws aliases) (Value.bytes b) = strange (Kind.word unknown first ws aliases)
+shown (Kind.word unknown first ws aliases) Value.outside = strange (Kind.word unknown first ws aliases)
+shown (Kind.safe short) (Value.number n) = strange (Kind.safe short)
 shown (Kind.safe short) (Value.bytes b) = safeShown short b
-shown (Kind.safe short) Value.outside = Shown.refused 6
+shown (Kind.safe short) Value.outside = strange (Kind.safe short)
 shown Kind.integer (Value.number n) = integerShown n
-shown Kind.integer (Value.bytes b) = Shown.refused 6
-shown Kind.integer Value.outside = Shown.refused 6
-shown Kind.base64 (Value.number n) = Shown.refused 6
+shown Kind.integer (Value.bytes b) = strange Kind.integer
+shown Kind.integer Value.outside = strange Kind.integer
+shown Kind.base64 (Value.number n) = strange Kind.base64
 shown Kind.base64 (Value.bytes b) = base64Shown b
-shown Kind.base64 Value.outside = Shown.refused 6
+shown Kind.base64 Value.outside = strange Kind.base64

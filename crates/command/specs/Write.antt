@@ -11,7 +11,7 @@ use Rattle.command.specs.Keys.{Key, keys}
 use Rattle.command.specs.Values.{Value, Shown, shown}
 use Rattle.command.specs.Meaning.{missing}
 use Rattle.command.specs.Canonical.{canonical}
-use Rattle.command.specs.Slots.{refusalNumber}
+use Rattle.command.specs.Refusals.{refusalNumber}
 use Rattle.command.specs.declared.Written.{Written}
 use Rattle.command.specs.declared.Written.the-variants as Written
 
@@ -25,7 +25,8 @@ before Shown.leftOut c = c
 before (Shown.text v) c = c
 before (Shown.refused r) c = Checked.fault r
 
--- "the first field in writing order not of its kind (6) or else over 32 bytes (8)"
+-- "the first field in writing order not of its kind (6) or else over 32 bytes (8)", where document 02 has 61 to 65 for 6. A command has a
+-- value for each key, so that the 6 of other lists is no call's answer.
 unfoldable pub checkedOf : List Key → List Value → Checked
 checkedOf [] [] = Checked.fine
 checkedOf [] (v ∷ c) = Checked.fault 6

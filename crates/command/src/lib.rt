@@ -6,6 +6,7 @@
 pub mod letters;
 
 ghost use mathlib.Core.Path.{_≡_};
+ghost use Rattle.command.specs.Refusals.{refusalNumber};
 ghost use Rattle.command.specs.Slots as Slots;
 use decimal::Number;
 
@@ -104,10 +105,40 @@ pub enum Refusal {
     BadByte,
     BadField,
     Repeated,
-    BadValue,
+    UnknownWord,
+    UnsafeCharacter,
+    MalformedInteger,
+    OutOfRange,
+    Base64Length,
+    Base64Character,
+    UnusedBits,
     Missing,
     TooLong,
     ShortBuffer,
+}
+
+impl Refusal {
+    // Its number in the tables of documents 01 and 02.
+    pub fn number(self) -> u8
+        ensures { λ n. ⌜ n ≡ refusalNumber self ⌝ }
+    {
+        match self {
+            Refusal::TextTooLong => 1,
+            Refusal::BadByte => 3,
+            Refusal::BadField => 4,
+            Refusal::Repeated => 5,
+            Refusal::UnknownWord => 61,
+            Refusal::UnsafeCharacter => 62,
+            Refusal::MalformedInteger => 63,
+            Refusal::OutOfRange => 64,
+            Refusal::Base64Length => 65,
+            Refusal::Base64Character => 66,
+            Refusal::UnusedBits => 67,
+            Refusal::Missing => 7,
+            Refusal::TooLong => 8,
+            Refusal::ShortBuffer => 9,
+        }
+    }
 }
 
 // What reading a text answers.

@@ -18,10 +18,11 @@ use Rattle.base64.specs.declared.Decoded.{Decoded}
 use Rattle.base64.specs.declared.Decoded.the-variants as Decoded
 use Rattle.base64.proofs.Lengths.{length-valid}
 use Rattle.command.specs.Keys.{Alias, Kind, finished, placeIn}
-use Rattle.command.specs.Values.{Value, Got, count, aliasRead, wordRead, base64Read, valueRead}
+use Rattle.command.specs.Values.{Value, Got, count, refuses, aliasRead, wordRead, base64Refusal, base64Read, valueRead}
 use Rattle.command.specs.Slots.{placed}
 use Rattle.command.specs.Read.{Reader, keptBy}
 use Rattle.command.specs.declared.Slot.{Slot}
+use Rattle.command.specs.declared.Refusal.{Refusal}
 use Rattle.command.specs.declared.Refusal.the-variants as Refusal
 use Rattle.command_reader.specs.Keeping.{kindOf, keptIn, Keeps, Plain}
 use Rattle.command_reader.specs.declared.values.Kind.the-variants as Kinds
@@ -34,24 +35,24 @@ unfolding valueRead wordRead aliasRead placeIn split onto equals
 alias-read v e = ap (valueRead (kindOf Kinds.Action)) (equals-sound v (finished .text) e)
 
 -- a word that is not the alias is kept as without it
-pub no-alias : (first : ℕ) (ws : List (List ℕ)) (a : Alias) (v : List ℕ) (r : Kept) (at : ℕ) → equals v (a .text) ≡ false
-    → Plain (Kind.word first ws []) at v r → Plain (Kind.word first ws (a ∷ [])) at v r
+pub no-alias : (unknown : Refusal) (first : ℕ) (ws : List (List ℕ)) (a : Alias) (v : List ℕ) (r : Kept) (at : ℕ)
+    → equals v (a .text) ≡ false → Plain (Kind.word unknown first ws []) at v r → Plain (Kind.word unknown first ws (a ∷ [])) at v r
 unfolding valueRead wordRead aliasRead
-no-alias first ws a v r at e p scratch used n slots =
+no-alias unknown first ws a v r at e p scratch used n slots =
     p scratch used n slots ∙ rw e (go (ltb (placeIn ws v) (length ws)))
   where
     s : Reader
     s = record { slots = slots; scratch = scratch; used = used }
 
-    go : (t : Bool) → let g = cond t (Got.got (Value.number (count (first + placeIn ws v)))) (Got.refused 6) in
-        keptBy (Kind.word first ws []) n at s g ≡ keptBy (Kind.word first ws (a ∷ [])) n at s g
+    go : (t : Bool) → let g = cond t (Got.got (Value.number (count (first + placeIn ws v)))) (refuses unknown) in
+        keptBy (Kind.word unknown first ws []) n at s g ≡ keptBy (Kind.word unknown first ws (a ∷ [])) n at s g
     go true = refl
     go false = refl
 
 -- what the code makes of an answer of `decode`
 abbrev pub decodedAs : ℕ → Decoded → Kept
 decodedAs used (Decoded.Length n) = Kept.Slot (placed (record { start = used; len = n })) n
-decodedAs used (Decoded.Invalid f) = Kept.Refused Refusal.BadValue
+decodedAs used (Decoded.Invalid f) = Kept.Refused (base64Refusal f)
 decodedAs used Decoded.NoRoom = Kept.Refused Refusal.ShortBuffer
 
 -- where there is room, that is what is kept

@@ -7,17 +7,18 @@ use Rattle.octets.specs.Split.{split}
 use Rattle.command.specs.Keys as Keys
 use Rattle.command.specs.Values.{valueRead}
 use Rattle.command.specs.Fields.{Turn}
-use Rattle.command.specs.Slots.{refusalNumber}
+use Rattle.command.specs.Refusals.{refusalNumber}
 use Rattle.command.specs.Read.{Reader, keptBy}
 use Rattle.command.specs.declared.Slot.{Slot}
+use Rattle.command.specs.declared.Refusal.{Refusal}
 use Rattle.command_reader.specs.declared.values.Kind.{Kind}
 use Rattle.command_reader.specs.declared.values.Kind.the-variants as Kind
 use Rattle.command_reader.specs.declared.values.Kept.{Kept}
 use Rattle.command_reader.specs.declared.values.Kept.the-variants as Kept
 
 -- words without aliases, parted by blanks
-abbrev pub wordOf : ℕ → List ℕ → Keys.Kind
-wordOf first ws = Keys.word first (split 32 ws) []
+abbrev pub wordOf : Refusal → ℕ → List ℕ → Keys.Kind
+wordOf unknown first ws = Keys.word unknown first (split 32 ws) []
 
 -- the kinds that the code tells apart: those of ac, zip, ft, tt, id, pw, q, mod and n
 abbrev pub kindOf : Kind → Keys.Kind

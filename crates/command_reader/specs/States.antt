@@ -2,7 +2,7 @@
 use Prim.Native.Nat.{ℕ}
 use mathlib.Core.List.{List}
 use Rattle.command.specs.Fields as Fields
-use Rattle.command.specs.Slots.{refusalNumber}
+use Rattle.command.specs.Refusals.{refusalNumber}
 use Rattle.command.specs.Read.{Reader}
 use Rattle.command_reader.specs.declared.fields.State.{State}
 use Rattle.command_reader.specs.declared.fields.Fault.{Fault}

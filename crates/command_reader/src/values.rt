@@ -4,10 +4,12 @@ ghost use Prim.Native.Nat.{ℕ, _+_, _*_, _≤_, _<_};
 ghost use lib.ListN.{length};
 ghost use Rattle.octets.specs.Split.{split};
 ghost use Rattle.command.specs.Keys as Keys;
+ghost use Rattle.command.specs.Values.{base64Refusal};
 ghost use Rattle.command_reader.specs.Keeping.{kindOf, wordOf, Plain, Keeps};
 use crate::slots::placed;
 use crate::words::place_in;
 use base64::Decoded;
+use base64::Fault;
 use command::Refusal;
 use command::Slot;
 use command::letters;
@@ -69,12 +71,18 @@ pub(crate) fn keep(kind: Kind, at: usize, v: &[u8], scratch: &mut [u8], used: us
 {
     match kind {
         Kind::Action => action(v),
-        Kind::Compression => word(0, 1, b"none", v),
-        Kind::FileType => word(0, 4, b"regular directory symlink link", v),
-        Kind::Transmission => word(0, 2, b"simple rsync", v),
+        Kind::Compression => word(Refusal::UnknownWord, 0, 1, b"none", v),
+        Kind::FileType => word(
+            Refusal::UnknownWord,
+            0,
+            4,
+            b"regular directory symlink link",
+            v,
+        ),
+        Kind::Transmission => word(Refusal::UnknownWord, 0, 2, b"simple rsync", v),
         Kind::Id => safe(true, at, v),
         Kind::Bypass => safe(false, at, v),
-        Kind::Quiet => word(0, 3, b"0 1 2", v),
+        Kind::Quiet => word(Refusal::OutOfRange, 0, 3, b"0 1 2", v),
         Kind::Integer => integer(v),
         Kind::Base64 => base64(v, scratch, used),
     }
@@ -88,6 +96,7 @@ fn action(v: &[u8]) -> Kept
         return Kept::Slot(Slot::coded(6), 0);
     }
     word(
+        Refusal::UnknownWord,
         1,
         8,
         b"send receive file data end_data finish cancel status",
@@ -95,14 +104,15 @@ fn action(v: &[u8]) -> Kept
     )
 }
 
-// One of the words, of which there are `count`; the first one's code is `first`.
-fn word(first: u64, count: usize, words: &[u8], v: &[u8]) -> Kept
+// One of the words, of which there are `count`; the first one's code is `first`. Another is refused
+// as unknown.
+fn word(unknown: Refusal, first: u64, count: usize, words: &[u8], v: &[u8]) -> Kept
     requires { ⌜ (count ≡ length (split 32 (now words))) × (first + count ≤ 255) ⌝ }
-    ensures { λ r. ⌜ ((at : ℕ) → Plain (wordOf first (now (words .entry))) at (now (v .entry)) r) ⌝ }
+    ensures { λ r. ⌜ ((at : ℕ) → Plain (wordOf unknown first (now (words .entry))) at (now (v .entry)) r) ⌝ }
 {
     let n = place_in(words, v);
     if n >= count {
-        return Kept::Refused(Refusal::BadValue);
+        return Kept::Refused(unknown);
     }
     Kept::Slot(Slot::coded(first + n as u64), 0)
 }
@@ -112,7 +122,7 @@ fn safe(short: bool, at: usize, v: &[u8]) -> Kept
     ensures { λ r. ⌜ Plain (Keys.safe short) at (now (v .entry)) r ⌝ }
 {
     if !letters::all(Class::Safe, v) {
-        return Kept::Refused(Refusal::BadValue);
+        return Kept::Refused(Refusal::UnsafeCharacter);
     }
     if short {
         if v.len() > 32 {
@@ -127,8 +137,8 @@ fn integer(v: &[u8]) -> Kept
 {
     match decimal::parse(v) {
         Parsed::Integer(n) => Kept::Slot(Slot::numbered(n), 0),
-        Parsed::Malformed => Kept::Refused(Refusal::BadValue),
-        Parsed::OutOfRange => Kept::Refused(Refusal::BadValue),
+        Parsed::Malformed => Kept::Refused(Refusal::MalformedInteger),
+        Parsed::OutOfRange => Kept::Refused(Refusal::OutOfRange),
     }
 }
 
@@ -139,7 +149,18 @@ fn base64(v: &[u8], scratch: &mut [u8], used: usize) -> Kept
 {
     match base64::decode(v, scratch, used) {
         Decoded::Length(n) => Kept::Slot(placed(used, n), n),
-        Decoded::Invalid(_) => Kept::Refused(Refusal::BadValue),
+        Decoded::Invalid(fault) => Kept::Refused(base64_refusal(fault)),
         Decoded::NoRoom => Kept::Refused(Refusal::ShortBuffer),
+    }
+}
+
+// The refusal of a text that is no Base64.
+fn base64_refusal(fault: Fault) -> Refusal
+    ensures { λ r. ⌜ r ≡ base64Refusal fault ⌝ }
+{
+    match fault {
+        Fault::Length => Refusal::Base64Length,
+        Fault::Character => Refusal::Base64Character,
+        Fault::UnusedBits => Refusal::UnusedBits,
     }
 }

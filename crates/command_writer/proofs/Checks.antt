@@ -4,7 +4,7 @@ use mathlib.Core.Path.{_≡_, refl}
 use mathlib.Core.List.{List}
 use native.Mathlib.Omega.{arith}
 use Rattle.command.specs.Values.{Shown}
-use Rattle.command.specs.Slots.{refusalNumber}
+use Rattle.command.specs.Refusals.{refusalNumber}
 use Rattle.command.specs.Write.{Checked, before}
 use Rattle.command.specs.declared.Refusal.{Refusal}
 use Rattle.command.specs.declared.Written.the-variants as Written

@@ -1,20 +1,21 @@
 -- Strings put: none, one, and one after another.
 use Prim.Native.Nat.{ℕ, _+_}
 use mathlib.Core.Path.{_≡_, refl, _∙_, ap}
-use mathlib.Core.Bool.{Bool, true, false, not, cond, _&&_}
+use mathlib.Core.Bool.{Bool, true, false, cond}
 use mathlib.Core.List.{List, [], _++_}
 use native.Mathlib.Omega.{arith}
 use lib.ListN.{length, length-append}
 use lib.Seq.{sets, length-sets}
-use lib.Dec.{leb}
+use lib.Dec.{leb, eqb}
 use borrow.Author.Tests.{le-leb, leb-false}
 use Rattle.octets.specs.Outcome.{outcome, storedAt}
 use Rattle.octets.proofs.Stores.{sets-append}
-use Rattle.command.specs.Write.{Checked}
+use Rattle.command.specs.Values.{Shown, unshown, integerShown}
+use Rattle.command.specs.Write.{Checked, before}
 use Rattle.command.specs.declared.Written.{Written}
 use Rattle.command.specs.declared.Written.the-variants as Written
 use Rattle.command.specs.declared.Refusal.the-variants as Refusal
-use Rattle.decimal.specs.Write.{textOf, negativeZero, outOfRange, writable, writeOf}
+use Rattle.decimal.specs.Write.{textOf, negativeZero, outOfRange, writeOf}
 use Rattle.decimal.specs.declared.Number.{Number}
 use Rattle.decimal.specs.declared.Written as Decimal
 use Rattle.decimal.specs.declared.Written.the-variants as DecimalWritten
@@ -46,24 +47,31 @@ put-then {x} {y} {l} {m} {n} {o} {p} {q} f g =
 -- what is answered: its end, as it was stored or else as it was counted, or that it is no integer of ours
 abbrev pub numberTold : Decimal.Written → ℕ → Written
 numberTold (DecimalWritten.End at) end = Written.Length at
-numberTold DecimalWritten.NegativeZero end = Written.Refused Refusal.BadValue
-numberTold DecimalWritten.OutOfRange end = Written.Refused Refusal.BadValue
+numberTold DecimalWritten.NegativeZero end = Written.Refused Refusal.MalformedInteger
+numberTold DecimalWritten.OutOfRange end = Written.Refused Refusal.OutOfRange
 numberTold DecimalWritten.NoRoom end = Written.Length end
 
 pub put-number : (n : Number) (out after : List ℕ) (at end : ℕ) (w : Decimal.Written) → outcome w after ≡ writeOf n out at
     → spare end ≡ spare (at + length (textOf n))
-    → PutOr (cond (writable n) Checked.fine (Checked.fault 6)) (textOf n) out at (numberTold w end) after
-unfolding writeOf writable
-put-number n out after at end w e s = go (negativeZero n) (outOfRange n) (leb (at + length (textOf n)) (length out)) refl e
+    → PutOr (before (integerShown n) Checked.fine) (textOf n) out at (numberTold w end) after
+unfolding writeOf integerShown
+put-number n out after at end w e s =
+    go (negativeZero n) (outOfRange n) (eqb (n .magnitude) 0) (leb (at + length (textOf n)) (length out)) refl e
   where
-    go : (z x f : Bool) → leb (at + length (textOf n)) (length out) ≡ f
+    -- left out or not, it is not refused
+    fine : (y : Bool) → before (cond y Shown.leftOut (Shown.text (textOf n))) Checked.fine ≡ Checked.fine
+    fine true = refl
+    fine false = refl
+
+    go : (z x y f : Bool) → leb (at + length (textOf n)) (length out) ≡ f
         → outcome w after ≡ cond z (outcome DecimalWritten.NegativeZero out) (cond x (outcome DecimalWritten.OutOfRange out)
         (cond f (outcome (DecimalWritten.End (at + length (textOf n))) (sets out at (textOf n))) (outcome DecimalWritten.NoRoom out)))
-        → PutOr (cond (not z && not x) Checked.fine (Checked.fault 6)) (textOf n) out at (numberTold w end) after
-    go true x f ef q = rw (ap (λ o. o .answer) q)
-    go false true f ef q = rw (ap (λ o. o .answer) q)
-    go false false true ef q =
-        rw (ap (λ o. o .answer) q) (at + length (textOf n), refl, record { ends = refl; stores = λ h k. ap (λ o. o .buffer) q })
-    go false false false ef q =
+        → PutOr (before (cond z (unshown Refusal.MalformedInteger) (cond x (unshown Refusal.OutOfRange)
+        (cond y Shown.leftOut (Shown.text (textOf n))))) Checked.fine) (textOf n) out at (numberTold w end) after
+    go true x y f ef q = rw (ap (λ o. o .answer) q)
+    go false true y f ef q = rw (ap (λ o. o .answer) q)
+    go false false y true ef q =
+        rw (fine y, ap (λ o. o .answer) q) (at + length (textOf n), refl, record { ends = refl; stores = λ h k. ap (λ o. o .buffer) q })
+    go false false y false ef q =
         let over = leb-false (at + length (textOf n)) (length out) ef in
-        rw (ap (λ o. o .answer) q) (end, refl, record { ends = s; stores = λ h k. absurd (omega (arith, over)) })
+        rw (fine y, ap (λ o. o .answer) q) (end, refl, record { ends = s; stores = λ h k. absurd (omega (arith, over)) })

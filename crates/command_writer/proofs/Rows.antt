@@ -15,7 +15,7 @@ use Rattle.command_writer.specs.declared.table.Kind.the-variants as Kind
 
 -- ---- laws of the keys, each computed over all of them
 abbrev firstOf : Keys.Kind → ℕ
-firstOf (Keys.Kind.word first ws aliases) = first
+firstOf (Keys.Kind.word unknown first ws aliases) = first
 firstOf (Keys.Kind.safe short) = 0
 firstOf Keys.Kind.integer = 0
 firstOf Keys.Kind.base64 = 0
@@ -39,32 +39,32 @@ module _ (k : ℕ) where
 
 -- ---- the kind of a key, from that of the code and the words
 abbrev aliasesOf : Keys.Kind → List Alias
-aliasesOf (Keys.Kind.word first ws aliases) = aliases
+aliasesOf (Keys.Kind.word unknown first ws aliases) = aliases
 aliasesOf (Keys.Kind.safe short) = []
 aliasesOf Keys.Kind.integer = []
 aliasesOf Keys.Kind.base64 = []
 
 abbrev kindFrom : Kind → List (List ℕ) → List Alias → Keys.Kind
-kindFrom (Kind.Word first count) ws aliases = Keys.Kind.word first ws aliases
+kindFrom (Kind.Word unknown first count) ws aliases = Keys.Kind.word unknown first ws aliases
 kindFrom (Kind.Safe short) ws aliases = Keys.Kind.safe short
 kindFrom Kind.Integer ws aliases = Keys.Kind.integer
 kindFrom Kind.Base64 ws aliases = Keys.Kind.base64
 
 kind-from : (t : Keys.Kind) → t ≡ kindFrom (kindOf t) (wordsOf t) (aliasesOf t)
-kind-from (Keys.Kind.word first ws aliases) = refl
+kind-from (Keys.Kind.word unknown first ws aliases) = refl
 kind-from (Keys.Kind.safe short) = refl
 kind-from Keys.Kind.integer = refl
 kind-from Keys.Kind.base64 = refl
 
 -- what the code asks of words
 abbrev Counted : Kind → List (List ℕ) → Type 0
-Counted (Kind.Word first count) ws = (first ≤ 1) × (length ws ≡ count)
+Counted (Kind.Word unknown first count) ws = (first ≤ 1) × (length ws ≡ count)
 Counted (Kind.Safe short) ws = Unit {0}
 Counted Kind.Integer ws = Unit {0}
 Counted Kind.Base64 ws = Unit {0}
 
 counted : (t : Keys.Kind) → firstOf t ≤ 1 → Counted (kindOf t) (wordsOf t)
-counted (Keys.Kind.word first ws aliases) h = (h, refl)
+counted (Keys.Kind.word unknown first ws aliases) h = (h, refl)
 counted (Keys.Kind.safe short) h = tt
 counted Keys.Kind.integer h = tt
 counted Keys.Kind.base64 h = tt

@@ -7,19 +7,20 @@ use native.Mathlib.Omega.{arith}
 use lib.ListN.{length, getD, take, drop, length-take, length-drop}
 use native.Mathlib.Nat.{add-comm}
 use lib.Seq.{append-snoc, getD-drop}
-use lib.Dec.{leb}
+use lib.Dec.{leb, eqb}
 use borrow.Author.Tests.{lt-ltb, ne-eqb, leb-true}
 use Rattle.octets.specs.Members.{every}
 use Rattle.base64.specs.Encode as Base64
 use Rattle.base64.proofs.Lengths.{length-text}
-use Rattle.decimal.specs.Write.{textOf, writable}
+use Rattle.decimal.specs.Write.{textOf, negativeZero, outOfRange}
 use Rattle.decimal.specs.declared.Number.{Number}
 use Rattle.command.specs.Keys.{Kind}
 use Rattle.command.specs.Letters.{isByte}
-use Rattle.command.specs.Values.{Value, Shown, textOr, integerShown, base64Shown, shown}
+use Rattle.command.specs.Values.{Value, Shown, unshown, textOr, integerShown, base64Shown, shown}
 use Rattle.command.specs.Slots.{bytesAt}
-use Rattle.command.specs.Write.{Checked}
+use Rattle.command.specs.Write.{Checked, before}
 use Rattle.command.specs.declared.Place.{Place}
+use Rattle.command.specs.declared.Refusal.the-variants as Refusal
 use Rattle.command.specs.declared.Written.{Written}
 use Rattle.command_writer.specs.Stores.{Put, PutOr}
 use Rattle.command_writer.specs.Pieces.{FieldPut}
@@ -29,12 +30,6 @@ use Rattle.command_writer.proofs.Puts.{put-then}
 pub field-put : (name v : List ℕ) {l m n : List ℕ} {o p q : ℕ} → Put (59 ∷ name ++ 61 ∷ []) l o p m → Put v m p q n
     → Put (59 ∷ name ++ 61 ∷ v) l o q n
 field-put name v f g = rw (append-snoc name 61 v) at (put-then f g)
-
--- the same of a value that may be refused
-pub field-or : (name v : List ℕ) {l m : List ℕ} {o p : ℕ} (n : List ℕ) (r : Written) (w : Bool) → Put (59 ∷ name ++ 61 ∷ []) l o p m
-    → PutOr (cond w Checked.fine (Checked.fault 6)) v m p r n → FieldPut name (cond w (Shown.text v) (Shown.refused 6)) l o r n
-field-or name v n r true f (end, e, g) = (end, e, field-put name v f g)
-field-or name v n r false f e = e
 
 -- ---- strings
 pub text-none : (s : List ℕ) → length s ≡ 0 → textOr s ≡ Shown.leftOut
@@ -75,10 +70,25 @@ base64-some l p b h n =
     rw (place-in l p h, all-bytes l (p .start) (p .len) b)
     (text-some (Base64.textOf t) (λ e. n (omega (arith, length-text t, size))))
 
--- ---- an integer that is not 0
-pub integer-some : (n : Number) → 0 < n .magnitude → integerShown n ≡ cond (writable n) (Shown.text (textOf n)) (Shown.refused 6)
+-- ---- an integer that is not 0, put or refused
+pub integer-put : (name : List ℕ) (n : Number) {l m : List ℕ} {o p : ℕ} (after : List ℕ) (r : Written) → 0 < n .magnitude
+    → Put (59 ∷ name ++ 61 ∷ []) l o p m → PutOr (before (integerShown n) Checked.fine) (textOf n) m p r after
+    → FieldPut name (integerShown n) l o r after
 unfolding integerShown
-integer-some n h = rw (ne-eqb (n .magnitude) 0 (λ e. omega arith))
+integer-put name n {l} {m} {o} {p} after r h f =
+    go (negativeZero n) (outOfRange n) (eqb (n .magnitude) 0) (ne-eqb (n .magnitude) 0 (λ e. omega arith))
+  where
+    shows : (z x y : Bool) → Shown
+    shows z x y =
+        cond z (unshown Refusal.MalformedInteger)
+        (cond x (unshown Refusal.OutOfRange) (cond y Shown.leftOut (Shown.text (textOf n))))
+
+    go : (z x y : Bool) → y ≡ false → PutOr (before (shows z x y) Checked.fine) (textOf n) m p r after
+        → FieldPut name (shows z x y) l o r after
+    go true x y e q = q
+    go false true y e q = q
+    go false false true e q = let i : _≡_ {A = ℕ} 0 1 = cc in absurd (omega arith)
+    go false false false e (end, i, g) = (end, i, field-put name (textOf n) f g)
 
 -- ---- the words of a row stand after its key
 pub word-at : (parts : List (List ℕ)) (i : ℕ) → getD (drop 1 parts) i [] ≡ getD parts (i + 1) []

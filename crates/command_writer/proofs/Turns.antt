@@ -7,7 +7,8 @@ use lib.ListN.{length, getD, drop}
 use lib.Seq.{drop-cons}
 use Rattle.command.specs.Keys.{Kind, key, keys, kindAt}
 use Rattle.command.specs.Values.{Value, Shown, shown}
-use Rattle.command.specs.Slots.{free, refusalNumber, slotsOf, valueAt, valuesAt, valuesOf}
+use Rattle.command.specs.Refusals.{refusalNumber}
+use Rattle.command.specs.Slots.{free, slotsOf, valueAt, valuesAt, valuesOf}
 use Rattle.command.specs.Write.{Checked, before, checkedOf}
 use Rattle.command.specs.declared.Command.{Command}
 use Rattle.command.specs.declared.Slot.{Slot}

@@ -12,13 +12,14 @@ use Rattle.octets.specs.Outcome.{outcome}
 use Rattle.decimal.specs.declared.Number.{Number}
 use Rattle.frames.specs.Stream.{textLimit}
 use Rattle.command.specs.Keys.{Kind, keys}
-use Rattle.command.specs.Values.{Value, Shown, wordShown, shown}
+use Rattle.command.specs.Values.{Value, Shown, unshown, wordShown, shown}
 use Rattle.command.specs.Meaning.{bytesIn, missing}
 use Rattle.command.specs.Canonical.{canonical}
 use Rattle.command.specs.Slots.{actionCode, slotsOf, bytesAt, valuesOf}
 use Rattle.command.specs.Write.{Checked, Answer, answered, before, checkedOf, writeOf}
 use Rattle.command.specs.declared.Command.{Command}
 use Rattle.command.specs.declared.Place.{Place}
+use Rattle.command.specs.declared.Refusal.{Refusal}
 use Rattle.command.specs.declared.Written.{Written}
 use Rattle.command_writer.specs.Stores.{spare, PutOr}
 use Rattle.command_writer.specs.Pieces.{whole}
@@ -46,12 +47,13 @@ module _ (l : List ℕ) (p : Place) where
           omega (arith, within, length-take (p .len) (drop (p .start) l), length-drop (p .start) l)
       go false et f = let z : _≡_ {A = ℕ} 0 1 = cc in absurd (omega arith)
 
-word-there : (first : ℕ) (ws : List (List ℕ)) (n : Number) → eqb (n .magnitude) 0 ≡ false → wordShown first ws n ≡ Shown.leftOut → ⊥
+word-there : (unknown : Refusal) (first : ℕ) (ws : List (List ℕ)) (n : Number) → eqb (n .magnitude) 0 ≡ false
+    → wordShown unknown first ws n ≡ Shown.leftOut → ⊥
 unfolding wordShown
-word-there first ws n h e = go (n .negative) (ltb (n .magnitude - first) (length ws)) (rw h at e)
+word-there unknown first ws n h e = go (n .negative) (ltb (n .magnitude - first) (length ws)) (rw h at e)
   where
     go : (s t : Bool)
-        → cond s (Shown.refused 6) (cond t (Shown.text (getD ws (n .magnitude - first) [])) (Shown.refused 6)) ≡ Shown.leftOut → ⊥
+        → cond s (unshown unknown) (cond t (Shown.text (getD ws (n .magnitude - first) [])) (unshown unknown)) ≡ Shown.leftOut → ⊥
     go true t q = let z : _≡_ {A = ℕ} 0 1 = cc in omega arith
     go false true q = let z : _≡_ {A = ℕ} 0 1 = cc in omega arith
     go false false q = let z : _≡_ {A = ℕ} 0 1 = cc in omega arith
@@ -89,7 +91,7 @@ module _ (c : Command) (text scratch out : List ℕ) where
     module _ (there : lacking ≡ false) (n : ℕ) (size : spare n ≡ spare (length (whole vs))) where
       canonical-is : canonical vs ≡ whole vs
       unfolding valuesOf slotsOf shown
-      canonical-is = canonical-pieces _ _ fine (λ e. word-there _ _ _ (either-false _ _ there .0) e)
+      canonical-is = canonical-pieces _ _ fine (λ e. word-there _ _ _ _ (either-false _ _ there .0) e)
 
       abbrev short : Bool
       short = ltb textLimit n || ltb (length out) n

@@ -14,7 +14,7 @@ keyAt k = getD keys k (key "" Keys.Kind.integer)
 
 -- ---- a row: the key, and its words after it, parted by blanks
 abbrev pub wordsOf : Keys.Kind → List (List ℕ)
-wordsOf (Keys.Kind.word first ws aliases) = ws
+wordsOf (Keys.Kind.word unknown first ws aliases) = ws
 wordsOf (Keys.Kind.safe short) = []
 wordsOf Keys.Kind.integer = []
 wordsOf Keys.Kind.base64 = []
@@ -28,9 +28,9 @@ nameIn row = getD (split 32 row) 0 []
 abbrev pub wordsIn : List ℕ → List (List ℕ)
 wordsIn row = drop 1 (split 32 row)
 
--- ---- a kind: of words, the first one's code and their number
+-- ---- a kind: of words, the refusal of an unknown one, the first one's code and their number
 abbrev pub kindOf : Keys.Kind → Kind
-kindOf (Keys.Kind.word first ws aliases) = Kind.Word first (length ws)
+kindOf (Keys.Kind.word unknown first ws aliases) = Kind.Word unknown first (length ws)
 kindOf (Keys.Kind.safe short) = Kind.Safe short
 kindOf Keys.Kind.integer = Kind.Integer
 kindOf Keys.Kind.base64 = Kind.Base64

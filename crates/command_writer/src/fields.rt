@@ -65,7 +65,9 @@ fn put_field<'a>(
 {
     let row = part(&ROWS, b';', k);
     match kind_at(k) {
-        Kind::Word(first, count) => word(row, first, count, slot.number, out, at),
+        Kind::Word(unknown, first, count) => {
+            word(row, unknown, first, count, slot.number, out, at)
+        },
         Kind::Safe(short) => safe(row, short, text, slot.place, out, at),
         Kind::Integer => integer(row, slot.number, out, at),
         Kind::Base64 => base64(row, scratch, slot.place, out, at),

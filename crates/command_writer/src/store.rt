@@ -1,12 +1,12 @@
 // Strings put one after another into a buffer. What does not fit is counted all the same, so that an
 // empty buffer serves to measure. Lengths over the limit are not told apart, so that no sum can wrap.
-ghost use mathlib.Core.Bool.{cond};
 ghost use mathlib.Core.Path.{_≡_};
 ghost use Prim.Native.Nat.{_+_};
 ghost use mathlib.Core.List.{[], _∷_, _++_};
 ghost use Rattle.base64.specs.Encode as Base64;
 ghost use Rattle.decimal.specs.Write as Decimal;
-ghost use Rattle.command.specs.Write.{Checked};
+ghost use Rattle.command.specs.Values.{integerShown};
+ghost use Rattle.command.specs.Write.{Checked, before};
 ghost use Rattle.command_writer.specs.Stores.{spare, Put, PutOr};
 ghost use Rattle.command_writer.specs.Table.{nameIn};
 use crate::table::part;
@@ -55,13 +55,13 @@ pub(crate) fn put_base64(bytes: &[u8], out: &mut [u8], at: usize) -> usize
 
 // Puts the text of a number. A negative zero, or a number past signed 64 bits, is refused.
 pub(crate) fn put_number(n: Number, out: &mut [u8], at: usize) -> Written
-    ensures { λ r. ⌜ PutOr (cond (Decimal.writable n) Checked.fine (Checked.fault 6)) (Decimal.textOf n)
+    ensures { λ r. ⌜ PutOr (before (integerShown n) Checked.fine) (Decimal.textOf n)
         (now (out .entry)) at r (now (out .exit)) ⌝ }
 {
     match decimal::write(n, out, at) {
         decimal::Written::End(end) => Written::Length(end),
-        decimal::Written::NegativeZero => Written::Refused(Refusal::BadValue),
-        decimal::Written::OutOfRange => Written::Refused(Refusal::BadValue),
+        decimal::Written::NegativeZero => Written::Refused(Refusal::MalformedInteger),
+        decimal::Written::OutOfRange => Written::Refused(Refusal::OutOfRange),
         decimal::Written::NoRoom => Written::Length(end_of(at, decimal::text_length(n))),
     }
 }

@@ -6,13 +6,14 @@ ghost use lib.ListN.{getD};
 ghost use Rattle.octets.specs.Split.{split};
 ghost use Rattle.command.specs.Keys.{keys, kindAt};
 ghost use Rattle.command_writer.specs.Table.{kindOf};
+use command::Refusal;
 
-// The kinds of values. Of words, the code of the first and how many there are; of a safe string,
-// whether it is at most 32 bytes.
+// The kinds of values. Of words, the refusal of an unknown one, the code of the first and how many
+// there are; of a safe string, whether it is at most 32 bytes.
 pub enum Kind {
     Integer,
     Base64,
-    Word(u64, u64),
+    Word(Refusal, u64, u64),
     Safe(bool),
 }
 
@@ -20,14 +21,14 @@ pub enum Kind {
 pub(crate) const COUNT: usize = 15;
 
 const KINDS: [Kind; COUNT] = [
-    Kind::Word(1, 8),
-    Kind::Word(0, 1),
-    Kind::Word(0, 4),
-    Kind::Word(0, 2),
+    Kind::Word(Refusal::UnknownWord, 1, 8),
+    Kind::Word(Refusal::UnknownWord, 0, 1),
+    Kind::Word(Refusal::UnknownWord, 0, 4),
+    Kind::Word(Refusal::UnknownWord, 0, 2),
     Kind::Safe(true),
     Kind::Safe(true),
     Kind::Safe(false),
-    Kind::Word(0, 3),
+    Kind::Word(Refusal::OutOfRange, 0, 3),
     Kind::Integer,
     Kind::Integer,
     Kind::Integer,

@@ -21,9 +21,11 @@ use command::letters;
 use command::letters::Class;
 use decimal::Number;
 
-// The word of a code. The words stand in the row, after its key; `first` is the code of the first.
+// The word of a code, which else is refused as unknown. The words stand in the row, after its key;
+// `first` is the code of the first.
 pub(crate) fn word(
     row: &[u8],
+    unknown: Refusal,
     first: u64,
     count: u64,
     n: Number,
@@ -31,18 +33,18 @@ pub(crate) fn word(
     at: usize,
 ) -> Written
     requires { ⌜ (first ≤ 1) × (length (wordsIn (now row)) ≡ count) ⌝ }
-    ensures { λ r. ⌜ FieldPut (nameIn (now (row .entry))) (wordShown first (wordsIn (now (row .entry))) n)
+    ensures { λ r. ⌜ FieldPut (nameIn (now (row .entry))) (wordShown unknown first (wordsIn (now (row .entry))) n)
         (now (out .entry)) at r (now (out .exit)) ⌝ }
 {
     if n.negative {
-        return Written::Refused(Refusal::BadValue);
+        return Written::Refused(unknown);
     }
     if n.magnitude == 0 {
         return Written::Length(at);
     }
     let i = n.magnitude - first;
     if i >= count {
-        return Written::Refused(Refusal::BadValue);
+        return Written::Refused(unknown);
     }
     let value = put_key(row, out, at);
     Written::Length(put(part(row, b' ', i as usize + 1), out, value))
@@ -57,7 +59,7 @@ pub(crate) fn integer(row: &[u8], n: Number, out: &mut [u8], at: usize) -> Writt
         return put_number(n, out, value);
     }
     if n.negative {
-        return Written::Refused(Refusal::BadValue);
+        return Written::Refused(Refusal::MalformedInteger);
     }
     Written::Length(at)
 }
@@ -75,11 +77,11 @@ pub(crate) fn safe(
         (now (out .entry)) at r (now (out .exit)) ⌝ }
 {
     if !octets::fits(place.start, place.len, text.len()) {
-        return Written::Refused(Refusal::BadValue);
+        return Written::Refused(Refusal::UnsafeCharacter);
     }
     let s = bytes_at(text, place);
     if !letters::all(Class::Safe, s) {
-        return Written::Refused(Refusal::BadValue);
+        return Written::Refused(Refusal::UnsafeCharacter);
     }
     if over(short, s.len()) {
         return Written::Refused(Refusal::TooLong);
@@ -107,7 +109,7 @@ pub(crate) fn base64(row: &[u8], scratch: &[u8], place: Place, out: &mut [u8], a
         (now (out .entry)) at r (now (out .exit)) ⌝ }
 {
     if !octets::fits(place.start, place.len, scratch.len()) {
-        return Written::Refused(Refusal::BadValue);
+        return Written::Refused(Refusal::Base64Length);
     }
     if place.len == 0 {
         return Written::Length(at);

@@ -14,6 +14,7 @@ use Rattle.command.specs.Slots.{free, slotsOf, valuesOf}
 use Rattle.command.specs.Read.{scratchRoom, Reader, storedFor, slotFor, keptBy, kept, begun, Answer, finished, readOf, meaningIn}
 use Rattle.command.specs.declared.Slot.{Slot}
 use Rattle.command.specs.declared.Command.{Command}
+use Rattle.command.proofs.ReadValues.{ofText}
 use Rattle.command.proofs.SimulationFields.{Agree, on, off, text-agree}
 use Rattle.command.proofs.Simulation.{read-means}
 use Rattle.protocol.specs.Sessions.{stringIn}
@@ -78,9 +79,9 @@ same-command t after after′ c e =
       payload = string-means after (c .payload) ∙ ap (value 14) e ∙ sym (string-means after′ (c .payload));
     }
 
--- two readings of one text: the same refusal, one of 1 to 8, or the same command
+-- two readings of one text: the same refusal, which is one of a text, or the same command
 pub data SameReading (t : List ℕ) : Outcome Answer → Outcome Answer → Type 0 where
-  refused : (n : ℕ) (after after′ : List ℕ) → n ≤ 8
+  refused : (n : ℕ) (after after′ : List ℕ) → ofText n ≡ true
       → SameReading t (outcome (Answer.refused n) after) (outcome (Answer.refused n) after′)
   read : (c : Command) (after after′ : List ℕ) → SameCommand t c after after′
       → SameReading t (outcome (Answer.read c) after) (outcome (Answer.read c) after′)

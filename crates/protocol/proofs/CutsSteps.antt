@@ -20,7 +20,7 @@ use Rattle.protocol.specs.declared.Table.{Table}
 use Rattle.protocol.specs.declared.Told.{Told}
 use Rattle.protocol.specs.declared.Told.the-variants as Told
 use Rattle.protocol.specs.declared.Stepped.{Stepped}
-use Rattle.protocol.proofs.Laws.{low-taken}
+use Rattle.protocol.proofs.Laws.{text-taken}
 use Rattle.protocol.proofs.Tellings.{Tells, tells-taken, tells-same}
 use Rattle.protocol.proofs.Sizes.{obey-sized}
 use Rattle.protocol.proofs.CutsReading.{SameReading, refused, read}
@@ -52,7 +52,7 @@ unread-same t w text scratch scratch′ e u =
 
 pub act-same : (t : Table) → Sized t → (text : List ℕ) {o o′ : Outcome Answer} → SameReading text o o′
     → SameAct text (readAct t text o) (readAct t text o′)
-act-same t h text (refused n after after′ l) = unread-same t (Told.Refused n) text after after′ refl (low-taken n l)
+act-same t h text (refused n after after′ l) = unread-same t (Told.Refused n) text after after′ refl (text-taken n l)
 act-same t h text (read c after after′ s) =
     let e : obeyOf t c text after ≡ obeyOf t c text after′ = obey-same t c text after after′ (s .name) in
     let w : Tells (c .payload) (obeyOf t c text after .told) = obey-sized t h c text after .told in

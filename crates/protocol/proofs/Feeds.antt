@@ -22,7 +22,7 @@ use Rattle.protocol.specs.declared.Told.the-variants as Told
 use Rattle.protocol.specs.declared.Owed.{Owed}
 use Rattle.protocol.specs.declared.Owed.the-variants as Owed
 use Rattle.protocol.proofs.Ours.{Lent, step}
-use Rattle.protocol.proofs.Laws.{low-taken}
+use Rattle.protocol.proofs.Laws.{text-taken}
 use Rattle.protocol.proofs.Means.{Read, command, refused, text-read}
 use Rattle.protocol.specs.Sound.{Sound}
 use Rattle.protocol.proofs.Invariant.{TableOK}
@@ -51,7 +51,7 @@ module _ {ss : List Session} {m : List Mark} (sound : Sound (idle ss)) (same : T
           → ActOK ss (readMark d m) (readAct (idle ss) text (record { answer = a; buffer = readOf text scratch .buffer }))
       go (Answer.read c) (command means) = let k = obey-kept means sound same in record { ok = k .ok; none = k .none; taken = k .taken }
       go (Answer.refused n) (refused l) =
-          record { ok = same; none = none-same (idle ss) Owed.Nothing; taken = low-taken n l }
+          record { ok = same; none = none-same (idle ss) Owed.Nothing; taken = text-taken n l }
 
   report-act : (r : Report) → (r ≡ Report.ShortCarry → ⊥) → ActOK ss (toldMarks (toldOf r text) m) (reportAct (idle ss) r text scratch)
   report-act Report.Nothing n = record { ok = same; none = none-same (idle ss) Owed.Nothing; taken = refl }

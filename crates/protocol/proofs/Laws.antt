@@ -11,6 +11,7 @@ use borrow.Author.Tests.{ne-eqb}
 use Rattle.octets.specs.Slices.{equals}
 use Rattle.octets.proofs.Below.{both-test}
 use Rattle.octets.proofs.Compare.{equals-refl, equals-sound}
+use Rattle.command.proofs.ReadValues.{ofText}
 use Rattle.protocol.specs.Machine.{isUnfed}
 use Rattle.protocol.specs.declared.Told.the-variants as Told
 use Rattle.protocol.specs.Sound.{Unique}
@@ -25,8 +26,8 @@ pub no-way : {A : Type 0} → _≡_ {A = Bool} true false → A
 no-way e = let z : _≡_ {A = ℕ} 0 1 = cc in absurd (omega arith)
 
 -- the refusals of a text are told by a feed that took its bytes
-pub low-taken : (n : ℕ) → n ≤ 8 → isUnfed (Told.Refused n) ≡ false
-low-taken n l = rw (ne-eqb n 9 (λ e. omega arith), ne-eqb n 10 (λ e. omega arith))
+pub text-taken : (n : ℕ) → ofText n ≡ true → isUnfed (Told.Refused n) ≡ false
+text-taken n l = rw (ne-eqb n 9 (λ e. no-way (sym (rw e at l))), ne-eqb n 10 (λ e. no-way (sym (rw e at l))))
 
 pub both-false : (a : Bool) → (a && false) ≡ false
 both-false true = refl

@@ -17,6 +17,7 @@ use Rattle.command.specs.Read.{scratchRoom, Answer, readOf}
 use Rattle.command.specs.declared.Place.{Place}
 use Rattle.command.specs.declared.Action.{Action}
 use Rattle.command.specs.declared.Command.{Command as PlacedCommand}
+use Rattle.command.proofs.ReadValues.{ofText}
 use Rattle.command.proofs.Simulation.{read-means, read-length}
 use Rattle.command.proofs.SimulationHeld.{Held, read-held}
 use Rattle.protocol.specs.Sessions.{stringIn, idIn, fileIdIn}
@@ -73,7 +74,7 @@ values-mean c text scratch n h quiet =
 -- what reading answers and what the text means
 pub data Read (text scratch : List ℕ) : Answer → Meaning → Type 0 where
   command : {c : PlacedCommand} {d : List Value} → Means c text scratch d → Read text scratch (Answer.read c) (Meaning.command d)
-  refused : {n : ℕ} → n ≤ 8 → Read text scratch (Answer.refused n) (Meaning.refused n)
+  refused : {n : ℕ} → ofText n ≡ true → Read text scratch (Answer.refused n) (Meaning.refused n)
 
 pub text-read : (text scratch : List ℕ) → scratchRoom ≤ length scratch
     → Read text (readOf text scratch .buffer) (readOf text scratch .answer) (meaningOf text)

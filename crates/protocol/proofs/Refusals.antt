@@ -1,4 +1,4 @@
--- What holds of every text that is read: a refusal is one of 1 to 8, and of a command the ids are safe strings of at most 32
+-- What holds of every text that is read: a refusal is one of a text, and of a command the ids are safe strings of at most 32
 -- bytes, that of the session not empty.
 use Prim.Native.Nat.{ℕ, zero, suc, _+_, _≤_}
 use mathlib.Core.Path.{_≡_, refl}
@@ -6,7 +6,7 @@ use mathlib.Core.Bool.{Bool, true, false, cond, _&&_, _||_}
 use mathlib.Core.List.{List, [], _∷_}
 use native.Mathlib.Omega.{arith}
 use lib.ListN.{length, getD, drop}
-use lib.Dec.{ltb, eqb, lit≤}
+use lib.Dec.{ltb, eqb}
 use borrow.Author.Tests.{ltb-false, eqb-false}
 use Rattle.frames.specs.Stream.{textLimit}
 use Rattle.octets.specs.Members.{every}
@@ -19,15 +19,15 @@ use Rattle.command.specs.Values.{Value, Got, valueRead}
 use Rattle.command.specs.Fields.{Turn, andThen, Step, isKey, equalsSign, keyOf, valueOf, fieldRead, fieldsRead, textRead}
 use Rattle.command.specs.Meaning.{Field, stored, once, meant, blank, valuesIn, bytesIn, actionCode, idOf, fileIdOf}
 use Rattle.command.specs.Meaning.{missing, Meaning, complete, finished, meaningOf}
-use Rattle.command.proofs.ReadValues.{Reads, as-word, as-string, as-integer, as-bytes, refused, reads}
+use Rattle.command.proofs.ReadValues.{ofText, known, keys-known, Reads, as-word, as-string, as-integer, as-bytes, refused, reads}
 use Rattle.protocol.specs.Sound.{IsId}
 use Rattle.protocol.proofs.Laws.{set-any}
 
 -- ---- a reading of which P holds step by step
--- the state after a turn has P, and a refusal is at most 8
+-- the state after a turn has P, and a refusal is one of a text
 data Turns {S : Type 0} (P : S → Type 0) : Turn S → Type 0 where
   on : {s : S} → P s → Turns P (Turn.on s)
-  off : (r : ℕ) {s : S} → r ≤ 8 → Turns P (Turn.off r s)
+  off : (r : ℕ) {s : S} → ofText r ≡ true → Turns P (Turn.off r s)
 
 module _ {S : Type 0} (P : S → Type 0) (step : Step S) (keeps : (n at : ℕ) (v : List ℕ) (s : S) → P s → Turns P (step n at v s)) where
   field-turns : (at : ℕ) (f : List ℕ) (s : S) → P s → Turns P (fieldRead step at f s)
@@ -40,7 +40,7 @@ module _ {S : Type 0} (P : S → Type 0) (step : Step S) (keeps : (n at : ℕ) (
       go : (a b : Bool) → Turns P (cond a (cond b turn (Turn.on s)) (Turn.off 4 s))
       go true true = keeps (numberOf keys (keyOf f)) (at + (equalsSign f + 1)) (valueOf f) s h
       go true false = on h
-      go false b = off 4 (lit≤ tt)
+      go false b = off 4 refl
 
   fields-turns : (at : ℕ) (fs : List (List ℕ)) (s : S) → P s → Turns P (fieldsRead step at fs s)
   unfolding fieldsRead
@@ -60,15 +60,15 @@ module _ {S : Type 0} (P : S → Type 0) (step : Step S) (keeps : (n at : ℕ) (
       turn = fieldsRead step 5 (split 59 (drop 5 t)) s
 
       go : (a b c : Bool) → Turns P (cond a (Turn.off 1 s) (cond b (cond c turn (Turn.off 4 s)) (Turn.off 3 s)))
-      go true b c = off 1 (lit≤ tt)
+      go true b c = off 1 refl
       go false true true = fields-turns 5 (split 59 (drop 5 t)) s h
-      go false true false = off 4 (lit≤ tt)
-      go false false c = off 3 (lit≤ tt)
+      go false true false = off 4 refl
+      go false false c = off 3 refl
 
 -- ---- values
 -- of a safe string that has stood
 abbrev Fit : Kind → Field → Type 0
-Fit (Kind.word first ws aliases) f = Unit {0}
+Fit (Kind.word unknown first ws aliases) f = Unit {0}
 Fit (Kind.safe short) Field.unseen = Unit {0}
 Fit (Kind.safe short) (Field.seen v) = (every safeByte (bytesIn v) ≡ true) × (short ≡ true → length (bytesIn v) ≤ 32)
 Fit Kind.integer f = Unit {0}
@@ -77,21 +77,21 @@ Fit Kind.base64 f = Unit {0}
 -- of what the text of a value reads as
 abbrev FitGot : Kind → Got → Type 0
 FitGot k (Got.got v) = Fit k (Field.seen v)
-FitGot k (Got.refused r) = r ≤ 8
+FitGot k (Got.refused r) = ofText r ≡ true
 
-value-fits : {k : Kind} {v : List ℕ} {g : Got} → Reads k v g → FitGot k g
-value-fits (as-word h) = tt
-value-fits (as-string s o) = (s, λ e. ltb-false _ _ (rw e at o))
-value-fits as-integer = tt
-value-fits (as-bytes e) = tt
-value-fits (refused r l) = l
+value-fits : {k : Kind} {v : List ℕ} {g : Got} → known k ≡ true → Reads k v g → FitGot k g
+value-fits o (as-word h) = tt
+value-fits o (as-string s l) = (s, λ e. ltb-false _ _ (rw e at l))
+value-fits o as-integer = tt
+value-fits o (as-bytes e) = tt
+value-fits o (refused r l) = l o
 
 -- ---- the fields
 abbrev AllFit : List Field → Type 0
 AllFit fs = (n : ℕ) → Fit (kindAt keys n) (getD fs n Field.unseen)
 
 unseen-fits : (k : Kind) → Fit k Field.unseen
-unseen-fits (Kind.word first ws aliases) = tt
+unseen-fits (Kind.word unknown first ws aliases) = tt
 unseen-fits (Kind.safe short) = tt
 unseen-fits Kind.integer = tt
 unseen-fits Kind.base64 = tt
@@ -109,8 +109,8 @@ meant-turns n at v s h = go (getD s n Field.unseen)
     new (Got.refused r) l = off r l
 
     go : (f : Field) → Turns AllFit (once f (stored n s (valueRead (kindAt keys n) v)) s)
-    go Field.unseen = new (valueRead (kindAt keys n) v) (value-fits (reads (kindAt keys n) v))
-    go (Field.seen x) = off 5 (lit≤ tt)
+    go Field.unseen = new (valueRead (kindAt keys n) v) (value-fits (keys-known n) (reads (kindAt keys n) v))
+    go (Field.seen x) = off 5 refl
 
 -- ---- the command
 value-safe : (ks : List Key) (s : List Field) (n : ℕ) → ((i : ℕ) → Fit (kindAt ks i) (getD s i Field.unseen))
@@ -164,14 +164,14 @@ meaning-named t d e = go (read-turns t) e
     go (on {s} h) q = complete-named s d h q
     go (off r l) q = let z : _≡_ {A = ℕ} 0 1 = cc in absurd (omega arith)
 
-pub meaning-refusal : (t : List ℕ) (n : ℕ) → meaningOf t ≡ Meaning.refused n → n ≤ 8
+pub meaning-refusal : (t : List ℕ) (n : ℕ) → meaningOf t ≡ Meaning.refused n → ofText n ≡ true
 unfolding meaningOf
 meaning-refusal t n e = go (read-turns t) e
   where
-    at-most : (b : Bool) (v : List Value) → cond b (Meaning.refused 7) (Meaning.command v) ≡ Meaning.refused n → n ≤ 8
-    at-most true v q = let z : 7 ≡ n = cc in omega arith
-    at-most false v q = let z : _≡_ {A = ℕ} 0 1 = cc in absurd (omega arith)
+    at-end : (b : Bool) (v : List Value) → cond b (Meaning.refused 7) (Meaning.command v) ≡ Meaning.refused n → ofText n ≡ true
+    at-end true v q = let z : 7 ≡ n = cc in rw (← z)
+    at-end false v q = let z : _≡_ {A = ℕ} 0 1 = cc in absurd (omega arith)
 
-    go : {x : Turn (List Field)} → Turns AllFit x → finished x ≡ Meaning.refused n → n ≤ 8
-    go (on {s} h) q = at-most (missing (valuesIn keys s)) (valuesIn keys s) q
-    go (off r l) q = let z : r ≡ n = cc in omega arith
+    go : {x : Turn (List Field)} → Turns AllFit x → finished x ≡ Meaning.refused n → ofText n ≡ true
+    go (on {s} h) q = at-end (missing (valuesIn keys s)) (valuesIn keys s) q
+    go (off r l) q = let z : r ≡ n = cc in rw (← z) l

@@ -57,7 +57,7 @@ acted s c scratch = record { step = s; command = c; scratch = scratch }
 abbrev pub unread : Table → Told → List ℕ → Acted
 unread t w scratch = acted (telling t w) noCommand scratch
 
--- a text that was read is obeyed. "Refusals 1 to 8 send no reply" and leave "no session changed".
+-- a text that was read is obeyed. "Refusals 1 to 8 send no reply" and leave "no session changed"; so do 61 to 67.
 abbrev pub readAct : Table → List ℕ → Outcome Answer → Acted
 readAct t text o = go (o .answer)
   where

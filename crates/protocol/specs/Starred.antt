@@ -72,9 +72,9 @@ starred =
     -- "`c29tZWZpbGU=` is `somefile`"
     ∷ Case.decodes (ascii "c29tZWZpbGU=") (ascii "somefile")
     ∷ Case.reads (withData (ascii "c29tZWZpbGU=")) (ascii "d") (Got.got (Value.bytes (ascii "somefile")))
-    -- "`AQ` and `AR==` give 6"
-    ∷ Case.reads (withData (ascii "AQ")) (ascii "d") (Got.refused 6)
-    ∷ Case.reads (withData (ascii "AR==")) (ascii "d") (Got.refused 6)
+    -- "`AQ` and `AR==` give 6", since document 02 65 and 67
+    ∷ Case.reads (withData (ascii "AQ")) (ascii "d") (Got.refused 65)
+    ∷ Case.reads (withData (ascii "AR==")) (ascii "d") (Got.refused 67)
     -- "id 32 bytes read, 33 gives 8"
     ∷ Case.reads (withId (replicate 32 105)) (ascii "id") (Got.got (Value.bytes (replicate 32 105)))
     ∷ Case.reads (withId (replicate 33 105)) (ascii "id") (Got.refused 8)
@@ -85,6 +85,6 @@ starred =
     ∷ Case.adds (ascii "5113;ac=data;id=m;fid=a") 0
     -- "status CANCELED is `Q0FOQ0VMRUQ=`"
     ∷ Case.shows Status.Canceled (ascii "Q0FOQ0VMRUQ=")
-    -- "`q=3` gives 6"
-    ∷ Case.reads (ascii "5113;ac=send;id=m;q=3") (ascii "q") (Got.refused 6)
+    -- "`q=3` gives 6", since document 02 64
+    ∷ Case.reads (ascii "5113;ac=send;id=m;q=3") (ascii "q") (Got.refused 64)
     ∷ []

@@ -3,12 +3,10 @@ ghost use mathlib.Core.List.{List};
 ghost use mathlib.Core.Path.{_≡_};
 ghost use Prim.Native.Nat.{ℕ};
 ghost use Rattle.command.specs.Read.{readOf};
-ghost use Rattle.command.specs.Slots.{refusalNumber};
 ghost use Rattle.sessions.specs.Leaving.{taken};
 ghost use Rattle.protocol.specs.Calls.{acted, unread, readAct, reportAct};
 use command::Command;
 use command::Reading;
-use command::Refusal;
 use frames::Report;
 use protocol::Table;
 use protocol::Told;
@@ -45,23 +43,7 @@ fn read(table: Table, text: &[u8], scratch: &mut [u8]) -> Acted
             next: sessions::obey(table, command, text, scratch),
             command: command,
         },
-        Reading::Refused(refusal) => tell(table, Told::Refused(number(refusal))),
-    }
-}
-
-// The refusal's number in document 01.
-fn number(refusal: Refusal) -> u8
-    ensures { λ n. ⌜ n ≡ refusalNumber refusal ⌝ }
-{
-    match refusal {
-        Refusal::TextTooLong => 1,
-        Refusal::BadByte => 3,
-        Refusal::BadField => 4,
-        Refusal::Repeated => 5,
-        Refusal::BadValue => 6,
-        Refusal::Missing => 7,
-        Refusal::TooLong => 8,
-        Refusal::ShortBuffer => 9,
+        Reading::Refused(refusal) => tell(table, Told::Refused(refusal.number())),
     }
 }
 

@@ -91,16 +91,7 @@ fn number(run: Run, r: Reading) -> Run {
 }
 
 fn refused(run: Run, refusal: Refusal) -> Run {
-    match refusal {
-        Refusal::TextTooLong => run.number(1),
-        Refusal::BadByte => run.number(3),
-        Refusal::BadField => run.number(4),
-        Refusal::Repeated => run.number(5),
-        Refusal::BadValue => run.number(6),
-        Refusal::Missing => run.number(7),
-        Refusal::TooLong => run.number(8),
-        Refusal::ShortBuffer => run.number(9),
-    }
+    run.number(refusal.number() as usize)
 }
 
 fn write<'a>(run: Run, c: Command, text: &'a [u8], scratch: &'a [u8]) -> Run {

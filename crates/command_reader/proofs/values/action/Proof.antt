@@ -33,7 +33,7 @@ returns-2 : tie.Need-returns-2
 returns-2 c =
     let plain = c .before .before in
     let e = sym (plain .before .equal .ensures) ∙ plain .if1 .left in
-    λ at. no-alias 1 _ finished _ (c .word .result) at e (c .word .ensures at)
+    λ at. no-alias _ 1 _ finished _ (c .word .result) at e (c .word .ensures at)
 
 pub action-spec : {M : Type 1} → statement M
 action-spec =

@@ -24,11 +24,14 @@ enum-known-n c = search needs
 placed-requires : tie.Need-placed-requires
 placed-requires c κs = search needs
 
+enum-known-fault : tie.Need-enum-known-fault
+enum-known-fault c = search needs
+
+base64-refusal-requires : tie.Need-base64-refusal-requires
+base64-refusal-requires c κs = search needs
+
 enum-told : tie.Need-enum-told
 enum-told c = search needs
-
-enum-told-2 : tie.Need-enum-told-2
-enum-told-2 c = search needs
 
 same-length : tie.Need-same-length
 same-length c = search needs
@@ -43,13 +46,16 @@ same-length-2 : tie.Need-same-length-2
 same-length-2 c = search needs
 
 returns-2 : tie.Need-returns-2
-returns-2 c = told (c .before .before .before .before) _ (c .enum-told .given .1)
+returns-2 c =
+    let invalid = c .before .before in
+    let decode = invalid .before .before .before .before in
+    λ at n slots. rw (c .base64-refusal .ensures) (told decode _ (invalid .fault .given .1) at n slots)
 
 same-length-3 : tie.Need-same-length-3
 same-length-3 c = search needs
 
 returns-3 : tie.Need-returns-3
-returns-3 c = told (c .before .before .before .before) _ (c .enum-told2 .given .1)
+returns-3 c = told (c .before .before .before .before) _ (c .enum-told .given .1)
 
 pub base64-spec : {M : Type 1} → statement M
 base64-spec =
@@ -58,8 +64,9 @@ base64-spec =
     decode-requires
     enum-known-n
     placed-requires
+    enum-known-fault
+    base64-refusal-requires
     enum-told
-    enum-told-2
     same-length
     returns
     same-length-2

@@ -30,11 +30,11 @@ part-requires c κs = search needs
 kind-at-requires : tie.Need-kind-at-requires
 kind-at-requires c κs = search needs
 
-enum-known-first : tie.Need-enum-known-first
-enum-known-first c = search needs
+enum-known-unknown : tie.Need-enum-known-unknown
+enum-known-unknown c = search needs
 
 word-requires : tie.Need-word-requires
-word-requires c κs = let first = c .before .before in row (first .before .before) (first .first .given .1) .2
+word-requires c κs = let unknown = c .before .before in row (unknown .before .before) (unknown .unknown .given .1) .2
 
 enum-known-short : tie.Need-enum-known-short
 enum-known-short c = search needs
@@ -61,8 +61,8 @@ returns : tie.Need-returns
 unfolding shown
 returns c =
     let word = c .before .before in
-    let first = word .before .before .before in
-    let r = row (first .before .before) (first .first .given .1) in rw (r .0, r .1) (word .word .ensures)
+    let unknown = word .before .before .before in
+    let r = row (unknown .before .before) (unknown .unknown .given .1) in rw (r .0, r .1) (word .word .ensures)
 
 same-length-2 : tie.Need-same-length-2
 same-length-2 c = search needs
@@ -99,7 +99,7 @@ put-field-spec =
     slice-aggregate-part
     part-requires
     kind-at-requires
-    enum-known-first
+    enum-known-unknown
     word-requires
     enum-known-short
     safe-requires

@@ -1,10 +1,10 @@
-use mathlib.Core.Bool.{cond}
 use Prim.Native.Nat.{ℕ, _+_}
 use mathlib.Core.Path.{_≡_, refl}
 use lib.ListN.{length}
-use Rattle.decimal.specs.Write.{textOf, writable}
+use Rattle.decimal.specs.Write.{textOf}
 use Rattle.decimal.specs.declared.Written.{Written}
-use Rattle.command.specs.Write.{Checked}
+use Rattle.command.specs.Values.{integerShown}
+use Rattle.command.specs.Write.{Checked, before}
 use Rattle.command_writer.specs.Stores.{spare, PutOr}
 use Rattle.command_writer.proofs.Puts.{numberTold, put-number}
 use borrow.Author.Needs.{needs}
@@ -14,8 +14,7 @@ use Rattle.command_writer.proofs.store.put_number.Tie as tie
 -- whatever `write` answered, the number is put or refused
 told : (c : tie.After-write) (w : Written) (end : ℕ) → c .write .result ≡ w
     → let a = c .before .before .before .args in spare end ≡ spare (a .at + length (textOf (a .n)))
-    → let checked = cond (writable (a .n)) Checked.fine (Checked.fault 6) in
-    PutOr checked (textOf (a .n)) (a .out .now) (a .at) (numberTold w end) (c .write .last .1 .0)
+    → PutOr (before (integerShown (a .n)) Checked.fine) (textOf (a .n)) (a .out .now) (a .at) (numberTold w end) (c .write .last .1 .0)
 told c w end e s =
     let a = c .before .before .before .args in
     put-number (a .n) (a .out .now) _ (a .at) end w (rw e at (c .write .ensures .0)) s

@@ -6,8 +6,9 @@ use lib.ListN.{length}
 use lib.Dec.{leb}
 use borrow.Author.Tests.{leb-true, not-true, not-false}
 use Rattle.command.specs.Keys.{Kind}
-use Rattle.command.specs.Values.{Shown, over, textOr, safeShown, shown}
+use Rattle.command.specs.Values.{unshown, over, textOr, safeShown, shown}
 use Rattle.command.specs.Slots.{bytesAt}
+use Rattle.command.specs.declared.Refusal.the-variants as Refusal
 use Rattle.command_writer.specs.Table.{nameIn}
 use Rattle.command_writer.proofs.Puts.{put-none}
 use Rattle.command_writer.proofs.Shows.{place-in, place-out, text-none, text-some, field-put}
@@ -30,7 +31,8 @@ bytes c = c .bytes-at .result .now
 -- within, it is shown as its bytes are
 shown-by : (c : tie.After-all) → let b = c .before in let a = start b .args in
     shown (Kind.safe (a .short)) (bytesAt (a .text .now) (a .place))
-    ≡ cond (c .all .result) (cond (over (a .short) (bytes b)) (Shown.refused 8) (textOr (bytes b))) (Shown.refused 6)
+    ≡ cond (c .all .result) (cond (over (a .short) (bytes b)) (unshown Refusal.TooLong) (textOr (bytes b)))
+    (unshown Refusal.UnsafeCharacter)
 unfolding shown safeShown
 shown-by c =
     let b = c .before in
@@ -39,7 +41,8 @@ shown-by c =
 
 -- past the second test its bytes are safe
 shown-here : (c : tie.Else2) → let b = c .before .before in let a = start b .args in
-    shown (Kind.safe (a .short)) (bytesAt (a .text .now) (a .place)) ≡ cond (over (a .short) (bytes b)) (Shown.refused 8) (textOr (bytes b))
+    shown (Kind.safe (a .short)) (bytesAt (a .text .now) (a .place))
+    ≡ cond (over (a .short) (bytes b)) (unshown Refusal.TooLong) (textOr (bytes b))
 shown-here c = let all = c .before in shown-by all ∙ rw (not-false (all .all .result) (c .if2 .left))
 
 fits-requires : tie.Need-fits-requires
