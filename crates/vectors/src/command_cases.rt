@@ -32,7 +32,10 @@ fn ids(before: Run) -> Run {
     run = filled(run, b"5113;id=", b'i', 33, b";ac=bad");
     run = filled(run, b"5113;ac=bad;id=", b'i', 33, b"");
     run = filled(run, b"5113;id=m;id=", b'i', 33, b";ac=send");
-    filled(run, b"5113;ac=send;id=m;pr=", b'i', 33, b"")
+    run = filled(run, b"5113;ac=send;id=m;pr=", b'i', 33, b"");
+    run = filled(run, b"5113;ac=send;id=m;fid=", b'f', 33, b"");
+    run = filled(run, b"5113;ac=send;id=m;fid=", b'f', 33, b"!");
+    filled(run, b"5113;ac=send;sz=x;id=", b'i', 33, b"")
 }
 
 // Long values, and what a refused id leaves in the scratch.
@@ -94,7 +97,7 @@ fn refused(run: Run, refusal: Refusal) -> Run {
     run.number(refusal.number() as usize)
 }
 
-fn write<'a>(run: Run, c: Command, text: &'a [u8], scratch: &'a [u8]) -> Run {
+pub(crate) fn write<'a>(run: Run, c: Command, text: &'a [u8], scratch: &'a [u8]) -> Run {
     let mut again = [0u8; Framing::TEXT_LIMIT];
     let told = match command_writer::write(c, text, scratch, &mut again) {
         Written::Length(n) => written(run, octets::part(&again, 0, n)),

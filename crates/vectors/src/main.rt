@@ -9,6 +9,7 @@ mod command_cases;
 mod decimal_cases;
 mod frame_cases;
 mod name_cases;
+mod write_cases;
 
 use frames::Framing;
 use streams::Got;
@@ -33,6 +34,7 @@ fn cases(bytes: &[u8]) -> Run {
     run = decimal_cases::run(run);
     run = name_cases::run(run);
     run = command_cases::run(run);
+    run = write_cases::run(run);
     frame_cases::run(run)
 }
 
