@@ -25,7 +25,7 @@ pub const CARRY: usize = 8192;
 pub const SCRATCH: usize = 6144;
 pub const REPLY: usize = 124;
 
-/// Why a call or a text was refused, with document 01's numbers.
+/// Why a call or a text was refused, with the numbers of document 01 and, for values, of order 4.
 #[derive(Clone, Copy, Debug, PartialEq)]
 #[repr(u8)]
 pub enum Refusal {
@@ -34,7 +34,14 @@ pub enum Refusal {
     BadByte = 3,
     BadField = 4,
     Repeated = 5,
-    BadValue = 6,
+    /// Document 01's 6, split by what is wrong with the value.
+    UnknownWord = 61,
+    UnsafeCharacter = 62,
+    MalformedInteger = 63,
+    OutOfRange = 64,
+    Base64Length = 65,
+    Base64Character = 66,
+    UnusedBits = 67,
     Missing = 7,
     LongId = 8,
     ShortBuffer = 9,

@@ -1,6 +1,6 @@
 //! Base64 of RFC 4648 section 4: padding required, unused bits zero.
 
-use super::scan;
+use super::{scan, Refusal};
 
 pub const ALPHABET: &[u8; 64] = b"ABCDEFGHIJKLMNOPQRSTUVWXYZabcdefghijklmnopqrstuvwxyz0123456789+/";
 
@@ -29,15 +29,23 @@ fn padding(text: &[u8]) -> usize {
     text.iter().rev().take(2).take_while(|&&b| b == b'=').count()
 }
 
-/// The decoded length, or `None` if the text is not Base64. Looks at the whole text.
-pub fn check(text: &[u8]) -> Option<usize> {
+/// The first byte that may not stand among the digits decides. A `=` in a right place is none of them.
+fn first_fault(digits: &[u8]) -> Refusal {
+    match digits.iter().find(|&&b| !in_alphabet(b)) {
+        Some(b'=') => Refusal::Base64Length,
+        _ => Refusal::Base64Character,
+    }
+}
+
+/// The decoded length, or what is wrong. Looks at the whole text.
+pub fn check(text: &[u8]) -> Result<usize, Refusal> {
     if !text.len().is_multiple_of(4) {
-        return None;
+        return Err(Refusal::Base64Length);
     }
     let padding = padding(text);
     let digits = &text[..text.len() - padding];
     if !scan::all(digits, in_alphabet) {
-        return None;
+        return Err(first_fault(digits));
     }
     let unused = match padding {
         0 => 0,
@@ -45,7 +53,10 @@ pub fn check(text: &[u8]) -> Option<usize> {
         _ => 0b1111,
     };
     let last = digits.last().map_or(0, |&b| SEXTETS[b as usize]);
-    (last & unused == 0).then(|| text.len() / 4 * 3 - padding)
+    if last & unused != 0 {
+        return Err(Refusal::UnusedBits);
+    }
+    Ok(text.len() / 4 * 3 - padding)
 }
 
 #[inline]
@@ -85,10 +96,10 @@ pub fn encode(bytes: &[u8], out: &mut [u8]) -> usize {
 mod tests {
     use super::*;
 
-    fn decoded(text: &[u8]) -> Option<Vec<u8>> {
+    fn decoded(text: &[u8]) -> Result<Vec<u8>, Refusal> {
         let mut out = vec![0; check(text)?];
         decode(text, &mut out);
-        Some(out)
+        Ok(out)
     }
 
     /// RFC 4648 section 10.
@@ -117,7 +128,40 @@ mod tests {
         assert_eq!(decoded(b"AQID").unwrap(), [1, 2, 3]);
         assert_eq!(decoded(b"c29tZWZpbGU=").unwrap(), b"somefile");
         for bad in ["AQ", "AR==", "A===", "====", "AA=A", "A=AA", "AAA!", "AQI=AQID", "AAB="] {
-            assert_eq!(decoded(bad.as_bytes()), None, "{bad}");
+            assert!(decoded(bad.as_bytes()).is_err(), "{bad}");
+        }
+    }
+
+    /// Order 4's reading, word for word: the length, then each character from the left, then the unused bits.
+    fn by_the_page(text: &[u8]) -> Option<Refusal> {
+        if text.len() % 4 != 0 {
+            return Some(Refusal::Base64Length);
+        }
+        for (i, &b) in text.iter().enumerate() {
+            let padding = i + 1 == text.len() || i + 2 == text.len() && text[i + 1] == b'=';
+            match b {
+                b'=' if !padding => return Some(Refusal::Base64Length),
+                _ if b != b'=' && !ALPHABET.contains(&b) => return Some(Refusal::Base64Character),
+                _ => {}
+            }
+        }
+        // The bytes have one text with unused bits zero.
+        let bytes: Vec<u8> = text.chunks(4).flat_map(|four| group(four)[1..].to_vec()).collect();
+        let padding = text.iter().filter(|&&b| b == b'=').count();
+        let mut canonical = vec![0; text.len()];
+        encode(&bytes[..bytes.len() - padding], &mut canonical);
+        (canonical != text).then_some(Refusal::UnusedBits)
+    }
+
+    #[test]
+    fn every_short_text_is_told_as_the_page_says() {
+        let letters = b"AQR=!";
+        for len in 0..=8 {
+            for number in 0..letters.len().pow(len) {
+                let letter = |i| letters[number / letters.len().pow(i) % letters.len()];
+                let text: Vec<u8> = (0..len).map(letter).collect();
+                assert_eq!(check(&text).err(), by_the_page(&text), "{text:?}");
+            }
         }
     }
 }

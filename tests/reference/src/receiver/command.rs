@@ -113,7 +113,7 @@ impl<'t> Reader<'t, '_> {
         self.stood |= 1 << place;
         match key {
             b"ac" => self.command.action = Some(action(value)?),
-            b"zip" => word(value == b"none", ())?,
+            b"zip" => compression(value)?,
             b"ft" => self.command.file_type = file_type(value)?,
             b"tt" => self.command.transmission = transmission(value)?,
             b"id" => self.command.id = short(value)?,
@@ -121,9 +121,9 @@ impl<'t> Reader<'t, '_> {
             b"pr" => self.command.parent = short(value)?,
             b"pw" => self.command.bypass = safe(value)?,
             b"q" => self.command.quiet = quiet(value)?,
-            b"mod" => self.command.modified = number(value)?,
-            b"prm" => self.command.permissions = number(value)?,
-            b"sz" => self.command.size = number(value)?,
+            b"mod" => self.command.modified = integer::parse(value)?,
+            b"prm" => self.command.permissions = integer::parse(value)?,
+            b"sz" => self.command.size = integer::parse(value)?,
             b"n" => self.command.name = self.decode(value)?,
             b"st" => self.command.status = self.decode(value)?,
             _ => self.command.data = self.decode(value)?,
@@ -133,7 +133,7 @@ impl<'t> Reader<'t, '_> {
 
     /// Decodes a value behind those already in the scratch. A text of 8,192 bytes never fills it.
     fn decode(&mut self, value: &[u8]) -> Result<Range<usize>, Refusal> {
-        let len = base64::check(value).ok_or(Refusal::BadValue)?;
+        let len = base64::check(value)?;
         let place = self.filled..self.filled + len;
         base64::decode(value, &mut self.scratch[place.clone()]);
         self.filled = place.end;
@@ -146,10 +146,6 @@ fn in_key(b: u8) -> bool {
     b.is_ascii_alphanumeric() || b == b'_'
 }
 
-fn word<T>(good: bool, value: T) -> Result<T, Refusal> {
-    good.then_some(value).ok_or(Refusal::BadValue)
-}
-
 fn action(value: &[u8]) -> Result<Action, Refusal> {
     Ok(match value {
         b"send" => Action::Send,
@@ -160,8 +156,15 @@ fn action(value: &[u8]) -> Result<Action, Refusal> {
         b"finish" | b"finished" => Action::Finish,
         b"cancel" => Action::Cancel,
         b"status" => Action::Status,
-        _ => return Err(Refusal::BadValue),
+        _ => return Err(Refusal::UnknownWord),
     })
+}
+
+fn compression(value: &[u8]) -> Result<(), Refusal> {
+    match value {
+        b"none" => Ok(()),
+        _ => Err(Refusal::UnknownWord),
+    }
 }
 
 fn file_type(value: &[u8]) -> Result<FileType, Refusal> {
@@ -170,7 +173,7 @@ fn file_type(value: &[u8]) -> Result<FileType, Refusal> {
         b"directory" => FileType::Directory,
         b"symlink" => FileType::Symlink,
         b"link" => FileType::Link,
-        _ => return Err(Refusal::BadValue),
+        _ => return Err(Refusal::UnknownWord),
     })
 }
 
@@ -178,24 +181,24 @@ fn transmission(value: &[u8]) -> Result<Transmission, Refusal> {
     Ok(match value {
         b"simple" => Transmission::Simple,
         b"rsync" => Transmission::Rsync,
-        _ => return Err(Refusal::BadValue),
+        _ => return Err(Refusal::UnknownWord),
     })
 }
 
+/// One of three texts; whatever else stands there, also what is no integer, is out of range.
 fn quiet(value: &[u8]) -> Result<u8, Refusal> {
     match value {
         [digit @ b'0'..=b'2'] => Ok(digit - b'0'),
-        _ => Err(Refusal::BadValue),
+        _ => Err(Refusal::OutOfRange),
     }
-}
-
-fn number(value: &[u8]) -> Result<i64, Refusal> {
-    integer::parse(value).ok_or(Refusal::BadValue)
 }
 
 fn safe(value: &[u8]) -> Result<&[u8], Refusal> {
     let of_kind = |b: u8| b.is_ascii_alphanumeric() || b"_:./@-".contains(&b);
-    word(value.iter().all(|&b| of_kind(b)), value)
+    if !value.iter().all(|&b| of_kind(b)) {
+        return Err(Refusal::UnsafeCharacter);
+    }
+    Ok(value)
 }
 
 fn short(value: &[u8]) -> Result<&[u8], Refusal> {

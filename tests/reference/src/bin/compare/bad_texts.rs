@@ -1,54 +1,48 @@
 //! Faults of command texts: one for each rule of the reader, and some that only look like one.
 
-use crate::fields::{encoded, random_bytes, safe, Fields, ACTIONS};
+use crate::bad_values;
+use crate::fields::{safe, Fields, ACTIONS};
 use crate::rng::Rng;
-use reference::receiver::base64::ALPHABET;
 
 #[rustfmt::skip]
 const KNOWN: [&str; 15] = [
     "ac", "zip", "ft", "tt", "id", "fid", "pw", "q", "mod", "prm", "sz", "n", "st", "pr", "d",
 ];
 
-#[rustfmt::skip]
-const INTEGERS: [&str; 16] = [
-    "", "-", "+1", "--1", "1-", "0x10", "1 ", "1.5", "9223372036854775808",
-    "-9223372036854775809", "9999999999999999999", "00000000000000000000",
-    "10000000000000000000", "-00000000000000000001", "-9999999999999999999", "18446744073709551616",
-];
-
-#[rustfmt::skip]
-const WORDS: [(&str, &str); 22] = [
-    ("ac", ""), ("ac", "Send"), ("ac", "finishe"), ("ac", "finishedd"), ("ac", "enddata"),
-    ("ac", "invalid"), ("zip", ""), ("zip", "zlib"), ("zip", "None"), ("ft", ""),
-    ("ft", "regula"), ("ft", "dir"), ("ft", "hardlink"), ("tt", ""), ("tt", "delta"),
-    ("q", ""), ("q", "3"), ("q", "00"), ("q", "-0"), ("q", "01"), ("q", "2 "), ("tt", "rsync "),
-];
-
-/// A text with a fault put into the command.
+/// A text with a fault put into the command, or with several.
 pub fn faulty(rng: &mut Rng, fields: Fields) -> Vec<u8> {
-    match rng.below(14) {
+    match rng.below(18) {
         0 => repeated(rng, fields).text(),
         1 => bad_key(rng, fields),
         2 => empty_field(rng, &fields),
         3 => bad_byte(rng, fields.text()),
-        4 => replaced_word(rng, fields).text(),
-        5 => {
-            let key = *rng.pick(&["mod", "prm", "sz"]);
-            let value = rng.pick(&INTEGERS).as_bytes();
-            put(rng, fields, key, value).text()
-        }
-        6 | 7 => {
-            let key = *rng.pick(&["n", "st", "d"]);
-            let value = bad_base64(rng);
-            put(rng, fields, key, &value).text()
-        }
-        8 => long_id(rng, fields).text(),
-        9 => missing(rng, fields).text(),
-        10 => unsafe_string(rng, fields).text(),
-        11 => bad_prefix(rng, fields.text()),
-        12 => other_case(rng, fields).text(),
-        _ => flipped(rng, fields.text()),
+        4 => long_id(rng, fields).text(),
+        5 => missing(rng, fields).text(),
+        6 => bad_prefix(rng, fields.text()),
+        7 => other_case(rng, fields).text(),
+        8 => flipped(rng, fields.text()),
+        9..=14 => bad_value(rng, fields).text(),
+        _ => several(rng, fields),
     }
+}
+
+/// Two or three faults in one text, of which the first from the left is told.
+fn several(rng: &mut Rng, fields: Fields) -> Vec<u8> {
+    let fields = bad_value(rng, fields);
+    let fields = if rng.chance(30) { long_id(rng, fields) } else { fields };
+    match rng.below(9) {
+        0 => missing(rng, fields).text(),
+        1 => bad_key(rng, fields),
+        2 => empty_field(rng, &fields),
+        3 => repeated(rng, fields).text(),
+        4 => long_id(rng, fields).text(),
+        _ => bad_value(rng, fields).text(),
+    }
+}
+
+fn bad_value(rng: &mut Rng, fields: Fields) -> Fields {
+    let (key, value) = bad_values::any(rng);
+    put(rng, fields, key, &value)
 }
 
 /// Sets a field: in its place if it stands, otherwise anywhere.
@@ -117,39 +111,6 @@ fn bad_byte(rng: &mut Rng, mut text: Vec<u8>) -> Vec<u8> {
     text
 }
 
-fn replaced_word(rng: &mut Rng, fields: Fields) -> Fields {
-    let (key, value) = *rng.pick(&WORDS);
-    put(rng, fields, key, value.as_bytes())
-}
-
-/// Base64 with one fault of each kind.
-pub fn bad_base64(rng: &mut Rng) -> Vec<u8> {
-    let len = rng.within(1, 12);
-    let mut value = encoded(&random_bytes(rng, len));
-    let place = rng.below(value.len());
-    match rng.below(8) {
-        0 => value.truncate(value.len() - 1),
-        1 => value.push(*rng.pick(b"A=!")),
-        2 => value.retain(|&b| b != b'='),
-        3 => value[place] = *rng.pick(b"-_!, =*[`{@"),
-        4 => unused_bit(rng, &mut value),
-        5 => value.extend_from_slice(rng.word(&["====", "A===", "AA=A", "=AAA", "AB=="])),
-        6 => value.insert(place, b'='),
-        _ => value = rng.word(&["AQ", "AR==", "A=!=", "!A=A", "AAB=", "="]).to_vec(),
-    }
-    value
-}
-
-/// Sets one of the bits that padding leaves unused, two for each `=`. Without padding this is no fault.
-fn unused_bit(rng: &mut Rng, value: &mut [u8]) {
-    let padding = value.iter().filter(|&&b| b == b'=').count();
-    let last = value.len() - padding - 1;
-    let sextet = ALPHABET.iter().position(|&b| b == value[last]).unwrap_or(0);
-    if padding > 0 {
-        value[last] = ALPHABET[sextet | 1 << rng.below(2 * padding)];
-    }
-}
-
 fn long_id(rng: &mut Rng, fields: Fields) -> Fields {
     let key = *rng.pick(&["id", "fid", "pr"]);
     let len = *rng.pick(&[32, 33, 33, 34, 64, 300]);
@@ -169,16 +130,6 @@ fn missing(rng: &mut Rng, mut fields: Fields) -> Fields {
         _ => fields.0.retain(|(key, _)| key != "id" && key != "ac"),
     }
     fields
-}
-
-fn unsafe_string(rng: &mut Rng, fields: Fields) -> Fields {
-    let key = *rng.pick(&["id", "fid", "pr", "pw"]);
-    let bad = *rng.pick(b" !\"#$%&'()*+,<=>?[\\]^`{|}~");
-    let len = rng.below(4);
-    let mut value = safe(rng, len);
-    let place = rng.below(len + 1);
-    value.insert(place, bad);
-    put(rng, fields, key, &value)
 }
 
 fn bad_prefix(rng: &mut Rng, text: Vec<u8>) -> Vec<u8> {
@@ -212,8 +163,8 @@ pub fn wild(rng: &mut Rng) -> Vec<u8> {
         let key = rng.pick(&KNOWN).to_string();
         let value = match rng.below(5) {
             0 => rng.pick(&ACTIONS).as_bytes().to_vec(),
-            1 => rng.pick(&INTEGERS).as_bytes().to_vec(),
-            2 => bad_base64(rng),
+            1 => bad_values::integer(rng),
+            2 => bad_values::base64(rng),
             3 => b"m".to_vec(),
             _ => vec![],
         };

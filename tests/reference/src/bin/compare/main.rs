@@ -3,6 +3,7 @@
 //! Generated and mutated inputs, judged on both sides.
 
 mod bad_texts;
+mod bad_values;
 mod coverage;
 mod fields;
 mod framing;

@@ -100,6 +100,11 @@ fn ends(chunks: &[Vec<u8>]) -> Vec<usize> {
         .collect()
 }
 
+/// Whether a feed was refused as a call; those refused for their text consume it.
+fn took_nothing(refusal: Option<Refusal>) -> bool {
+    matches!(refusal, Some(Refusal::ShortBuffer | Refusal::AnswerOwed))
+}
+
 impl Maker<'_> {
     fn perform(&mut self, chunks: &[Vec<u8>], cut: Cut) {
         let stream = chunks.concat();
@@ -115,7 +120,7 @@ impl Maker<'_> {
                 return;
             };
             // What was not consumed is fed again, but not always.
-            let again = answer.refusal.is_some_and(|no| no as u8 >= 9) || self.rng.chance(98);
+            let again = took_nothing(answer.refusal) || self.rng.chance(98);
             at += if again { answer.consumed } else { len };
             if self.rng.chance(30) {
                 self.text(&answer);
@@ -191,7 +196,17 @@ impl Maker<'_> {
         }
     }
 
+    /// Answers the ask; sometimes first with a reply buffer that is too short, which leaves it owed.
     fn settle(&mut self) {
+        if self.rng.chance(self.wrong / 2) {
+            self.add(Op::Lend(Buffer::Reply, 123));
+            self.answer();
+            self.add(Op::Lend(Buffer::Reply, 192));
+        }
+        self.answer();
+    }
+
+    fn answer(&mut self) {
         let op = if self.rng.chance(self.failures) {
             Op::Failed(self.rng.within(1, 4) as u8)
         } else {

@@ -1,10 +1,13 @@
-//! Cases that no seed makes: scripts at the length limit, scripts that are none, tiny recordings, every edge of UTF-8.
+//! Cases that no seed makes, or few: scripts at the length limit, scripts that are none, long texts in pieces, every listed
+//! value, tiny recordings, every edge of UTF-8.
 
+use crate::bad_values;
 use crate::fields::{encoded, Fields};
 use crate::framing::framed;
 use crate::judge::{Case, Tally};
 use crate::sequences;
 use reference::console::LONGEST_SCRIPT;
+use reference::script::{encode, Op};
 
 /// Judges them all, each in a run of its own.
 pub fn judge(tally: &mut Tally) {
@@ -21,7 +24,7 @@ fn named(kind: &str, inputs: Vec<Vec<u8>>) -> Vec<Case> {
     inputs.map(|(i, input)| Case { name: format!("special-{kind}-{i}"), input }).collect()
 }
 
-/// Scripts at the length limit, and scripts that are none; only to be run alone.
+/// Scripts at the length limit, scripts that are none, long texts, and one of values; only to be run alone.
 pub fn scripts() -> Vec<Case> {
     #[rustfmt::skip]
     let faults = [
@@ -31,7 +34,31 @@ pub fn scripts() -> Vec<Case> {
     ];
     let mut all: Vec<Vec<u8>> = faults.iter().map(|bytes| bytes.to_vec()).collect();
     all.extend([LONGEST_SCRIPT - 1, LONGEST_SCRIPT, LONGEST_SCRIPT + 1, 70_000].map(long));
+    all.extend([8191, 8192, 8193, 8300, 20_000].map(in_pieces));
+    all.push(values());
     named("script", all)
+}
+
+/// A command text of the given length, fed in pieces of several sizes. A byte 8,192 places on is another one.
+fn in_pieces(len: usize) -> Vec<u8> {
+    let mut text = Fields::new("receive", b"z").with("x", b"").text();
+    text.extend((text.len()..len).map(|i| b'A' + (i % 23) as u8));
+    let frame = framed(&text);
+    let pieces = [8195, 4096, 1000].iter().flat_map(|&step| frame.chunks(step));
+    let ops: Vec<Op> = pieces.flat_map(|piece| [Op::Feed(piece.to_vec()), Op::Text]).collect();
+    encode(&ops)
+}
+
+/// Feeds a command with each listed value, most often behind a `st` that is accepted.
+fn values() -> Vec<u8> {
+    let text = |(key, value): (&str, Vec<u8>)| {
+        let mut fields = Fields::new("status", b"m").with("pr", b"").with("st", b"AQID");
+        fields.0.retain(|(known, _)| known != key);
+        fields.with(key, &value).text()
+    };
+    let ops: Vec<Op> =
+        bad_values::listed().into_iter().map(|field| Op::Feed(framed(&text(field)))).collect();
+    encode(&ops)
 }
 
 /// A script of the given length: one long feed of noise, then starts anew, then two calls.
