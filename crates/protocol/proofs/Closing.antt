@@ -39,6 +39,7 @@ use Rattle.protocol.proofs.Backs.{table}
 use Rattle.protocol.proofs.Invariant.{keyOf, FileOK, Asking}
 use Rattle.protocol.proofs.Done.{keyAt, WasDone, NoneDone, counts-done, each-le, was-le, put-more}
 use Rattle.protocol.proofs.Puts.{free-files, none-same, none-free, only-there, none-file, none-closes}
+use Rattle.protocol.proofs.SoundRule.{grown-held}
 use Rattle.protocol.proofs.Obeyed.{sessionIn}
 use Rattle.protocol.proofs.Settled.{is-for, sound-here, inside, is-open, fits, asking, s-ok, part-done}
 use Rattle.protocol.proofs.Worlds.{WorldOK}
@@ -138,7 +139,7 @@ module _ (g : Framing) (ss : List Session) (carry : List ℕ) (h : List Event) (
   directory-turns : (j : ℕ) → WorldOK (before (Due.OpenDirectory j)) → DirectoryAsked (keyOf s (fileAt s j)) (marksOf h)
   directory-turns j ok =
       let a = asking (ok .sound) (ok .table) in
-      let at = fits (ok .sound) (ok .table) in
+      let at = fits (ok .sound) (ok .table) .file in
       record {
         command = a .command;
         asked = rw (← (a .about .heard)) (a .asked);
@@ -169,7 +170,7 @@ module _ (g : Framing) (ss : List Session) (carry : List ℕ) (h : List Event) (
     unfolding settleDone doneBy marksOf
     marks-after = rw (done-is w reply room)
 
-    file-after : FileOK false (Mark.answer true (lastAsk (marksOf h)) ∷ marksOf h) k size
+    file-after : FileOK false (Mark.answer true (lastAsk (marksOf h)) ∷ marksOf h) k size (fileAt s j .declared)
     file-after =
         part-done (ok .sound) (ok .table) true j n (fits (ok .sound) (ok .table)) (asking (ok .sound) (ok .table) .about)
 
@@ -192,6 +193,7 @@ module _ (g : Framing) (ss : List Session) (carry : List ℕ) (h : List Event) (
           started = rw marks-after (file-after .started);
           joined = sym joined-after;
           counted = file-after .counted ∙ ap length (sym joined-after);
+          declared = λ some. grown-held (fits (ok .sound) (ok .table)) (rw (file-after .declares) some) ∙ file-after .declares;
           replied =
               rw (done-is w reply room)
               (closing-reply s (fileAt s j) size law (t .named (ap isPresent (is-open (ok .sound) (ok .table))))
@@ -230,7 +232,7 @@ module _ (g : Framing) (ss : List Session) (carry : List ℕ) (h : List Event) (
   turned-due law (Due.OpenFile j) ok k c quiet x =
       no-turn (Due.OpenFile j) k c quiet (none-file (table ss (Owed.For i (Due.OpenFile j))) i j _ (left (Due.OpenFile j)) not-done) x
   turned-due law (Due.OpenDirectory j) ok k c quiet x =
-      let at = fits (ok .sound) (ok .table) in
+      let at = fits (ok .sound) (ok .table) .file in
       let in-table = inside (ok .sound) (ok .table) in
       let e = only-closes ss (Owed.For i (Due.OpenDirectory j)) (left (Due.OpenDirectory j)) i j 0 in-table (at .within) k c quiet x in
       rw (e .0) (inl (directory-turns j ok))

@@ -46,23 +46,53 @@ use Rattle.protocol.proofs.SoundTable.{owed-session}
 use Rattle.protocol.proofs.Obeyed.{sessionIn}
 
 -- ---- marks that bring a file nothing
-file-allowed : (b : Bool) {m : List Mark} {k : Key} {n : ℕ} (i : List ℕ) → FileOK b m k n → FileOK b (Mark.allow i ∷ m) k n
+file-allowed : (b : Bool) {m : List Mark} {k : Key} {n l : ℕ} (i : List ℕ) → FileOK b m k n l → FileOK b (Mark.allow i ∷ m) k n l
 file-allowed true i f =
-    record { stretch = longer (Mark.allow i) (f .stretch); started = rw (f .started); joined = f .joined; counted = f .counted }
+    record {
+      stretch = longer (Mark.allow i) (f .stretch);
+      started = rw (f .started);
+      joined = f .joined;
+      counted = f .counted;
+      declares = f .declares;
+    }
 file-allowed false i f =
-    record { stretch = longer (Mark.allow i) (f .stretch); started = rw (f .started); joined = f .joined; counted = f .counted }
+    record {
+      stretch = longer (Mark.allow i) (f .stretch);
+      started = rw (f .started);
+      joined = f .joined;
+      counted = f .counted;
+      declares = f .declares;
+    }
 
-file-dropped : (b : Bool) {m : List Mark} {k : Key} {n : ℕ} (i : List ℕ) → FileOK b m k n → FileOK b (Mark.drop i ∷ m) k n
+file-dropped : (b : Bool) {m : List Mark} {k : Key} {n l : ℕ} (i : List ℕ) → FileOK b m k n l → FileOK b (Mark.drop i ∷ m) k n l
 file-dropped true i f =
-    record { stretch = longer (Mark.drop i) (f .stretch); started = rw (f .started); joined = f .joined; counted = f .counted }
+    record {
+      stretch = longer (Mark.drop i) (f .stretch);
+      started = rw (f .started);
+      joined = f .joined;
+      counted = f .counted;
+      declares = f .declares;
+    }
 file-dropped false i f =
-    record { stretch = longer (Mark.drop i) (f .stretch); started = rw (f .started); joined = f .joined; counted = f .counted }
+    record {
+      stretch = longer (Mark.drop i) (f .stretch);
+      started = rw (f .started);
+      joined = f .joined;
+      counted = f .counted;
+      declares = f .declares;
+    }
 
 -- what was pending is cleared: it was not the file's
-file-cleared : {m : List Mark} {k : Key} {n : ℕ} (i : List ℕ) → partFor k (lastAsk m) ≡ [] → FileOK true m k n
-    → FileOK false (Mark.drop i ∷ m) k n
+file-cleared : {m : List Mark} {k : Key} {n l : ℕ} (i : List ℕ) → partFor k (lastAsk m) ≡ [] → FileOK true m k n l
+    → FileOK false (Mark.drop i ∷ m) k n l
 file-cleared i e f =
-    record { stretch = longer (Mark.drop i) (f .stretch); started = rw (f .started); joined = rw e at (f .joined); counted = f .counted }
+    record {
+      stretch = longer (Mark.drop i) (f .stretch);
+      started = rw (f .started);
+      joined = rw e at (f .joined);
+      counted = f .counted;
+      declares = f .declares;
+    }
 
 holds-allowed : {b : Bool} {i : List ℕ} {m : List Mark} (k : List ℕ) → Holds b i m → Holds b i (Mark.allow k ∷ m)
 holds-allowed {b} {i} {m} k (standing h) = standing (go (equals i k))

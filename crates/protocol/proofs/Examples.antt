@@ -168,7 +168,7 @@ record Computed : Type 0 where
   one-calls : consoleCalls 0 (allGiven (start (replicate textLimit 0)) one-piece) ≡ (1, Move.allow (ascii "m")) ∷ []
   two-calls : consoleCalls 0 (allGiven (start ones) two-pieces) ≡ (1, Move.allow (ascii "m")) ∷ []
   -- "No reply is longer than 124 bytes": one has as many
-  longest : let r = fileReply Status.Progress (askedSession 0 (replicate 32 105)) (opening (replicate 32 102)) countLimit in
+  longest : let r = fileReply Status.Progress (askedSession 0 (replicate 32 105)) (opening (replicate 32 102) 0) countLimit in
       length (replyBytes r) ≡ replyRoom
 
 computed : Computed

@@ -12,7 +12,7 @@ use Rattle.command.specs.Meaning as Meaning
 use Rattle.protocol.specs.Table.{noSession, sessionAt, fileAt, idOf, fileIdOf}
 use Rattle.protocol.specs.Calls.{isOwed}
 use Rattle.protocol.specs.History.{Command, Heard, Mark, Question, lastAsk}
-use Rattle.protocol.specs.Stretches.{Key, partFor, Stretch, since, parts, contents, startStands, stands, AllStand}
+use Rattle.protocol.specs.Stretches.{Key, partFor, declaredIn, Stretch, since, parts, contents, startStands, stands, AllStand}
 use Rattle.protocol.specs.declared.FileState.the-variants as FileState
 use Rattle.protocol.specs.declared.FileRecord.{FileRecord}
 use Rattle.protocol.specs.declared.SessionState.the-variants as SessionState
@@ -33,12 +33,17 @@ abbrev pub pending : Bool → Key → List Mark → List ℕ
 pending true k m = partFor k (lastAsk m)
 pending false k m = []
 
--- since its start its contents are its parts and what is pending, and its count is the parts' length
-pub record FileOK (owed : Bool) (m : List Mark) (k : Key) (n : ℕ) : Type 0 where
+-- since its start its contents are its parts and what is pending, its count n is the parts' length, and d was declared
+pub record FileOK (owed : Bool) (m : List Mark) (k : Key) (n d : ℕ) : Type 0 where
   pub stretch : Stretch
   pub started : since k m ≡ Option.some stretch
   pub joined : contents k (stretch .marks) ≡ parts k (stretch .marks) ++ pending owed k m
   pub counted : n ≡ length (parts k (stretch .marks))
+  pub declares : d ≡ declaredIn (stretch .command)
+
+-- of a record of the session s
+abbrev pub RecordOK : Bool → List Mark → Session → FileRecord → Type 0
+RecordOK owed m s f = FileOK owed m (keyOf s f) (f .count) (f .declared)
 
 -- ---- an open session
 abbrev pub commitsFor : List ℕ → Question → Bool
@@ -68,7 +73,7 @@ Unstarted m s =
 -- each file that is started is as the history says
 pub record OpenOK (owed : Bool) (m : List Mark) (s : Session) : Type 0 where
   pub stand : Holds owed (idOf s) m
-  pub each : (j : ℕ) → fileAt s j .state ≡ FileState.Started → FileOK owed m (keyOf s (fileAt s j)) (fileAt s j .count)
+  pub each : (j : ℕ) → fileAt s j .state ≡ FileState.Started → RecordOK owed m s (fileAt s j)
   pub unstarted : Unstarted m s
 
 abbrev pub SessionOK : Bool → List Mark → Session → Type 0
@@ -84,6 +89,7 @@ pub record OpenAsked (type : ℕ) (s : Session) (d : Command) (a : Heard) (j : �
   pub action : actionCode d ≡ 3
   pub kind : fileTypeCode d ≡ type
   pub file : IsFile s j d
+  pub declares : type ≡ 0 → fileAt s j .declared ≡ declaredIn d
 
 -- the ask of a part, as it is heard
 abbrev pub writeHeard : Bool → List ℕ → Heard

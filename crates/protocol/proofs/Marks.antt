@@ -11,13 +11,14 @@ use Rattle.command.specs.Meaning.{idOf, fileIdOf}
 use Rattle.protocol.specs.Table.{fileAt}
 use Rattle.protocol.specs.Table as Table
 use Rattle.protocol.specs.History.{Command, Heard, Mark, hearingMark, Question, lastAsk}
-use Rattle.protocol.specs.Stretches.{Key, isFor, isData, isEnd, isRegular, isFile, startsFor, partFor, contentFor}
+use Rattle.protocol.specs.Stretches.{Key, isFor, isData, isEnd, isRegular, isFile, startsFor, partFor, contentFor, declaredIn}
 use Rattle.protocol.specs.Stretches.{Stretch, startAt, longer, onward, since, parts, contents, allows, allowedIn, startStands}
 use Rattle.protocol.specs.declared.FileState.the-variants as FileState
 use Rattle.protocol.specs.declared.SessionState.the-variants as SessionState
 use Rattle.protocol.specs.declared.Session.{Session}
 use Rattle.protocol.proofs.Laws.{no-way, both-false}
-use Rattle.protocol.proofs.Invariant.{keyOf, fileKey, FileOK, NoneStands, commitsFor, Holds, standing, committing, SessionOK}
+use Rattle.protocol.proofs.Invariant.{keyOf, fileKey, FileOK, RecordOK, NoneStands, commitsFor, Holds, standing, committing}
+use Rattle.protocol.proofs.Invariant.{SessionOK}
 
 -- ---- of which commands and asks a file has nothing
 -- what an ask, if one was heard, hands over for the file of the command read
@@ -68,16 +69,17 @@ no-start k Question.none e = refl
 no-start k (Question.asks d a) e = rw e
 
 -- ---- a file
-module _ {m : List Mark} {k : Key} {n : ℕ} where
+module _ {m : List Mark} {k : Key} {n l : ℕ} where
   -- a command read, whose content is what is then handed over: for every key
-  pub file-read : (d : Command) (x : Option Heard) → contentFor k d ≡ handed k d x → FileOK false m k n
-      → FileOK (isHeard x) (hearingMark x (Mark.read d ∷ m)) k n
+  pub file-read : (d : Command) (x : Option Heard) → contentFor k d ≡ handed k d x → FileOK false m k n l
+      → FileOK (isHeard x) (hearingMark x (Mark.read d ∷ m)) k n l
   file-read d Option.none e f =
       record {
         stretch = longer (Mark.read d) (f .stretch);
         started = rw (f .started);
         joined = rw (e, append-nil (contents k (f .stretch .marks))) (f .joined);
         counted = f .counted;
+        declares = f .declares;
       }
   file-read d (Option.some a) e f =
       record {
@@ -85,40 +87,51 @@ module _ {m : List Mark} {k : Key} {n : ℕ} where
         started = rw (f .started);
         joined = rw (e, f .joined, append-nil (parts k (f .stretch .marks)));
         counted = f .counted;
+        declares = f .declares;
       }
 
   -- an ask answered done that is not the file's open: what was pending is now among the parts, for every key
-  pub file-done : (q : Question) → lastAsk m ≡ q → startsFor k q ≡ false → FileOK true m k n
-      → FileOK false (Mark.answer true (lastAsk m) ∷ m) k (n + length (partFor k q))
+  pub file-done : (q : Question) → lastAsk m ≡ q → startsFor k q ≡ false → FileOK true m k n l
+      → FileOK false (Mark.answer true (lastAsk m) ∷ m) k (n + length (partFor k q)) l
   file-done q ask e f =
       record {
         stretch = longer (Mark.answer true q) (f .stretch);
         started = rw (ask, no-start k q e, f .started);
         joined = rw (append-nil (parts k (f .stretch .marks) ++ partFor k q)) (rw ask at (f .joined));
         counted = rw (length-append (parts k (f .stretch .marks)) (partFor k q)) (ap (λ (x : ℕ). x + length (partFor k q)) (f .counted));
+        declares = f .declares;
       }
 
   -- an ask failed that handed over nothing for the file
-  file-failed : (q : Question) → lastAsk m ≡ q → partFor k q ≡ [] → FileOK true m k n → FileOK false (Mark.answer false (lastAsk m) ∷ m) k n
+  file-failed : (q : Question) → lastAsk m ≡ q → partFor k q ≡ [] → FileOK true m k n l
+      → FileOK false (Mark.answer false (lastAsk m) ∷ m) k n l
   file-failed q ask e f =
       record {
         stretch = longer (Mark.answer false (lastAsk m)) (f .stretch);
         started = rw (f .started);
         joined = rw (ask, e) at (f .joined);
         counted = f .counted;
+        declares = f .declares;
       }
 
 -- an answer to an ask for another file
-pub file-answered : {m : List Mark} {k : Key} {n : ℕ} (d : Command) (a : Heard) (v : Bool) → lastAsk m ≡ Question.asks d a
-    → isFor k d ≡ false → FileOK true m k n → FileOK false (Mark.answer v (lastAsk m) ∷ m) k n
+pub file-answered : {m : List Mark} {k : Key} {n l : ℕ} (d : Command) (a : Heard) (v : Bool) → lastAsk m ≡ Question.asks d a
+    → isFor k d ≡ false → FileOK true m k n l → FileOK false (Mark.answer v (lastAsk m) ∷ m) k n l
 file-answered {m} {k} {n} d a true ask e f =
     rw (part-other k d a e, add-zero n) at (file-done (Question.asks d a) ask (starts-other k d a e) f)
 file-answered {m} {k} {n} d a false ask e f = file-failed (Question.asks d a) ask (part-other k d a e) f
 
--- the open of a regular file answered done: it starts with nothing
-pub file-starts : {m : List Mark} {k : Key} (d : Command) (a : Heard) → lastAsk m ≡ Question.asks d a
-    → startsFor k (Question.asks d a) ≡ true → FileOK false (Mark.answer true (lastAsk m) ∷ m) k 0
-file-starts d a ask e = record { stretch = record { command = d; marks = [] }; started = rw (ask, e); joined = refl; counted = refl }
+-- the open of a regular file answered done: it starts with nothing, and with what its command declared
+pub file-starts : {m : List Mark} {k : Key} {l : ℕ} (d : Command) (a : Heard) → lastAsk m ≡ Question.asks d a
+    → startsFor k (Question.asks d a) ≡ true → l ≡ declaredIn d → FileOK false (Mark.answer true (lastAsk m) ∷ m) k 0 l
+file-starts d a ask e declares =
+    record {
+      stretch = record { command = d; marks = [] };
+      started = rw (ask, e);
+      joined = refl;
+      counted = refl;
+      declares = declares;
+    }
 
 -- ---- a file of which no start stands
 none-onward : (k : Key) (x : Mark) (s : Option Stretch) → startStands k s ≡ false → startStands k (onward x s) ≡ false
@@ -165,7 +178,7 @@ holds-answered q v ask e (committing f g) = no-way (sym (rw ask at g) ∙ e)
 pub session-map : {b b′ : Bool} {m m′ : List Mark} {s : Session}
     → (s .state ≡ SessionState.Open → Holds b (Table.idOf s) m → Holds b′ (Table.idOf s) m′)
     → (s .state ≡ SessionState.Open → (j : ℕ) → fileAt s j .state ≡ FileState.Started
-    → FileOK b m (keyOf s (fileAt s j)) (fileAt s j .count) → FileOK b′ m′ (keyOf s (fileAt s j)) (fileAt s j .count))
+    → RecordOK b m s (fileAt s j) → RecordOK b′ m′ s (fileAt s j))
     → (s .state ≡ SessionState.Open → (f : List ℕ) → NoneStands m (fileKey s f) → NoneStands m′ (fileKey s f))
     → SessionOK b m s → SessionOK b′ m′ s
 session-map h f g o e =

@@ -10,7 +10,7 @@ use lib.Dec.{leb}
 use borrow.Author.Tests.{le-leb}
 use Rattle.octets.specs.Slices.{partOf}
 use Rattle.command.specs.Values.{Value}
-use Rattle.command.specs.Meaning.{Meaning, meaningOf, bytesIn, idOf, fileIdOf, dataOf, actionCode, fileTypeCode}
+use Rattle.command.specs.Meaning.{Meaning, meaningOf, bytesIn, idOf, fileIdOf, sizeOf, dataOf, actionCode, fileTypeCode}
 use Rattle.command.specs.Slots.{slotsOf, bytesAt, valuesOf}
 use Rattle.command.specs.Slots as Slots
 use Rattle.command.specs.Read.{scratchRoom, Answer, readOf}
@@ -30,6 +30,7 @@ pub record Means (c : PlacedCommand) (text scratch : List ℕ) (d : List Value) 
   pub file-type : fileTypeCode d ≡ Slots.fileTypeCode (c .«file_type»)
   pub id : idIn c text ≡ idOf d
   pub file : fileIdIn c text ≡ fileIdOf d
+  pub size : c .size ≡ sizeOf d
   pub part : stringIn scratch (c .payload) ≡ dataOf d
   pub long : c .payload .len ≡ length (dataOf d)
   pub quiet : c .quiet ≤ 2  -- "0, 1, 2"
@@ -65,6 +66,7 @@ values-mean c text scratch n h quiet =
       file-type = refl;
       id = string-means text (c .id);
       file = string-means text (c .«file_id»);
+      size = refl;
       part = string-means scratch (c .payload);
       long = sym (string-length scratch (c .payload) h) ∙ ap length (string-means scratch (c .payload));
       quiet = quiet;

@@ -1,13 +1,14 @@
 -- Each way of a command in a session keeps the invariant.
 use Prim.Native.Nat.{ℕ, _<_}
 use mathlib.Core.Path.{_≡_, refl, sym, ap, _∙_}
-use mathlib.Core.Bool.{Bool, true, false, not}
+use mathlib.Core.Bool.{Bool, true, false, not, cond}
 use mathlib.Core.Option.{Option}
 use mathlib.Core.List.{List, [], _∷_}
 use native.Mathlib.Omega.{arith}
 use lib.ListN.{length}
 use lib.Seq.{getD-set-same}
 use Rattle.octets.specs.Slices.{equals}
+use Rattle.decimal.specs.declared.Number.{Number}
 use Rattle.command.specs.Meaning as Meaning
 use Rattle.command.specs.Slots as Slots
 use Rattle.command.specs.declared.Action.the-variants as Action
@@ -17,13 +18,14 @@ use Rattle.command.specs.declared.Command.{Command as PlacedCommand}
 use Rattle.protocol.specs.Table.{absentSession, noFile, fileAt, fileIdOf, isUsed, fileUsed, isFree, putFile, moved}
 use Rattle.protocol.specs.Replies.{noReply}
 use Rattle.protocol.specs.Change.{asks, opens, askOf, stepBy}
-use Rattle.protocol.specs.Files.{Request, opening, linkLike, isDirectory, openDue, failedFile, writeDue}
+use Rattle.protocol.specs.Files.{Request, opening, linkLike, declaredBy, isDirectory, openDue, failedFile, writeDue}
 use Rattle.protocol.specs.Sessions.{requestIn}
 use Rattle.protocol.specs.History.{Command, Heard, hearing, Mark, hearingMark, Question}
-use Rattle.protocol.specs.Stretches.{isData, isEnd, Key, partFor, contentFor, stands, StandsFor}
+use Rattle.protocol.specs.Stretches.{isData, isEnd, Key, partFor, contentFor, declaredIn, stands, StandsFor}
 use Rattle.protocol.specs.Sound.{Sound}
 use Rattle.protocol.specs.declared.FileState.{FileState}
 use Rattle.protocol.specs.declared.FileState.the-variants as FileState
+use Rattle.protocol.specs.declared.FileRecord.{FileRecord}
 use Rattle.protocol.specs.declared.SessionState.the-variants as SessionState
 use Rattle.protocol.specs.declared.Session.{Session}
 use Rattle.protocol.specs.declared.Due.{Due}
@@ -34,7 +36,8 @@ use Rattle.protocol.specs.declared.Told.the-variants as Told
 use Rattle.protocol.specs.declared.Change.{Change}
 use Rattle.protocol.proofs.Laws.{isPast, no-way, equals-same, first-at, found-at, unique-other, padded-id}
 use Rattle.protocol.proofs.Means.{Means, acts-as}
-use Rattle.protocol.proofs.Invariant.{keyOf, fileKey, Holds, standing, committing, OpenOK, SessionOK, writeHeard, About, TableOK}
+use Rattle.protocol.proofs.Invariant.{keyOf, fileKey, Holds, standing, committing, OpenOK, SessionOK, OpenAsked, writeHeard, About}
+use Rattle.protocol.proofs.Invariant.{TableOK}
 use Rattle.protocol.proofs.Marks.{file-other, content-other, content-none, handed, isHeard, holds-read, file-read, none-read}
 use Rattle.protocol.proofs.Marks.{session-heard}
 use Rattle.protocol.proofs.Tellings.{plain}
@@ -93,8 +96,11 @@ module _ {ss : List Session} {c : PlacedCommand} {text scratch : List ℕ} {d : 
 
   -- ---- a new record, opening
   module _ (j : ℕ) (o : s .state ≡ SessionState.Open) (n : NewFile s q j) where
+    abbrev record-asked : FileRecord
+    record-asked = opening (q .file) (declaredBy (q .type) (q .size))
+
     abbrev new : Session
-    new = putFile s j (opening (q .file))
+    new = putFile s j record-asked
 
     within : j < length (s .files)
     within = first-at isFree noFile (s .files) j (n .room) .0
@@ -108,21 +114,30 @@ module _ {ss : List Session} {c : PlacedCommand} {text scratch : List ℕ} {d : 
     opened : OpenOK true (marks (Option.some Heard.opens)) new
     opened =
         let a = ok .each i o in
-        put-file s j (opening (q .file)) a within
+        put-file s j record-asked a within
         (holds-read d (Option.some Heard.opens) (rw acts) (a .stand))
         (λ k _ w. file-read d (Option.some Heard.opens) (content-none (keyOf s (fileAt s k)) d is-file) (a .each k w))
         (λ (w : FileState.Opening ≡ FileState.Started). let z : _≡_ {A = ℕ} 0 1 = cc in absurd (omega arith))
         (λ p. absurd (free-past (fileAt s j .state) (first-at isFree noFile (s .files) j (n .room) .1) p))
         (λ g _. none-read m (fileKey s g) d (Option.some Heard.opens))
 
+    there : fileAt new j ≡ record-asked
+    there = getD-set-same (s .files) j _ noFile within
+
     its-id : fileIdOf (fileAt new j) ≡ Meaning.fileIdOf d
-    its-id =
-        let x : fileAt new j ≡ opening (q .file) = getD-set-same (s .files) j _ noFile within in
-        rw x (padded-id (q .file) (rw (means .file) (means .named .file-short)) ∙ means .file)
+    its-id = rw there (padded-id (q .file) (rw (means .file) (means .named .file-short)) ∙ means .file)
+
+    its-length : q .type ≡ FileType.Regular → fileAt new j .declared ≡ declaredIn d
+    its-length e = rw (there, e) (ap (λ (n : Number). cond (n .negative) 0 (n .magnitude)) (means .size))
+
+    open-asked : (type : FileType) → q .type ≡ type → (Slots.fileTypeCode type ≡ 0 → fileAt new j .declared ≡ declaredIn d)
+        → OpenAsked (Slots.fileTypeCode type) new d Heard.opens j
+    open-asked type e l =
+        record { heard = refl; action = acts; kind = means .file-type ∙ ap Slots.fileTypeCode e; file = its-id; declares = l }
 
     about : (type : FileType) → q .type ≡ type → linkLike type ≡ false → About new d Heard.opens (openDue (isDirectory type) j)
-    about FileType.Regular e _ = record { heard = refl; action = acts; kind = means .file-type ∙ ap Slots.fileTypeCode e; file = its-id }
-    about FileType.Directory e _ = record { heard = refl; action = acts; kind = means .file-type ∙ ap Slots.fileTypeCode e; file = its-id }
+    about FileType.Regular e _ = open-asked FileType.Regular e (λ _. its-length e)
+    about FileType.Directory e _ = open-asked FileType.Directory e (λ z. absurd (omega arith))
     about FileType.Symlink e l = no-way l
     about FileType.Link e l = no-way l
 
@@ -130,7 +145,7 @@ module _ {ss : List Session} {c : PlacedCommand} {text scratch : List ℕ} {d : 
     hears-open true = refl
     hears-open false = refl
 
-    open-kept : Keeps (opens j (opening (q .file)) (openDue (isDirectory (q .type)) j))
+    open-kept : Keeps (opens j record-asked (openDue (isDirectory (q .type)) j))
     open-kept =
         let due = openDue (isDirectory (q .type)) j in
         kept-put sound ok h new (Owed.For i due) _ noReply (Option.some Heard.opens) (hears-open (isDirectory (q .type))) refl refl
@@ -138,7 +153,7 @@ module _ {ss : List Session} {c : PlacedCommand} {text scratch : List ℕ} {d : 
         (asked-here ss i new (Question.asks d Heard.opens) due (h .inside)
         (record { command = d; heard = Heard.opens; asked = refl; id = h .id; about = about (q .type) refl (n .type) }))
         (tt, ok .told)
-        (none-file (idle ss) i j (opening (q .file)) (Owed.For i due)
+        (none-file (idle ss) i j record-asked (Owed.For i due)
         (λ (e : FileState.Opening ≡ FileState.Done). let z : _≡_ {A = ℕ} 0 1 = cc in omega arith))
 
   -- ---- a part for a started file
@@ -231,5 +246,5 @@ module _ {ss : List Session} {c : PlacedCommand} {text scratch : List ℕ} {d : 
       (none-free (idle ss) i absentSession Owed.Nothing free-files)
   way-kept (openAsked j o n) = open-kept j o n
   way-kept (partFailed j w o p) = failed-kept j o p w
-  way-kept (writeAsked last j o p _ _) = write-kept j o p last
+  way-kept (writeAsked last j o p _ _ _) = write-kept j o p last
   way-kept (commitAsked o b _) = commit-kept (brings-as ∙ b)

@@ -28,7 +28,7 @@ use Rattle.protocol.specs.declared.Stepped.{Stepped}
 use Rattle.protocol.proofs.Done.{stateAt, WasDone, NoneDone, none-le}
 use Rattle.protocol.proofs.Laws.{isPast, set-each, set-any, replicate-each}
 use Rattle.protocol.proofs.Backs.{table}
-use Rattle.protocol.proofs.Invariant.{keyOf, fileKey, FileOK, NoneStands, Holds, OpenOK, SessionOK, Asking, AskedLast, TableOK}
+use Rattle.protocol.proofs.Invariant.{keyOf, fileKey, RecordOK, NoneStands, Holds, OpenOK, SessionOK, Asking, AskedLast, TableOK}
 
 -- the marks after a console call's step, which is refused or adds the mark x
 abbrev pub notedMarks : List Mark → Mark → Stepped → List Mark
@@ -64,8 +64,8 @@ free-files j = replicate-each (λ (f : FileRecord). f .state ≡ FileState.Free)
 -- ---- a file
 pub put-file : {b b′ : Bool} {m m′ : List Mark} (s : Session) (j : ℕ) (f : FileRecord) → OpenOK b m s → j < length (s .files)
     → Holds b′ (idOf s) m′
-    → ((n : ℕ) → (n ≡ j → ⊥) → fileAt s n .state ≡ FileState.Started → FileOK b′ m′ (keyOf s (fileAt s n)) (fileAt s n .count))
-    → (f .state ≡ FileState.Started → FileOK b′ m′ (keyOf s f) (f .count))
+    → ((n : ℕ) → (n ≡ j → ⊥) → fileAt s n .state ≡ FileState.Started → RecordOK b′ m′ s (fileAt s n))
+    → (f .state ≡ FileState.Started → RecordOK b′ m′ s f)
     → (isPast (fileAt s j .state) ≡ true → (isPast (f .state) ≡ true) × (fileIdOf f ≡ fileIdOf (fileAt s j)))
     → ((g : List ℕ) → (isPast (f .state) ≡ true → fileIdOf f ≡ g → ⊥) → NoneStands m (fileKey s g) → NoneStands m′ (fileKey s g))
     → OpenOK b′ m′ (putFile s j f)
@@ -77,7 +77,7 @@ put-file {b} {b′} {m} {m′} s j f ok h hold there here past goes =
     }
   where
     Each : FileRecord → Type 0
-    Each x = x .state ≡ FileState.Started → FileOK b′ m′ (keyOf s x) (x .count)
+    Each x = x .state ≡ FileState.Started → RecordOK b′ m′ s x
 
     same : fileAt (putFile s j f) j ≡ f
     same = getD-set-same (s .files) j f noFile h

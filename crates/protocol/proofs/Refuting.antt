@@ -1,5 +1,5 @@
 -- How a claim is refuted of a machine: a list of calls from a fresh receiver, and a test that computes to false at its end.
-use Prim.Native.Nat.{ℕ, zero, suc}
+use Prim.Native.Nat.{ℕ, zero, suc, _≤_}
 use mathlib.Core.Path.{_≡_, refl, sym, ap, _∙_}
 use mathlib.Core.Bool.{Bool, true, false, not, _&&_, _||_}
 use mathlib.Core.Logic.{_⊎_, inl, inr}
@@ -8,7 +8,7 @@ use mathlib.Core.List.{List, [], _∷_, _++_}
 use native.Mathlib.Omega.{arith}
 use lib.ListN.{length, take, drop, getD, replicate}
 use lib.Dec.{eqb}
-use borrow.Author.Tests.{eq-eqb}
+use borrow.Author.Tests.{eq-eqb, eqb-false}
 use Rattle.octets.specs.Members.{every}
 use Rattle.octets.specs.Slices.{equals}
 use Rattle.octets.proofs.Below.{both-test}
@@ -21,7 +21,8 @@ use Rattle.command.specs.Read.{scratchRoom}
 use Rattle.protocol.specs.Table.{noFile, noSession, sessionAt}
 use Rattle.protocol.specs.Replies.{replyRoom}
 use Rattle.protocol.specs.History.{Command, Heard, Mark, marksOf, Question, lastAsk}
-use Rattle.protocol.specs.Stretches.{Key, isFor, isFile, isDirectory, Stretch, since, parts, contents, startStands, AllStand}
+use Rattle.protocol.specs.Stretches.{Key, isFor, isFile, isDirectory, declaredIn, Stretch, since, parts, contents, startStands}
+use Rattle.protocol.specs.Stretches.{AllStand}
 use Rattle.protocol.specs.Machine.{Machine, Call, World, isRefused, Lent, step, start}
 use Rattle.protocol.specs.Claim.{isDone, doneAs, keyIn, LastPartAsked, DirectoryAsked, ClosingReply, ClosedWhole, TurnedDone}
 use Rattle.protocol.specs.Claim.{Right, Everywhere, EveryHistory}
@@ -157,10 +158,23 @@ asksLast k (Question.asks d Heard.commits) = false
 last-asked : (k : Key) (q : Question) → LastPartAsked k q → asksLast k q ≡ true
 last-asked k q l = rw (l .asked) (l .forIt)
 
--- start, parts, contents and count
+-- the declared length, where there is one
+abbrev isDeclared : (d n : ℕ) → Bool
+isDeclared d n = eqb d 0 || eqb n d
+
+is-declared : (d n : ℕ) → (1 ≤ d → n ≡ d) → isDeclared d n ≡ true
+is-declared d n h = go (eqb d 0) refl
+  where
+    go : (b : Bool) → eqb d 0 ≡ b → (b || eqb n d) ≡ true
+    go true e = refl
+    go false e = let some : d ≡ 0 → ⊥ = eqb-false d 0 e in eq-eqb n d (h (omega arith))
+
+-- start, parts, contents, count and declared length
 abbrev isWhole : Key → Option Stretch → ℕ → Bool
 isWhole k Option.none n = false
-isWhole k (Option.some s) n = equals (parts k (s .marks)) (contents k (s .marks)) && eqb n (length (contents k (s .marks)))
+isWhole k (Option.some s) n =
+    equals (parts k (s .marks)) (contents k (s .marks)) &&
+    (eqb n (length (contents k (s .marks))) && isDeclared (declaredIn (s .command)) n)
 
 -- the reply's size: its frame taken off, its text read
 abbrev inner : List ℕ → List ℕ
@@ -222,7 +236,8 @@ module _ (m : Machine) (cs : List Deed) where
   turns-right n (inl d) = rw (directory-done key (marksOf (w .history)) d)
   turns-right n (inr c) =
       let sent = eq-eqb _ _ (size-sent key n _ (c .replied)) in
-      rw (last-asked key _ (c .lastPart), c .started, equals-same _ _ (c .joined), eq-eqb _ _ (c .counted), sent)
+      let declared = is-declared _ n (c .declared) in
+      rw (last-asked key _ (c .lastPart), c .started, equals-same _ _ (c .joined), eq-eqb _ _ (c .counted), declared, sent)
       (either-right (isDirectoryDone key (marksOf (w .history))))
 
   pub closes-badly : ClosesBadly → EveryHistory m → ⊥

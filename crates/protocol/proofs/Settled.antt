@@ -38,11 +38,12 @@ use Rattle.protocol.specs.declared.Change.{Change}
 use Rattle.protocol.proofs.Laws.{isPast, equals-other, equals-same, unique-other}
 use Rattle.protocol.proofs.Backs.{table, own-cleared}
 use Rattle.protocol.proofs.Tellings.{done-told, failed-told}
-use Rattle.protocol.proofs.Invariant.{keyOf, fileKey, FileOK, commitsFor, OpenOK, SessionOK, IsFile, OpenAsked, PartAsked}
+use Rattle.protocol.proofs.Invariant.{keyOf, fileKey, FileOK, RecordOK, commitsFor, OpenOK, SessionOK, IsFile, OpenAsked, PartAsked}
 use Rattle.protocol.proofs.Invariant.{writeHeard, Asking, TableOK}
 use Rattle.protocol.proofs.Marks.{none-answered, file-other, file-done, file-starts, file-answered, holds-answered, session-answered}
 use Rattle.protocol.proofs.Done.{NoneDone}
 use Rattle.protocol.proofs.Puts.{notedMarks, put-ok, absent-ok, put-file, free-files, none-same, none-free, none-file}
+use Rattle.protocol.proofs.SoundRule.{grown-fits}
 use Rattle.protocol.proofs.SoundTable.{owed-session, owed-inside}
 use Rattle.protocol.proofs.Obeyed.{sessionIn}
 
@@ -113,7 +114,7 @@ module _ {ss : List Session} {i : ℕ} {due : Due} {m : List Mark} (sound : Soun
   settle-file : (v : Bool) (j : ℕ) (old : FileState) → isUsed old ≡ true → FileIs s j old → IsFile s j (asking .command)
       → ((k : List ℕ) → commitsFor k (Question.asks (asking .command) (asking .heard)) ≡ false)
       → (g : FileState) → isPast g ≡ true → (n : ℕ)
-      → (g ≡ FileState.Started → FileOK false (answered v) (keyOf s (fileAt s j)) n)
+      → (g ≡ FileState.Started → RecordOK false (answered v) s (moved (fileAt s j) g n))
       → TableOK (table (set ss i (putFile s j (moved (fileAt s j) g n))) Owed.Nothing) (answered v)
   settle-file v j old u at its nc g gp n here =
       put-answered v (putFile s j (moved (fileAt s j) g n))
@@ -136,36 +137,35 @@ module _ {ss : List Session} {i : ℕ} {due : Due} {m : List Mark} (sound : Soun
 
   -- to an open
   settle-open : (type : ℕ) (v : Bool) (j : ℕ) → FileIs s j FileState.Opening → OpenAsked type s (asking .command) (asking .heard) j
-      → (g : FileState) → isPast g ≡ true → (n : ℕ) → (g ≡ FileState.Started → FileOK false (answered v) (keyOf s (fileAt s j)) n)
+      → (g : FileState) → isPast g ≡ true → (n : ℕ) → (g ≡ FileState.Started → RecordOK false (answered v) s (moved (fileAt s j) g n))
       → TableOK (table (set ss i (putFile s j (moved (fileAt s j) g n))) Owed.Nothing) (answered v)
   settle-open type v j at w = settle-file v j FileState.Opening refl at (w .file) (λ k. rw (w .heard))
 
   -- to a part
-  settle-part : (last v : Bool) (j n : ℕ) → PartFits s j n → PartAsked last s (asking .command) (asking .heard) j n
-      → (g : FileState) → isPast g ≡ true → (c : ℕ) → (g ≡ FileState.Started → FileOK false (answered v) (keyOf s (fileAt s j)) c)
+  settle-part : (last v : Bool) {x : FileState} (j n : ℕ) → PartFits s x j n → PartAsked last s (asking .command) (asking .heard) j n
+      → (g : FileState) → isPast g ≡ true → (c : ℕ) → (g ≡ FileState.Started → RecordOK false (answered v) s (moved (fileAt s j) g c))
       → TableOK (table (set ss i (putFile s j (moved (fileAt s j) g c))) Owed.Nothing) (answered v)
   settle-part last v j n at w =
       settle-file v j FileState.Started refl (at .file) (w .file) (λ k. rw (w .heard) (writes-commit last k (asking .command) (w .part)))
 
   -- ---- the file's own part of the invariant
   -- an open of a regular file answered done
-  start-file : (j : ℕ) → OpenAsked 0 s (asking .command) (asking .heard) j → FileOK false (answered true) (keyOf s (fileAt s j)) 0
+  start-file : (j : ℕ) → OpenAsked 0 s (asking .command) (asking .heard) j
+      → FileOK false (answered true) (keyOf s (fileAt s j)) 0 (fileAt s j .declared)
   start-file j w =
       let its = is-for s j (asking .command) (asking .id) (w .file) in
-      file-starts {m = m} (asking .command) (asking .heard) (asking .asked) (rw (w .heard, w .action, w .kind) its)
+      file-starts {m = m} (asking .command) (asking .heard) (asking .asked) (rw (w .heard, w .action, w .kind) its) (w .declares refl)
 
   -- a part answered done: the count grows by its length, and the cap is not met
-  pub part-done : (last : Bool) (j n : ℕ) → PartFits s j n → PartAsked last s (asking .command) (asking .heard) j n
-      → FileOK false (answered true) (keyOf s (fileAt s j)) (grown s j n)
+  pub part-done : (last : Bool) {x : FileState} (j n : ℕ) → PartFits s x j n → PartAsked last s (asking .command) (asking .heard) j n
+      → FileOK false (answered true) (keyOf s (fileAt s j)) (grown s j n) (fileAt s j .declared)
   part-done last j n at w =
       let k : Key = keyOf s (fileAt s j) in
       let q : Question = Question.asks (asking .command) (writeHeard last (w .part)) in
       let ask : lastAsk m ≡ q = rw (asking .asked, w .heard) in
       let f = file-done q ask (writes-start last k (asking .command) (w .part)) (s-ok .each j (at .file .state)) in
       let p = writes-part last k (asking .command) (w .part) (is-for s j (asking .command) (asking .id) (w .file)) in
-      let fit = at .fits in
-      let g : grown s j n ≡ fileAt s j .count + n = omega arith in
-      rw (g, w .long) (rw p at f)
+      rw (grown-fits at, w .long) (rw p at f)
 
 -- ---- the calls
 -- what was due, and the table after the answer
@@ -187,7 +187,7 @@ module _ (ss : List Session) (i : ℕ) (m : List Mark) where
       (settle-open (b .0) (b .1) 0 true j (fits (b .0) (b .1)) ask FileState.Started refl 0 (λ _. start-file (b .0) (b .1) j ask))
   done-kept (Due.OpenDirectory j) b =
       rw (own-cleared i (Due.OpenDirectory j))
-      (settle-open (b .0) (b .1) 1 true j (fits (b .0) (b .1)) (asking (b .0) (b .1) .about) FileState.Done refl 0 done-start)
+      (settle-open (b .0) (b .1) 1 true j (fits (b .0) (b .1) .file) (asking (b .0) (b .1) .about) FileState.Done refl 0 done-start)
   done-kept (Due.Write j n) b =
       let ask = asking (b .0) (b .1) .about in
       let at = fits (b .0) (b .1) in
@@ -205,7 +205,7 @@ module _ (ss : List Session) (i : ℕ) (m : List Mark) where
   open-failed type due j b at ask w =
       rw (own-cleared i due) (settle-open (b .0) (b .1) type false j at ask FileState.Failed refl _ failed-start)
 
-  part-failed : (last : Bool) (due : Due) (j n : ℕ) (b : Before ss i m due) → PartFits (sessionIn ss i) j n
+  part-failed : (last : Bool) {x : FileState} (due : Due) (j n : ℕ) (b : Before ss i m due) → PartFits (sessionIn ss i) x j n
       → PartAsked last (sessionIn ss i) (asking (b .0) (b .1) .command) (asking (b .0) (b .1) .heard) j n → (w : Status)
       → After ss i m false due (failedFile (sessionIn ss i) j w)
   part-failed last due j n b at ask w =
@@ -216,7 +216,7 @@ module _ (ss : List Session) (i : ℕ) (m : List Mark) where
   failed-kept e (Due.OpenFile j) b =
       open-failed 0 (Due.OpenFile j) j b (fits (b .0) (b .1)) (asking (b .0) (b .1) .about) (failureStatus e)
   failed-kept e (Due.OpenDirectory j) b =
-      open-failed 1 (Due.OpenDirectory j) j b (fits (b .0) (b .1)) (asking (b .0) (b .1) .about) (failureStatus e)
+      open-failed 1 (Due.OpenDirectory j) j b (fits (b .0) (b .1) .file) (asking (b .0) (b .1) .about) (failureStatus e)
   failed-kept e (Due.Write j n) b =
       part-failed false (Due.Write j n) j n b (fits (b .0) (b .1)) (asking (b .0) (b .1) .about) (failureStatus e)
   failed-kept e (Due.WriteLast j n) b =

@@ -106,9 +106,9 @@ module _ (s : Session) (h : SizedSession s) where
   way-sized : (q : Request) {c : Change} → Way s q c → SizedChange s c
   way-sized q (nothing w r _ a _ _) = record { session = h; reply = about-sized q a }
   way-sized q (dropped w r _ a) = dropped-sized w r (about-sized q a)
-  way-sized q (openAsked j _ _) = record { session = file-sized s j (opening (q .file)) h (padded-length (q .file)); reply = none-sized }
+  way-sized q (openAsked j _ _) = record { session = file-sized s j (opening (q .file) _) h (padded-length (q .file)); reply = none-sized }
   way-sized q (partFailed j w _ _) = code-sized j w
-  way-sized q (writeAsked last j _ _ _ _) = record { session = h; reply = none-sized }
+  way-sized q (writeAsked last j _ _ _ _ _) = record { session = h; reply = none-sized }
   way-sized q (commitAsked _ _ _) = record { session = h; reply = none-sized }
 
   done-change : (d : Due) → SizedChange s (doneBy s d)
@@ -144,7 +144,7 @@ way-tells s q p (nothing w r e _ _ _) = Tellings.tells e
 way-tells s q p (dropped w r e _) = Tellings.tells e
 way-tells s q p (openAsked j _ _) = Tellings.asks (openDue (isDirectory (q .type)) j)
 way-tells s q p (partFailed j w _ _) = Tellings.tells refl
-way-tells s q p (writeAsked last j _ _ _ _) = Tellings.asks (writeDue last j (q .long))
+way-tells s q p (writeAsked last j _ _ _ _ _) = Tellings.asks (writeDue last j (q .long))
 way-tells s q p (commitAsked _ _ _) = Tellings.asks Due.Commit
 
 -- ---- the table

@@ -1,5 +1,5 @@
 -- One session and what is due for it stay sound at a change: no table, and no place in it.
-use Prim.Native.Nat.{ℕ, _≤_, _<_}
+use Prim.Native.Nat.{ℕ, _+_, _≤_, _<_}
 use mathlib.Core.Path.{_≡_, refl, sym, ap, _∙_}
 use mathlib.Core.Bool.{Bool, true, false}
 use mathlib.Core.Option.{Option, Option·none-ne-some}
@@ -12,7 +12,8 @@ use Rattle.protocol.specs.Table.{sessionUsed, fileUsed, withState, putFi
 use Rattle.protocol.specs.Change.{change, tells, asks, opens, drops, edited}
 use Rattle.protocol.specs.Files.{opening, settled, failedFile, countLimit}
 use Rattle.protocol.specs.Sessions.{askedSession}
-use Rattle.protocol.specs.Sound.{IsId, SoundFile, FileIs, Fits, DueFits, opensAt, SoundSession}
+use Rattle.protocol.specs.Rule.{grown}
+use Rattle.protocol.specs.Sound.{IsId, Held, SoundFile, FileIs, PartFits, Fits, DueFits, opensAt, SoundSession}
 use Rattle.protocol.specs.declared.FileState.{FileState}
 use Rattle.protocol.specs.declared.FileState.the-variants as FileState
 use Rattle.protocol.specs.declared.FileRecord.{FileRecord}
@@ -52,20 +53,41 @@ pub record Steps (idle : Bool) (s : Session) (due : Option Due) (c : Change) : T
 
 -- ---- file records
 free-file : SoundFile freeFile
-free-file = record { blank = λ _. refl; named = λ e. no-way (sym e); filled = refl; counted = omega arith }
+free-file = record { blank = λ _. refl; named = λ e. no-way (sym e); filled = refl; counted = omega arith; held = tt }
 
 free-at : (j : ℕ) → fileAt absentSession j ≡ freeFile
 free-at = replicate-each (λ (f : FileRecord). f ≡ freeFile) refl refl fileRoom
 
-opening-file : (k : List ℕ) → IsId k → SoundFile (opening k)
-opening-file k id =
+opening-file : (k : List ℕ) (d : ℕ) → IsId k → SoundFile (opening k d)
+opening-file k d id =
     let e = padded-id k (id .short) in
-    record { blank = λ z. no-way z; named = λ _. rw e id; filled = ap padded (sym e); counted = omega arith }
+    record { blank = λ z. no-way z; named = λ _. rw e id; filled = ap padded (sym e); counted = omega arith; held = refl }
 
 moved-file : {f : FileRecord} → SoundFile f → fileUsed f ≡ true → (g : FileState) → isPast g ≡ true → (n : ℕ) → n ≤ countLimit
-    → SoundFile (moved f g n)
-moved-file ok used g past n le =
-    record { blank = λ z. no-way (sym (past-used g past) ∙ z); named = λ _. ok .named used; filled = ok .filled; counted = le }
+    → Held g n (f .declared) → SoundFile (moved f g n)
+moved-file ok used g past n le held =
+    record {
+      blank = λ z. no-way (sym (past-used g past) ∙ z);
+      named = λ _. ok .named used;
+      filled = ok .filled;
+      counted = le;
+      held = held;
+    }
+
+-- a file that fails keeps its count
+failed-held : (g : FileState) (n d : ℕ) → isUsed g ≡ true → Held g n d → Held FileState.Failed n d
+failed-held FileState.Free n d u h = no-way (sym u)
+failed-held FileState.Opening n d u h = λ some. omega arith
+failed-held FileState.Started n d u h = h
+failed-held FileState.Done n d u h = λ some. let e = h some in omega arith
+failed-held FileState.Failed n d u h = h
+
+-- the count with a part that fits: the cap is not met
+pub grown-fits : {s : Session} {g : FileState} {j n : ℕ} → PartFits s g j n → grown s j n ≡ fileAt s j .count + n
+grown-fits p = let fits = p .fits in omega arith
+
+pub grown-held : {s : Session} {g : FileState} {j n : ℕ} → PartFits s g j n → Held g (grown s j n) (fileAt s j .declared)
+grown-held p = rw (grown-fits p) (p .held)
 
 -- ---- a session without files, and nothing due
 fileless : {s : Session} → length (s .files) ≡ fileRoom → ((j : ℕ) → fileAt s j ≡ freeFile)
@@ -147,11 +169,12 @@ module _ {s : Session} {due : Option Due} (ok : SoundSession s due) (o : s .stat
   -- the record j, which is used and the only one that may be opening, moves past its opening
   pub settled-steps : {idle : Bool} (j : ℕ) (old : FileState) → isUsed old ≡ true → FileIs s j old
       → ((n : ℕ) → opensAt due ≡ Option.some n → n ≡ j)
-      → (g : FileState) → isPast g ≡ true → (n : ℕ) → n ≤ countLimit → (w : Status) (size : ℕ) → Steps idle s due (settled s j g n w size)
-  settled-steps j old u at only g past n le w size =
+      → (g : FileState) → isPast g ≡ true → (n : ℕ) → n ≤ countLimit → Held g n (fileAt s j .declared) → (w : Status) (size : ℕ)
+      → Steps idle s due (settled s j g n w size)
+  settled-steps j old u at only g past n le held w size =
       record {
         sound =
-            put-file j (moved (fileAt s j) g n) Option.none (at .within) (moved-file (ok .each j) used g past n le)
+            put-file j (moved (fileAt s j) g n) Option.none (at .within) (moved-file (ok .each j) used g past n le held)
             (λ i r p e. r (ok .alone i j p used e)) only (λ e. no-way (sym past ∙ ap isPast e)) tt;
         same-id = λ _. (present, refl);
         asking = λ e. no-way (sym e);
@@ -162,7 +185,10 @@ module _ {s : Session} {due : Option Due} (ok : SoundSession s due) (o : s .stat
 
   pub file-failed-steps : {idle : Bool} (j : ℕ) (old : FileState) → isUsed old ≡ true → FileIs s j old
       → ((n : ℕ) → opensAt due ≡ Option.some n → n ≡ j) → (w : Status) → Steps idle s due (failedFile s j w)
-  file-failed-steps j old u at only w = settled-steps j old u at only FileState.Failed refl (fileAt s j .count) (ok .each j .counted) w 0
+  file-failed-steps j old u at only w =
+      let f = ok .each j in
+      settled-steps j old u at only FileState.Failed refl (fileAt s j .count) (f .counted)
+      (failed-held (fileAt s j .state) (fileAt s j .count) (fileAt s j .declared) (ap isUsed (at .state) ∙ u) (f .held)) w 0
 
 -- nothing was due, so no file is opening
 pub none-opens : {n j : ℕ} → opensAt Option.none ≡ Option.some n → n ≡ j
@@ -190,19 +216,23 @@ module _ {s : Session} (ok : SoundSession s Option.none) (o : s .state ≡ Sessi
       }
 
   -- a new record is opening, of an id that no file has
-  pub opens-steps : (j : ℕ) (k : List ℕ) (d : Due) → j < length (s .files) → IsId k
+  pub opens-steps : (j : ℕ) (k : List ℕ) (l : ℕ) (d : Due) → j < length (s .files) → IsId k
       → ((n : ℕ) → fileUsed (fileAt s n) ≡ true → fileIdOf (fileAt s n) ≡ k → ⊥)
       → opensAt (Option.some d) ≡ Option.some j
-      → (FileIs (putFile s j (opening k)) j FileState.Opening → Fits (putFile s j (opening k)) d)
-      → Steps true s Option.none (opens j (opening k) d)
-  opens-steps j k d h id new at fits =
+      → (let new = putFile s j (opening k l) in FileIs new j FileState.Opening → fileAt new j .declared ≡ l → Fits new d)
+      → Steps true s Option.none (opens j (opening k l) d)
+  opens-steps j k l d h id new at fits =
       record {
         sound =
-            put-file ok o j (opening k) (Option.some d) h (opening-file k id) (λ n _ u e. new n u (e ∙ padded-id k (id .short)))
-            (λ n. none-opens) (λ _. at) (o, fits (record { within = rw length-set h; state = ap (λ (f : FileRecord). f .state) same }));
+            put-file ok o j (opening k l) (Option.some d) h (opening-file k l id) (λ n _ u e. new n u (e ∙ padded-id k (id .short)))
+            (λ n. none-opens) (λ _. at) (
+              o,
+              fits (record { within = rw length-set h; state = ap (λ (f : FileRecord). f .state) same })
+                  (ap (λ (f : FileRecord). f .declared) same),
+            );
         same-id = λ _. (ap isPresent o, refl);
         asking = λ _. refl;
       }
     where
-      same : fileAt (putFile s j (opening k)) j ≡ opening k
-      same = getD-set-same (s .files) j (opening k) noFile h
+      same : fileAt (putFile s j (opening k l)) j ≡ opening k l
+      same = getD-set-same (s .files) j (opening k l) noFile h

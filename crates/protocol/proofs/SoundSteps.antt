@@ -9,10 +9,12 @@ use lib.ListN.{length}
 use Rattle.octets.specs.Members.{every}
 use Rattle.frames.proofs.Choices.{by-cond}
 use Rattle.command.specs.Letters.{safeByte}
+use Rattle.command.specs.declared.FileType.{FileType}
+use Rattle.command.specs.declared.FileType.the-variants as FileType
 use Rattle.protocol.specs.Table.{idRoom, noFile, fileAt, fileIdOf, sessionUsed, fileUsed, isFree}
 use Rattle.protocol.specs.Replies.{noReply, sessionReply, failureStatus}
 use Rattle.protocol.specs.Change.{asks, opens}
-use Rattle.protocol.specs.Files.{Request, opening, isDirectory, openDue, writeDue}
+use Rattle.protocol.specs.Files.{Request, opening, linkLike, declaredBy, isDirectory, openDue, writeDue}
 use Rattle.protocol.specs.Rule.{obeyedBy, grown, doneBy, failedBy, isAsked, decidedBy}
 use Rattle.protocol.specs.Sound.{IsId, FileIs, PartFits, SoundSession}
 use Rattle.protocol.specs.declared.FileState.the-variants as FileState
@@ -28,9 +30,9 @@ use Rattle.protocol.specs.declared.Decision.the-variants as Decision
 use Rattle.protocol.specs.declared.Told.the-variants as Told
 use Rattle.protocol.specs.declared.Change.{Change}
 use Rattle.protocol.proofs.Laws.{no-way, equals-same, first-at, found-at, found-nowhere}
-use Rattle.protocol.proofs.Ways.{NewFile, PartOf, Way, nothing, dropped, openAsked, partFailed, writeAsked, commitAsked, way}
+use Rattle.protocol.proofs.Ways.{brought, NewFile, PartOf, Way, nothing, dropped, openAsked, partFailed, writeAsked, commitAsked, way}
 use Rattle.protocol.proofs.SoundRule.{Steps, tells-steps, drops-steps, opened-steps, settled-steps, file-failed-steps, none-opens}
-use Rattle.protocol.proofs.SoundRule.{asks-steps, opens-steps}
+use Rattle.protocol.proofs.SoundRule.{asks-steps, opens-steps, grown-held}
 
 -- ---- a command while nothing is due
 -- a file id that was read: it may be empty
@@ -43,8 +45,9 @@ module _ {s : Session} (ok : SoundSession s Option.none) (q : Request) (id : IsF
   Kept = Steps true s Option.none
 
   -- a new file's record
-  open-steps : (j : ℕ) → s .state ≡ SessionState.Open → NewFile s q j → (b : Bool) → Kept (opens j (opening (q .file)) (openDue b j))
-  open-steps j o n = go
+  open-steps : (j : ℕ) → s .state ≡ SessionState.Open → NewFile s q j
+      → Kept (opens j (opening (q .file) (declaredBy (q .type) (q .size))) (openDue (isDirectory (q .type)) j))
+  open-steps j o n = go (q .type) (n .type)
     where
       within : j < length (s .files)
       within = first-at isFree noFile (s .files) j (n .room) .0
@@ -56,25 +59,29 @@ module _ {s : Session} (ok : SoundSession s Option.none) (q : Request) (id : IsF
       differs k u e =
           no-way (sym (equals-same _ _ e) ∙ found-nowhere fileUsed fileIdOf noFile (s .files) (q .file) refl (n .new) k u)
 
-      go : (b : Bool) → Kept (opens j (opening (q .file)) (openDue b j))
-      go true = opens-steps ok o j (q .file) (Due.OpenDirectory j) within the-id differs refl (λ f. f)
-      go false = opens-steps ok o j (q .file) (Due.OpenFile j) within the-id differs refl (λ f. f)
+      go : (type : FileType) → linkLike type ≡ false
+          → Kept (opens j (opening (q .file) (declaredBy type (q .size))) (openDue (isDirectory type) j))
+      go FileType.Regular _ = opens-steps ok o j (q .file) _ (Due.OpenFile j) within the-id differs refl (λ f _. f)
+      go FileType.Directory _ =
+          opens-steps ok o j (q .file) 0 (Due.OpenDirectory j) within the-id differs refl (λ f d. record { file = f; undeclared = d })
+      go FileType.Symlink e = no-way e
+      go FileType.Link e = no-way e
 
   -- a part of a started file
   started : (j : ℕ) → PartOf s q j → FileIs s j FileState.Started
   started j p = record { within = found-at fileUsed fileIdOf noFile (s .files) (q .file) j (p .found) .0; state = p .started }
 
-  write-steps : (last : Bool) (j n : ℕ) → s .state ≡ SessionState.Open → PartFits s j n → Kept (asks (writeDue last j n))
+  write-steps : (last : Bool) (j n : ℕ) → s .state ≡ SessionState.Open → PartFits s (brought last) j n → Kept (asks (writeDue last j n))
   write-steps true j n o fits = asks-steps ok o (Due.WriteLast j n) fits
   write-steps false j n o fits = asks-steps ok o (Due.Write j n) fits
 
   way-steps : {c : Change} → Way s q c → Kept c
   way-steps (nothing w r _ _ _ _) = tells-steps w r ok
   way-steps (dropped w r _ _) = drops-steps w r
-  way-steps (openAsked j o n) = open-steps j o n (isDirectory (q .type))
+  way-steps (openAsked j o n) = open-steps j o n
   way-steps (partFailed j w o p) = file-failed-steps ok o j FileState.Started refl (started j p) (λ i. none-opens) w
-  way-steps (writeAsked last j o p short fits) =
-      write-steps last j (q .long) o (record { file = started j p; short = short; fits = fits })
+  way-steps (writeAsked last j o p short fits held) =
+      write-steps last j (q .long) o (record { file = started j p; short = short; fits = fits; held = held })
   way-steps (commitAsked o _ e) = asks-steps ok o Due.Commit e
 
   pub obeyed-steps : sessionUsed s ≡ true → Kept (obeyedBy s q)
@@ -91,18 +98,20 @@ module _ {s : Session} where
   unfolding doneBy
   done-steps (Due.OpenFile j) ok =
       let f = ok .fits in
-      settled-steps ok (f .0) j FileState.Opening refl (f .1) (λ n. opens-only) FileState.Started refl 0 (omega arith) Status.Started 0
+      settled-steps ok (f .0) j FileState.Opening refl (f .1) (λ n. opens-only) FileState.Started refl 0 (omega arith)
+      (λ _. omega arith) Status.Started 0
   done-steps (Due.OpenDirectory j) ok =
       let f = ok .fits in
-      settled-steps ok (f .0) j FileState.Opening refl (f .1) (λ n. opens-only) FileState.Done refl 0 (omega arith) Status.Ok 0
+      settled-steps ok (f .0) j FileState.Opening refl (f .1 .file) (λ n. opens-only) FileState.Done refl 0 (omega arith)
+      (λ some. let none = f .1 .undeclared in absurd (omega arith)) Status.Ok 0
   done-steps (Due.Write j n) ok =
       let f = ok .fits in
       settled-steps ok (f .0) j FileState.Started refl (f .1 .file) (λ i. none-opens) FileState.Started refl (grown s j n) (omega arith)
-      Status.Progress (grown s j n)
+      (grown-held (f .1)) Status.Progress (grown s j n)
   done-steps (Due.WriteLast j n) ok =
       let f = ok .fits in
       settled-steps ok (f .0) j FileState.Started refl (f .1 .file) (λ i. none-opens) FileState.Done refl (grown s j n) (omega arith)
-      Status.Ok (grown s j n)
+      (grown-held (f .1)) Status.Ok (grown s j n)
   done-steps Due.Commit ok = drops-steps Told.Committed noReply
 
   pub failed-steps : (e : Failure) (d : Due) → SoundSession s (Option.some d) → Steps false s (Option.some d) (failedBy e s d)
@@ -110,7 +119,7 @@ module _ {s : Session} where
   failed-steps e (Due.OpenFile j) ok =
       file-failed-steps ok (ok .fits .0) j FileState.Opening refl (ok .fits .1) (λ n. opens-only) (failureStatus e)
   failed-steps e (Due.OpenDirectory j) ok =
-      file-failed-steps ok (ok .fits .0) j FileState.Opening refl (ok .fits .1) (λ n. opens-only) (failureStatus e)
+      file-failed-steps ok (ok .fits .0) j FileState.Opening refl (ok .fits .1 .file) (λ n. opens-only) (failureStatus e)
   failed-steps e (Due.Write j n) ok =
       file-failed-steps ok (ok .fits .0) j FileState.Started refl (ok .fits .1 .file) (λ i. none-opens) (failureStatus e)
   failed-steps e (Due.WriteLast j n) ok =

@@ -8,6 +8,7 @@ use native.Mathlib.Omega.{arith}
 use lib.ListN.{length, take}
 use Rattle.octets.specs.Ascii.{ascii}
 use Rattle.protocol.specs.Table.{freshReceiver, emptyTable, sessionAt, fileAt, isPresent}
+use Rattle.protocol.specs.Replies.{framed}
 use Rattle.protocol.specs.Sessions.{settleFailed}
 use Rattle.protocol.specs.Rule.{failedBy}
 use Rattle.protocol.specs.Calls.{dropOf, failedOf}
@@ -16,9 +17,9 @@ use Rattle.protocol.specs.Machine.{Machine, ours, isUnfed, start}
 use Rattle.protocol.specs.Sound.{opensAt, dueOf, EverySound}
 use Rattle.protocol.specs.Promises.{EveryCall}
 use Rattle.protocol.specs.Cuts.{allGiven, after, consoleCalls, CutsAlike}
-use Rattle.protocol.specs.WrongMachines.{sendPiece, filePiece, directoryPiece, dataPiece, longerIdPiece, endPiece, cancelPiece}
+use Rattle.protocol.specs.WrongMachines.{sendPiece, filePiece, declaredPiece, directoryPiece, dataPiece, longerIdPiece, endPiece, cancelPiece}
 use Rattle.protocol.specs.WrongMachines.{oneTooSmall, lastOnly, otherSize, skipping, twice, shorterIds, dataOpens, reopening}
-use Rattle.protocol.specs.WrongMachines.{neverClosing, unasked, deaf, withOwed, keepingOwed, stuckOpening, closerLost, hungry}
+use Rattle.protocol.specs.WrongMachines.{undeclaring, neverClosing, unasked, deaf, withOwed, keepingOwed, stuckOpening, closerLost, hungry}
 use Rattle.protocol.specs.WrongMachines.{talking, stalling, Teeth}
 use Rattle.protocol.specs.declared.FileState.the-variants as FileState
 use Rattle.protocol.specs.declared.SessionState.the-variants as SessionState
@@ -43,11 +44,19 @@ allowed = feed sendPiece ∷ allow (ascii "m") ∷ []
 abbrev started : List Deed
 started = allowed ++ (feed filePiece ∷ done ∷ [])
 
+-- the same with a length of five bytes declared for it
+abbrev startedDeclared : List Deed
+startedDeclared = allowed ++ (feed declaredPiece ∷ done ∷ [])
+
 abbrev written : List Deed
 written = started ++ (feed dataPiece ∷ done ∷ [])
 
 abbrev ended : List Deed
 ended = written ++ (feed endPiece ∷ [])
+
+-- the last two bytes of such a file
+abbrev twoPiece : List ℕ
+twoPiece = framed (ascii "5113;ac=end_data;id=m;fid=a;d=QUI=")
 
 -- the command of the ask told last
 abbrev commandIn : Question → Command
@@ -98,6 +107,7 @@ record Computed : Type 0 where
   shorterIds-closes : ClosesBadly shorterIds (started ++ (feed longerIdPiece ∷ done ∷ feed endPiece ∷ []))
   dataOpens-closes : ClosesBadly dataOpens (allowed ++ (feed dataPiece ∷ done ∷ feed endPiece ∷ []))
   reopening-closes : ClosesBadly reopening (started ++ (feed directoryPiece ∷ []))
+  undeclaring-closes : ClosesBadly undeclaring (startedDeclared ++ (feed dataPiece ∷ done ∷ feed endPiece ∷ []))
   neverClosing-stays : StaysOpen neverClosing ended (lastCommand neverClosing ended) (ascii "A")
   unasked-hands : HandsBadly unasked unallowed dataPiece
   deaf-hands : HandsBadly deaf canceled dataPiece
@@ -120,6 +130,7 @@ record Computed : Type 0 where
   stalling-told : isUnfed (fedWith stalling freshReceiver .told) ≡ false
   -- and ours at the same places: the tests hold
   ours-closes : turnsRight ours ended 4 ≡ true
+  ours-declared : turnsRight ours (startedDeclared ++ (feed dataPiece ∷ done ∷ feed twoPiece ∷ [])) 5 ≡ true
   ours-directory : turnsRight ours (allowed ++ (feed directoryPiece ∷ [])) 0 ≡ true
   ours-parted : length (allGiven ours (start carry₀) (calls ours (start carry₀) parted)) ≡ 1
 
@@ -134,6 +145,7 @@ computed = record {
   shorterIds-closes = record { count = 4; before = refl; after = refl; wrong = refl };
   dataOpens-closes = record { count = 1; before = refl; after = refl; wrong = refl };
   reopening-closes = record { count = 0; before = refl; after = refl; wrong = refl };
+  undeclaring-closes = record { count = 4; before = refl; after = refl; wrong = refl };
   neverClosing-stays = record { asked = refl; taken = refl; after = refl };
   unasked-hands = λ a. no-way (sym (a .0));
   deaf-hands = λ a. no-way (sym (a .0));
@@ -151,6 +163,7 @@ computed = record {
   talking-replies = refl;
   stalling-told = refl;
   ours-closes = refl;
+  ours-declared = refl;
   ours-directory = refl;
   ours-parted = refl;
 }
@@ -205,6 +218,7 @@ teeth =
       idsUpToTheShorter = closes-badly _ _ (computed .shorterIds-closes);
       openedByData = closes-badly _ _ (computed .dataOpens-closes);
       directoryOverAStartedFile = closes-badly _ _ (computed .reopening-closes);
+      closedShort = closes-badly _ _ (computed .undeclaring-closes);
       neverClosed = stays-open _ _ (computed .neverClosing-stays);
       neverAllowed = hands-badly unasked unallowed dataPiece (computed .unasked-hands);
       afterACancel = hands-badly deaf canceled dataPiece (computed .deaf-hands);

@@ -4,9 +4,10 @@ use Prim.Native.Nat.{ℕ, _+_, _≤_}
 use mathlib.Core.Path.{_≡_, refl, sym, ap, _∙_}
 use mathlib.Core.Bool.{Bool, true, false, cond, _||_}
 use native.Mathlib.Decide.{ℕ-discrete}
+use native.Mathlib.Omega.{arith}
 use lib.ListN.{length}
 use lib.Dec.{ltb, eqb}
-use borrow.Author.Tests.{ltb-false, eqb-false}
+use borrow.Author.Tests.{lt-ltb, ltb-false, eqb-false}
 use Rattle.octets.specs.Slices.{equals}
 use Rattle.frames.proofs.Choices.{by-cond}
 use Rattle.pathname.specs.Name.{validName}
@@ -18,11 +19,12 @@ use Rattle.protocol.specs.Table.{isStarted}
 use Rattle.protocol.specs.Actions.{resultIn, kindOf}
 use Rattle.protocol.specs.Replies.{noReply, sessionReply, fileReply}
 use Rattle.protocol.specs.Change.{tells, asks, opens, drops}
-use Rattle.protocol.specs.Files.{Request, ignored, opening, fileStatus, linkLike, isRsync, badPermissions, isDirectory, openDue}
+use Rattle.protocol.specs.Files.{Request, ignored, opening, fileStatus, linkLike, isRsync, badPermissions, badSize, declaredBy}
+use Rattle.protocol.specs.Files.{isDirectory, openDue, passes, endsShort}
 use Rattle.protocol.specs.Files.{fileRecorded, fileChecked, fileKnown, fileOf, failedFile, writeDue, partLimit, countLimit}
 use Rattle.protocol.specs.Files.{partAsked, partFound, dataOf, finishFound, finishOf}
 use Rattle.protocol.specs.Rule.{isOpen, dropTold, presentResult, obeyedBy}
-use Rattle.protocol.specs.Sound.{Unique}
+use Rattle.protocol.specs.Sound.{Held, Unique}
 use Rattle.protocol.specs.declared.FileState.{FileState}
 use Rattle.protocol.specs.declared.FileState.the-variants as FileState
 use Rattle.protocol.specs.declared.SessionState.{SessionState}
@@ -47,12 +49,17 @@ brings a = eqb (actionCode a) 4 || eqb (actionCode a) 5
 abbrev pub ends : Action → Bool
 ends a = eqb (actionCode a) 6 || eqb (actionCode a) 7
 
+-- the state that a part brings its file to
+abbrev pub brought : Bool → FileState
+brought true = FileState.Done
+brought false = FileState.Started
+
 module _ (s : Session) (q : Request) where
   -- a reply about the session, or about the command's file
   pub data About : Reply → Type 0 where
     nobody : About noReply
     session : (w : Status) → About (sessionReply w s)
-    file : (w : Status) → About (fileReply w s (opening (q .file)) 0)
+    file : (w : Status) → About (fileReply w s (opening (q .file) 0) 0)
 
   -- a new file, with room at place j
   pub record NewFile (j : ℕ) : Type 0 where
@@ -78,10 +85,11 @@ module _ (s : Session) (q : Request) where
     nothing : (w : Told) (r : Reply) → isPlain w ≡ true → About r → ends (q .action) ≡ false
         → (brings (q .action) ≡ true → Unstarted (findFile s (q .file))) → Way (tells w r)
     dropped : (w : Told) (r : Reply) → isPlain w ≡ true → About r → Way (drops w r)
-    openAsked : (j : ℕ) → s .state ≡ SessionState.Open → NewFile j → Way (opens j (opening (q .file)) (openDue (isDirectory (q .type)) j))
+    openAsked : (j : ℕ) → s .state ≡ SessionState.Open → NewFile j
+        → Way (opens j (opening (q .file) (declaredBy (q .type) (q .size))) (openDue (isDirectory (q .type)) j))
     partFailed : (j : ℕ) (w : Status) → s .state ≡ SessionState.Open → PartOf j → Way (failedFile s j w)
     writeAsked : (last : Bool) (j : ℕ) → s .state ≡ SessionState.Open → PartOf j → q .long ≤ partLimit
-        → fileAt s j .count + q .long ≤ countLimit
+        → fileAt s j .count + q .long ≤ countLimit → Held (brought last) (fileAt s j .count + q .long) (fileAt s j .declared)
         → Way (asks (writeDue last j (q .long)))
     commitAsked : s .state ≡ SessionState.Open → brings (q .action) ≡ false → first isStarted (s .files) ≡ Found.Nowhere
         → Way (asks Due.Commit)
@@ -92,6 +100,12 @@ is-started FileState.Opening e = no-way (sym e)
 is-started FileState.Started e = refl
 is-started FileState.Done e = no-way (sym e)
 is-started FileState.Failed e = no-way (sym e)
+
+-- the count with a part that neither passes the declared length nor ends short of it
+held-by : (last : Bool) (d n : ℕ) → passes d n ≡ false → endsShort last d n ≡ false → Held (brought last) n d
+held-by true d n p e = λ some.
+    let le : n ≤ d = ltb-false _ _ (rw (lt-ltb 0 d some) at p) in let ge : d ≤ n = ltb-false _ _ e in omega arith
+held-by false d n p e = λ some. ltb-false _ _ (rw (lt-ltb 0 d some) at p)
 
 module _ (s : Session) (q : Request) where
   -- ---- file, "first that applies"
@@ -106,19 +120,22 @@ module _ (s : Session) (q : Request) where
 
     checked-way : (length (q .file) ≡ 0 → ⊥) → findFile s (q .file) ≡ Found.Nowhere → Way s q (fileChecked s q)
     unfolding fileChecked
-    checked-way some new = go (linkLike (q .type)) refl (isRsync (q .transmission)) (badPermissions (q .permissions)) (validName (q .name))
+    checked-way some new =
+        go (linkLike (q .type)) refl (isRsync (q .transmission)) (badPermissions (q .permissions)) (badSize (q .type) (q .size))
+        (validName (q .name))
       where
         refuses : Status → Change
         refuses w = fileStatus s (q .file) w
 
-        go : (x : Bool) → linkLike (q .type) ≡ x → (y u v : Bool)
-            → Way s q (cond (x || y) (refuses Status.Enotsup)
-            (cond u (refuses Status.Einval) (cond v (fileRecorded s q (first isFree (s .files))) (refuses Status.Einval))))
-        go true e y u v = status-way Status.Enotsup
-        go false e true u v = status-way Status.Enotsup
-        go false e false true v = status-way Status.Einval
-        go false e false false true = recorded-way some new e (first isFree (s .files)) refl
-        go false e false false false = status-way Status.Einval
+        go : (x : Bool) → linkLike (q .type) ≡ x → (y u z v : Bool)
+            → Way s q (cond (x || y) (refuses Status.Enotsup) (cond u (refuses Status.Einval) (cond z (refuses Status.Einval)
+            (cond v (fileRecorded s q (first isFree (s .files))) (refuses Status.Einval)))))
+        go true e y u z v = status-way Status.Enotsup
+        go false e true u z v = status-way Status.Enotsup
+        go false e false true z v = status-way Status.Einval
+        go false e false false true v = status-way Status.Einval
+        go false e false false false true = recorded-way some new e (first isFree (s .files)) refl
+        go false e false false false false = status-way Status.Einval
 
     known-way : (length (q .file) ≡ 0 → ⊥) → (f : Found) → findFile s (q .file) ≡ f → Way s q (fileKnown s q f)
     known-way some Found.Nowhere e = checked-way some e
@@ -144,17 +161,28 @@ module _ (s : Session) (q : Request) where
 
       asked-way : fileAt s j .state ≡ FileState.Started → Way s q (partAsked s j last (q .long))
       unfolding partAsked
-      asked-way g = go (ltb partLimit (q .long)) refl (ltb countLimit (fileAt s j .count + q .long)) refl
+      asked-way g =
+          go (ltb partLimit (q .long)) refl (ltb countLimit after) refl (passes declared after) refl (endsShort last declared after) refl
         where
+          after : ℕ
+          after = fileAt s j .count + q .long
+
+          declared : ℕ
+          declared = fileAt s j .declared
+
           part : PartOf s q j
           part = record { brings = b; ends = e; found = found; started = g }
 
-          go : (x : Bool) → ltb partLimit (q .long) ≡ x → (y : Bool) → ltb countLimit (fileAt s j .count + q .long) ≡ y
-              → Way s q (cond x (failedFile s j Status.Einval)
-              (cond y (failedFile s j Status.Efbig) (asks (writeDue last j (q .long)))))
-          go true u y v = partFailed j Status.Einval o part
-          go false u true v = partFailed j Status.Efbig o part
-          go false u false v = writeAsked last j o part (ltb-false _ _ u) (ltb-false _ _ v)
+          go : (x : Bool) → ltb partLimit (q .long) ≡ x → (y : Bool) → ltb countLimit after ≡ y
+              → (z : Bool) → passes declared after ≡ z → (t : Bool) → endsShort last declared after ≡ t
+              → Way s q (cond x (failedFile s j Status.Einval) (cond y (failedFile s j Status.Efbig)
+              (cond z (failedFile s j Status.Efbig) (cond t (failedFile s j Status.Einval) (asks (writeDue last j (q .long)))))))
+          go true u y v z f t l = partFailed j Status.Einval o part
+          go false u true v z f t l = partFailed j Status.Efbig o part
+          go false u false v true f t l = partFailed j Status.Efbig o part
+          go false u false v false f true l = partFailed j Status.Einval o part
+          go false u false v false f false l =
+              writeAsked last j o part (ltb-false _ _ u) (ltb-false _ _ v) (held-by last declared after f l)
 
       found-way : Way s q (cond (isStarted (fileAt s j)) (partAsked s j last (q .long)) ignored)
       found-way =

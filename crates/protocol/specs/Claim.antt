@@ -15,7 +15,8 @@ use Rattle.command.specs.Values.{count}
 use Rattle.protocol.specs.Table as Table
 use Rattle.protocol.specs.Replies.{framed}
 use Rattle.protocol.specs.History.{Command, Heard, Mark, marksOf, Question, lastAsk}
-use Rattle.protocol.specs.Stretches.{Key, isFor, isFile, isDirectory, Stretch, since, parts, contents, startStands, AllStand}
+use Rattle.protocol.specs.Stretches.{Key, isFor, isFile, isDirectory, declaredIn, Stretch, since, parts, contents, startStands}
+use Rattle.protocol.specs.Stretches.{AllStand}
 use Rattle.protocol.specs.Machine.{Machine, Call, World, isRefused, step, Lent, start}
 use Rattle.protocol.specs.declared.FileState.{FileState}
 use Rattle.protocol.specs.declared.FileState.the-variants as FileState
@@ -92,6 +93,8 @@ pub record ClosedWhole (m : Machine) (w : World) (reply : List ℕ) (k : Key) (s
   pub started : since k (marksOf (step m w (Call.done reply) .history)) ≡ Option.some stretch
   pub joined : parts k (stretch .marks) ≡ contents k (stretch .marks)
   pub counted : s ≡ length (contents k (stretch .marks))
+  -- "a declared file closes as done only with s equal to it", as the command of that start declared it
+  pub declared : 1 ≤ declaredIn (stretch .command) → s ≡ declaredIn (stretch .command)
   pub replied : ClosingReply k s quiet (m .dones (w .receiver) reply)
 
 -- a record turns done only at a done: a directory's at its open, or a regular file's that closes whole

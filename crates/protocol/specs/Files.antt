@@ -1,6 +1,6 @@
 -- The rules for file, data, end_data and finish in an open session.
 use Prim.Native.Nat.{ℕ, _+_}
-use mathlib.Core.Bool.{Bool, true, false, _||_, cond}
+use mathlib.Core.Bool.{Bool, true, false, _&&_, _||_, cond}
 use mathlib.Core.List.{List}
 use lib.ListN.{length}
 use lib.Dec.{ltb, eqb}
@@ -34,6 +34,7 @@ pub record Request : Type 0 where
   pub type : FileType
   pub transmission : Transmission
   pub permissions : Number
+  pub size : Number
   pub file : List ℕ
   pub name : List ℕ
   -- how many decoded bytes it brings
@@ -46,6 +47,7 @@ request c file name =
       type = c .«file_type»;
       transmission = c .transmission;
       permissions = c .permissions;
+      size = c .size;
       file = file;
       name = name;
       long = c .payload .len;
@@ -56,12 +58,12 @@ abbrev pub ignored : Change
 ignored = tells Told.Ignored noReply
 
 -- ---- file, "first that applies"
-abbrev pub opening : List ℕ → FileRecord
-opening k = record { state = FileState.Opening; id = padded k; «id_len» = length k; count = 0 }
+abbrev pub opening : (id : List ℕ) (declared : ℕ) → FileRecord
+opening k d = record { state = FileState.Opening; id = padded k; «id_len» = length k; count = 0; declared = d }
 
 -- a reply about the command's file, which is all that happens
 abbrev pub fileStatus : Session → List ℕ → Status → Change
-fileStatus s file w = tells (Told.Status w) (fileReply w s (opening file) 0)
+fileStatus s file w = tells (Told.Status w) (fileReply w s (opening file 0) 0)
 
 -- "symlink, link or rsync"
 abbrev pub linkLike : FileType → Bool
@@ -81,6 +83,19 @@ unsupported q = linkLike (q .type) || isRsync (q .transmission)
 abbrev pub badPermissions : Number → Bool
 badPermissions n = n .negative || ltb 4095 (n .magnitude)
 
+-- "For a regular file only, a positive one declares the length, zero or none nothing, and a negative one is EINVAL"
+abbrev pub badSize : FileType → Number → Bool
+badSize FileType.Regular n = n .negative
+badSize FileType.Directory n = false
+badSize FileType.Symlink n = false
+badSize FileType.Link n = false
+
+abbrev pub declaredBy : FileType → Number → ℕ
+declaredBy FileType.Regular n = cond (n .negative) 0 (n .magnitude)
+declaredBy FileType.Directory n = 0
+declaredBy FileType.Symlink n = 0
+declaredBy FileType.Link n = 0
+
 abbrev pub isDirectory : FileType → Bool
 isDirectory FileType.Regular = false
 isDirectory FileType.Directory = true
@@ -95,15 +110,16 @@ openDue false j = Due.OpenFile j
 -- "32 records EMFILE; else open is asked and the record is opening"
 abbrev pub fileRecorded : Session → Request → Found → Change
 fileRecorded s q Found.Nowhere = fileStatus s (q .file) Status.Emfile
-fileRecorded s q (Found.At j) = opens j (opening (q .file)) (openDue (isDirectory (q .type)) j)
+fileRecorded s q (Found.At j) = opens j (opening (q .file) (declaredBy (q .type) (q .size))) (openDue (isDirectory (q .type)) j)
 
--- "symlink, link or rsync ENOTSUP; prm outside 0 to 4095 EINVAL; bad name EINVAL"
+-- "symlink, link or rsync ENOTSUP; prm outside 0 to 4095 EINVAL; bad name EINVAL"; the size is "checked just after prm"
 unfoldable pub fileChecked : Session → Request → Change
 fileChecked s q =
     cond (unsupported q) (fileStatus s (q .file) Status.Enotsup)
     (cond (badPermissions (q .permissions)) (fileStatus s (q .file) Status.Einval)
+    (cond (badSize (q .type) (q .size)) (fileStatus s (q .file) Status.Einval)
     (cond (validName (q .name)) (fileRecorded s q (first isFree (s .files)))
-    (fileStatus s (q .file) Status.Einval)))
+    (fileStatus s (q .file) Status.Einval))))
 
 -- "fid known EEXIST"
 abbrev pub fileKnown : Session → Request → Found → Change
@@ -138,12 +154,25 @@ partLimit = 4096
 abbrev pub countLimit : ℕ
 countLimit = 1099511627776
 
--- "Over 4,096 decoded bytes: record failed, EINVAL. Count would pass 2^40: record failed, EFBIG. Else a write is asked."
+-- "A part that would pass the declared length": d is that length, 0 for none, and n the count with the part
+abbrev pub passes : (d n : ℕ) → Bool
+passes d n = ltb 0 d && ltb d n
+
+-- "an end_data that closes short of it"
+abbrev pub endsShort : (last : Bool) (d n : ℕ) → Bool
+endsShort last d n = last && ltb n d
+
+-- "Over 4,096 decoded bytes: record failed, EINVAL. Count would pass 2^40: record failed, EFBIG. Else a write is asked." Before that: "A
+-- part that would pass the declared length fails the record with EFBIG, and an end_data that closes short of it fails the record with
+-- EINVAL; neither is handed over."
 unfoldable pub partAsked : Session → ℕ → Bool → ℕ → Change
 partAsked s j last n =
+    let f = fileAt s j in
     cond (ltb partLimit n) (failedFile s j Status.Einval)
-    (cond (ltb countLimit (fileAt s j .count + n)) (failedFile s j Status.Efbig)
-    (asks (writeDue last j n)))
+    (cond (ltb countLimit (f .count + n)) (failedFile s j Status.Efbig)
+    (cond (passes (f .declared) (f .count + n)) (failedFile s j Status.Efbig)
+    (cond (endsShort last (f .declared) (f .count + n)) (failedFile s j Status.Einval)
+    (asks (writeDue last j n)))))
 
 -- "no such record, or not started: ignored, no reply"
 abbrev pub partFound : Session → Bool → ℕ → Found → Change

@@ -36,12 +36,22 @@ abbrev pub Unique : {A : Type 0} → (A → Bool) → (A → List ℕ) → A →
 Unique used key d l =
     (j j′ : ℕ) → used (getD l j d) ≡ true → used (getD l j′ d) ≡ true → key (getD l j d) ≡ key (getD l j′ d) → j ≡ j′
 
--- ---- a file record: its id padded with zeros, its count at most 2^40; a free one is blank
+-- ---- a file record
+-- its count n against the length d that was declared for it, 0 for none: zero while it opens, at most d, and d once it is done
+abbrev pub Held : FileState → (n d : ℕ) → Type 0
+Held FileState.Free n d = Unit {0}
+Held FileState.Opening n d = n ≡ 0
+Held FileState.Started n d = 1 ≤ d → n ≤ d
+Held FileState.Done n d = 1 ≤ d → n ≡ d
+Held FileState.Failed n d = 1 ≤ d → n ≤ d
+
+-- its id padded with zeros, its count at most 2^40; a free one is blank
 pub record SoundFile (f : FileRecord) : Type 0 where
   pub blank : fileUsed f ≡ false → f ≡ freeFile
   pub named : fileUsed f ≡ true → IsId (fileIdOf f)
   pub filled : f .id ≡ padded (fileIdOf f)
   pub counted : f .count ≤ countLimit
+  pub held : Held (f .state) (f .count) (f .declared)
 
 -- ---- what is due for a session
 -- its file j is in a state
@@ -49,17 +59,23 @@ pub record FileIs (s : Session) (j : ℕ) (g : FileState) : Type 0 where
   pub within : j < length (s .files)
   pub state : fileAt s j .state ≡ g
 
--- "at most 4,096 decoded bytes", and the count with them at most 2^40
-pub record PartFits (s : Session) (j n : ℕ) : Type 0 where
+-- no length is declared for a directory
+pub record DirectoryFits (s : Session) (j : ℕ) : Type 0 where
+  pub file : FileIs s j FileState.Opening
+  pub undeclared : fileAt s j .declared ≡ 0
+
+-- "at most 4,096 decoded bytes", and the count with them at most 2^40 and right for the state g that they bring the file to
+pub record PartFits (s : Session) (g : FileState) (j n : ℕ) : Type 0 where
   pub file : FileIs s j FileState.Started
   pub short : n ≤ partLimit
   pub fits : fileAt s j .count + n ≤ countLimit
+  pub held : Held g (fileAt s j .count + n) (fileAt s j .declared)
 
 abbrev pub Fits : Session → Due → Type 0
 Fits s (Due.OpenFile j) = FileIs s j FileState.Opening
-Fits s (Due.OpenDirectory j) = FileIs s j FileState.Opening
-Fits s (Due.Write j n) = PartFits s j n
-Fits s (Due.WriteLast j n) = PartFits s j n
+Fits s (Due.OpenDirectory j) = DirectoryFits s j
+Fits s (Due.Write j n) = PartFits s FileState.Started j n
+Fits s (Due.WriteLast j n) = PartFits s FileState.Done j n
 Fits s Due.Commit = first isStarted (s .files) ≡ Found.Nowhere
 
 -- only an open session is asked for something

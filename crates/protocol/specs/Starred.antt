@@ -39,7 +39,7 @@ abbrev pub halfway : Table
 halfway =
     putSession emptyTable 0
     (putFile (record { state = SessionState.Open; quiet = 0; id = padded (ascii "m"); «id_len» = 1; files = absentSession .files }) 0
-    (record { state = FileState.Started; id = padded (ascii "a"); «id_len» = 1; count = 3 }))
+    (record { state = FileState.Started; id = padded (ascii "a"); «id_len» = 1; count = 3; declared = 0 }))
 
 abbrev pub obeyed : List ℕ → Table
 obeyed text = readAct halfway text (readOf text (replicate scratchRoom 0)) .step .table

@@ -32,7 +32,7 @@ abbrev pub zeros : List ℕ
 zeros = replicate idRoom 0
 
 abbrev pub freeFile : FileRecord
-freeFile = record { state = FileState.Free; id = zeros; «id_len» = 0; count = 0 }
+freeFile = record { state = FileState.Free; id = zeros; «id_len» = 0; count = 0; declared = 0 }
 
 abbrev pub absentSession : Session
 absentSession = record { state = SessionState.Absent; quiet = 0; id = zeros; «id_len» = 0; files = replicate fileRoom freeFile }
@@ -142,4 +142,4 @@ putFile s j f = record { state = s .state; quiet = s .quiet; id = s .id; «id_le
 
 -- a file's record in another state, with a count
 abbrev pub moved : FileRecord → FileState → ℕ → FileRecord
-moved f g n = record { state = g; id = f .id; «id_len» = f .«id_len»; count = n }
+moved f g n = record { state = g; id = f .id; «id_len» = f .«id_len»; count = n; declared = f .declared }

@@ -35,6 +35,10 @@ sendPiece = framed (ascii "5113;ac=send;id=m")
 abbrev pub filePiece : List ℕ
 filePiece = framed (ascii "5113;ac=file;id=m;fid=a;n=L256")
 
+-- with a declared length of five bytes
+abbrev pub declaredPiece : List ℕ
+declaredPiece = framed (ascii "5113;ac=file;id=m;fid=a;sz=5;n=L256")
+
 abbrev pub directoryPiece : List ℕ
 directoryPiece = framed (ascii "5113;ac=file;id=m;fid=a;ft=directory;n=L256")
 
@@ -182,6 +186,10 @@ dataOpens = mistaking dataPiece filePiece (λ r. r)
 abbrev pub reopening : Machine
 reopening = mistaking directoryPiece directoryPiece (λ r. withTable r (withFile (r .table) 0 0 freeFile))
 
+-- a declared length is not kept, so that the file may close short of it
+abbrev pub undeclaring : Machine
+undeclaring = mistaking declaredPiece filePiece (λ r. r)
+
 -- a last part answered done leaves its file started
 abbrev pub neverClosing : Machine
 neverClosing = answeringOf (λ t o. withOwed t (withLast Due.Write o))
@@ -255,6 +263,7 @@ pub record Teeth : Type 0 where
   pub idsUpToTheShorter : EveryHistory shorterIds → ⊥
   pub openedByData : EveryHistory dataOpens → ⊥
   pub directoryOverAStartedFile : EveryHistory reopening → ⊥
+  pub closedShort : EveryHistory undeclaring → ⊥
   pub neverClosed : EveryHistory neverClosing → ⊥
   pub neverAllowed : EveryHistory unasked → ⊥
   pub afterACancel : EveryHistory deaf → ⊥

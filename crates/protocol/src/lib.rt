@@ -25,13 +25,14 @@ pub enum FileState {
     Failed,
 }
 
-// A file record: its id is the first id_len bytes of id. It holds no file type: what was opened is
-// told from the command read.
+// A file record: its id is the first id_len bytes of id, and a length of 0 was not declared. It holds no
+// file type: what was opened is told from the command read.
 pub struct FileRecord {
     pub state: FileState,
     pub id: [u8; 32],
     pub id_len: usize,
     pub count: u64,
+    pub declared: u64,
 }
 
 pub enum SessionState {
@@ -234,6 +235,7 @@ impl FileRecord {
         id: [0; 32],
         id_len: 0,
         count: 0,
+        declared: 0,
     };
 }
 

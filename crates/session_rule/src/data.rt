@@ -5,6 +5,8 @@ ghost use Rattle.protocol.specs.Table.{fileAt, isStarted};
 ghost use Rattle.protocol.specs.Files.{ignored, writeDue, partAsked, dataOf};
 use crate::changes::asks;
 use crate::changes::ignored;
+use crate::counts::ends_short;
+use crate::counts::passes_declared;
 use crate::counts::passes_limit;
 use crate::files::file_at;
 use crate::files::find_file;
@@ -34,22 +36,30 @@ fn part_at(session: Session, j: usize, last: bool, n: usize) -> Change
     let file = file_at(session, j);
     let state = file.state;
     if is_started(state) {
-        ask_part(session, j, file.count, last, n)
+        ask_part(session, j, file.count, file.declared, last, n)
     } else {
         ignored()
     }
 }
 
-// Neither the part nor the file with it may be too long; else its write is asked.
-fn ask_part(session: Session, j: usize, count: u64, last: bool, n: usize) -> Change
-    requires { ⌜ count ≡ fileAt session j .count ⌝ }
+// Neither the part nor the file with it may be too long, and the last part may not leave the file too
+// short; else its write is asked.
+fn ask_part(session: Session, j: usize, before: u64, declared: u64, last: bool, n: usize) -> Change
+    requires { ⌜ (before ≡ fileAt session j .count) × (declared ≡ fileAt session j .declared) ⌝ }
     ensures { λ c. ⌜ c ≡ partAsked session j last n ⌝ }
 {
     if n > FileRecord::PART_LIMIT {
         return fail_file(session, j, Status::Einval);
     }
-    if passes_limit(count, n) {
+    if passes_limit(before, n) {
         return fail_file(session, j, Status::Efbig);
+    }
+    let count = before + (n as u64);
+    if passes_declared(declared, count) {
+        return fail_file(session, j, Status::Efbig);
+    }
+    if ends_short(last, declared, count) {
+        return fail_file(session, j, Status::Einval);
     }
     asks(write_due(last, j, n))
 }

@@ -1,9 +1,9 @@
 // The command file: a new file of an open session, "first that applies".
-ghost use mathlib.Core.Bool.{_||_};
+ghost use mathlib.Core.Bool.{_||_, cond};
 ghost use mathlib.Core.Path.{_≡_};
 ghost use Rattle.protocol.specs.Table.{first, isFree};
-ghost use Rattle.protocol.specs.Files.{request, opening, fileStatus, linkLike, isRsync, badPermissions};
-ghost use Rattle.protocol.specs.Files.{isDirectory, openDue, fileRecorded, fileChecked, fileOf};
+ghost use Rattle.protocol.specs.Files.{request, opening, fileStatus, linkLike, isRsync, badPermissions, badSize};
+ghost use Rattle.protocol.specs.Files.{declaredBy, isDirectory, openDue, fileRecorded, fileChecked, fileOf};
 use crate::changes::opens;
 use crate::changes::tells;
 use crate::files::find_file;
@@ -36,17 +36,21 @@ pub(crate) fn file(session: Session, command: Command, id: &[u8], name: &[u8]) -
     }
 }
 
-// A file whose id is new: its type, its permissions and its name.
+// A file whose id is new: its type, its permissions, its size and its name.
 fn checked(session: Session, command: Command, id: &[u8], name: &[u8]) -> Change
     ensures { λ c. ⌜ c ≡ fileChecked session (request command (now (id .entry)) (now (name .entry))) ⌝ }
 {
     let file_type = command.file_type;
     let transmission = command.transmission;
     let permissions = command.permissions;
+    let size = command.size;
     if is_unsupported(file_type, transmission) {
         return file_status(session, id, Status::Enotsup);
     }
     if are_outside(permissions) {
+        return file_status(session, id, Status::Einval);
+    }
+    if is_bad_size(file_type, size) {
         return file_status(session, id, Status::Einval);
     }
     if pathname::is_valid(name) {
@@ -60,9 +64,10 @@ fn recorded(session: Session, command: Command, id: &[u8], name: &[u8]) -> Chang
     ensures { λ c. ⌜ c ≡ fileRecorded session (request command (now (id .entry)) (now (name .entry))) (first isFree (session .files)) ⌝ }
 {
     let file_type = command.file_type;
+    let declared = declared_by(file_type, command.size);
     match free_file(session) {
         Found::Nowhere => file_status(session, id, Status::Emfile),
-        Found::At(j) => opens(j, opening(id), open_due(file_type, j)),
+        Found::At(j) => opens(j, opening(id, declared), open_due(file_type, j)),
     }
 }
 
@@ -72,12 +77,12 @@ fn file_status(session: Session, id: &[u8], status: Status) -> Change
 {
     tells(
         Told::Status(status),
-        file_reply(status, session, opening(id), 0),
+        file_reply(status, session, opening(id, 0), 0),
     )
 }
 
-fn opening(id: &[u8]) -> FileRecord
-    ensures { λ f. ⌜ f ≡ opening (now (id .entry)) ⌝ }
+fn opening(id: &[u8], declared: u64) -> FileRecord
+    ensures { λ f. ⌜ f ≡ opening (now (id .entry)) declared ⌝ }
 {
     let own = padded(id);
     FileRecord {
@@ -85,6 +90,7 @@ fn opening(id: &[u8]) -> FileRecord
         id: own,
         id_len: id.len(),
         count: 0,
+        declared: declared,
     }
 }
 
@@ -138,4 +144,34 @@ fn are_outside(permissions: Number) -> bool
         return true;
     }
     permissions.magnitude > 4095
+}
+
+// "For a regular file only .. a negative one is EINVAL"
+fn is_bad_size(file_type: FileType, size: Number) -> bool
+    ensures { λ r. ⌜ r ≡ badSize «file_type» size ⌝ }
+{
+    match file_type {
+        FileType::Regular => size.negative,
+        FileType::Directory => false,
+        FileType::Symlink => false,
+        FileType::Link => false,
+    }
+}
+
+// "a positive one declares the length, zero or none nothing"
+fn declared_by(file_type: FileType, size: Number) -> u64
+    ensures { λ r. ⌜ r ≡ declaredBy «file_type» size ⌝ }
+{
+    match file_type {
+        FileType::Regular => unless_negative(size),
+        FileType::Directory => 0,
+        FileType::Symlink => 0,
+        FileType::Link => 0,
+    }
+}
+
+fn unless_negative(size: Number) -> u64
+    ensures { λ r. ⌜ r ≡ cond (size .negative) 0 (size .magnitude) ⌝ }
+{
+    if size.negative { 0 } else { size.magnitude }
 }

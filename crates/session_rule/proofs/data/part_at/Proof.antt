@@ -9,7 +9,7 @@ is-started-requires : tie.Need-is-started-requires
 is-started-requires c κs = search needs
 
 ask-part-requires : tie.Need-ask-part-requires
-ask-part-requires c κs = rw (← c .before .before .file-at .ensures)
+ask-part-requires c κs = let f = c .before .before .file-at .ensures in (rw (← f), rw (← f))
 
 ignored-requires : tie.Need-ignored-requires
 ignored-requires c κs = search needs

@@ -2,6 +2,9 @@ use borrow.Author.Needs.{needs}
 use Rattle.session_rule.proofs.file.recorded.Statement.{statement}
 use Rattle.session_rule.proofs.file.recorded.Tie as tie
 
+declared-by-requires : tie.Need-declared-by-requires
+declared-by-requires c κs = search needs
+
 free-file-requires : tie.Need-free-file-requires
 free-file-requires c κs = search needs
 
@@ -32,13 +35,15 @@ returns-2 : tie.Need-returns-2
 returns-2 c =
     let b = c .before .before in
     let a = b .before .before in
-    rw (c .opens .ensures, c .before .open-due .ensures, b .opening .ensures)
-    (rw (← a .before .before .free-file .ensures, a .j .given .1))
+    let f = a .before .before in
+    rw (c .opens .ensures, c .before .open-due .ensures, b .opening .ensures, f .before .declared-by .ensures)
+    (rw (← f .free-file .ensures, a .j .given .1))
 
 pub recorded-spec : {M : Type 1} → statement M
 recorded-spec =
     tie.close
     (tie.spec
+    declared-by-requires
     free-file-requires
     enum-told
     file-status-requires
