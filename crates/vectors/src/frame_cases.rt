@@ -23,7 +23,7 @@ pub(crate) fn carry(run: Run, pieces: &[u8]) -> Run {
 }
 
 // What stands after place n.
-fn rest(s: &[u8], n: usize) -> &[u8] {
+pub(crate) fn rest(s: &[u8], n: usize) -> &[u8] {
     if n < s.len() { &s[n + 1..] } else { &s[..0] }
 }
 

@@ -6,7 +6,9 @@
 // it, a blank, and the text. Cases that are no line (buffers' sizes, long texts) follow in the code.
 mod base64_cases;
 mod command_cases;
+mod console;
 mod decimal_cases;
+mod declared_cases;
 mod frame_cases;
 mod name_cases;
 mod write_cases;
@@ -69,6 +71,7 @@ fn line(run: Run, s: &[u8]) -> Run {
         b'n' => name_cases::name(run, text),
         b'r' => command_cases::read(run, text),
         b'c' => frame_cases::carry(run, text),
+        b's' => declared_cases::sizes(run, text),
         _ => run.text(b"no such case\n"),
     }
 }
