@@ -5,6 +5,8 @@ pub mod command;
 mod frames;
 mod integer;
 pub mod name;
+#[cfg(test)]
+mod order05;
 mod reply;
 mod rules;
 pub mod scan;

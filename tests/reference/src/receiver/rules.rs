@@ -3,7 +3,7 @@
 use super::command::{Action, Command, FileType, Transmission};
 use super::name;
 use super::reply::{Reply, Status};
-use super::session::{FileState, Id, Session, SessionState};
+use super::session::{File, FileState, Id, Session, SessionState};
 use super::{Answer, Owed, Part, Receiver, Told};
 
 const LARGEST_PART: usize = 4096;
@@ -22,6 +22,16 @@ fn refuse_file(session: &Session, fid: &[u8], status: Status, reply: &mut [u8]) 
     Answer::told(Told::Status(status), len)
 }
 
+/// A size is a regular file's alone: below zero it is bad, above it declares the length.
+fn bad_size(command: &Command) -> bool {
+    command.file_type == FileType::Regular && command.size < 0
+}
+
+fn declared_by(command: &Command) -> Option<u64> {
+    let declares = command.file_type == FileType::Regular && command.size > 0;
+    declares.then_some(command.size as u64)
+}
+
 /// The status that a file command meets before its record is made, if any.
 fn fault_of_file(session: &Session, command: &Command, scratch: &[u8]) -> Option<Status> {
     let fid = Id::new(command.fid).unwrap_or_default();
@@ -34,11 +44,26 @@ fn fault_of_file(session: &Session, command: &Command, scratch: &[u8]) -> Option
     {
         Some(Status::NotSupported)
     } else if !PERMISSIONS.contains(&command.permissions)
+        || bad_size(command)
         || !name::good(&scratch[command.name.clone()])
     {
         Some(Status::Invalid)
     } else if session.full() {
         Some(Status::TooManyFiles)
+    } else {
+        None
+    }
+}
+
+/// The status that a part of a started file meets before its write is asked, if any.
+fn fault_of_part(record: &File, len: usize, last: bool) -> Option<Status> {
+    let count = record.count + len as u64;
+    if len > LARGEST_PART {
+        Some(Status::Invalid)
+    } else if count > LARGEST_FILE || record.declared.is_some_and(|declared| count > declared) {
+        Some(Status::TooBig)
+    } else if last && record.declared.is_some_and(|declared| count < declared) {
+        Some(Status::Invalid)
     } else {
         None
     }
@@ -114,7 +139,8 @@ impl Receiver {
             return refuse_file(session, command.fid, status, reply);
         }
         let fid = Id::new(command.fid).unwrap_or_default();
-        let file = session.add(fid, command.file_type == FileType::Directory);
+        let directory = command.file_type == FileType::Directory;
+        let file = session.add(fid, directory, declared_by(command));
         self.owed = Some(Owed::Open { session: place, file });
         Answer::told(Told::Open, 0)
     }
@@ -128,14 +154,7 @@ impl Receiver {
         };
         let record = session.file(file);
         let len = command.data.len();
-        let fault = if len > LARGEST_PART {
-            Some(Status::Invalid)
-        } else if record.count + len as u64 > LARGEST_FILE {
-            Some(Status::TooBig)
-        } else {
-            None
-        };
-        if let Some(status) = fault {
+        if let Some(status) = fault_of_part(record, len, last) {
             record.state = FileState::Failed;
             return self.report_file(place, file, 0, status, reply);
         }

@@ -41,6 +41,8 @@ pub struct File {
     pub id: Id,
     pub state: FileState,
     pub directory: bool,
+    /// The length that its command declared, if any.
+    pub declared: Option<u64>,
     pub count: u64,
 }
 
@@ -83,8 +85,8 @@ impl Session {
     }
 
     /// Adds a record that is opening and gives its place. The session must not be full.
-    pub fn add(&mut self, id: Id, directory: bool) -> usize {
-        self.files[self.used] = File { id, directory, ..File::default() };
+    pub fn add(&mut self, id: Id, directory: bool, declared: Option<u64>) -> usize {
+        self.files[self.used] = File { id, directory, declared, ..File::default() };
         self.used += 1;
         self.used - 1
     }

@@ -12,11 +12,10 @@ const TOLD: [&str; 11] = [
     "committed", "status",
 ];
 
-/// The statuses that an input of sensible size reaches; EFBIG needs 2^28 parts.
 #[rustfmt::skip]
-const STATUSES: [&str; 13] = [
+const STATUSES: [&str; 14] = [
     "OK", "STARTED", "PROGRESS", "CANCELED", "EBUSY", "ENOTSUP", "EINVAL", "EPERM", "EIO",
-    "ENOENT", "ENOSPC", "EEXIST", "EMFILE",
+    "ENOENT", "ENOSPC", "EEXIST", "EMFILE", "EFBIG",
 ];
 
 #[derive(Default)]

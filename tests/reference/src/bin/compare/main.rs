@@ -18,6 +18,7 @@ mod rng;
 mod scripts;
 mod sequences;
 mod shrink;
+mod sizes;
 mod special;
 mod streams;
 mod trials;

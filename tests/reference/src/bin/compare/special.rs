@@ -1,11 +1,11 @@
 //! Cases that no seed makes, or few: scripts at the length limit, scripts that are none, long texts in pieces, every listed
-//! value, tiny recordings, every edge of UTF-8.
+//! value, tiny recordings, every edge of UTF-8, declared lengths met and missed by one, a long file.
 
 use crate::bad_values;
 use crate::fields::{encoded, Fields};
 use crate::framing::framed;
 use crate::judge::{Case, Tally};
-use crate::sequences;
+use crate::{sequences, sizes};
 use reference::console::LONGEST_SCRIPT;
 use reference::script::{encode, Op};
 
@@ -15,8 +15,13 @@ pub fn judge(tally: &mut Tally) {
         tally.scripts(vec![case]);
     }
     for case in recordings() {
-        tally.recording(&case, 1);
+        tally.recording(&case, step(&case));
     }
+}
+
+/// The size of the pieces in which a recording is written: one byte, more only where that takes long.
+pub fn step(case: &Case) -> usize {
+    1 + case.input.len() / 10_000
 }
 
 fn named(kind: &str, inputs: Vec<Vec<u8>>) -> Vec<Case> {
@@ -70,7 +75,8 @@ fn long(len: usize) -> Vec<u8> {
     script
 }
 
-/// Tiny recordings, document 01's example cut off at many places, and files with every edge of UTF-8 in their names.
+/// Tiny recordings, document 01's example cut off at many places, files with every edge of UTF-8 in their names, files that declare
+/// a length, and long ones.
 pub fn recordings() -> Vec<Case> {
     let example: &[u8] = b"\x1b]5113;ac=send;id=m\x1b\\\x1b]5113;ac=file;id=m;fid=a;n=L256\x1b\\\
         \x1b]5113;ac=data;id=m;fid=a;d=YWJj\x1b\\\x1b]5113;ac=end_data;id=m;fid=a\x1b\\\
@@ -82,6 +88,9 @@ pub fn recordings() -> Vec<Case> {
     // Every cut of the example, as a recording that ends there.
     all.extend((1..example.len()).step_by(7).map(|len| example[..len].to_vec()));
     all.extend([("/", ""), ("/", "/z"), ("~/a", ""), ("~/a", "/z")].map(edges));
+    all.push(sizes::listed(&sizes::ODD, 2));
+    all.extend([1, 3, 4096, 4097].map(|total| sizes::listed(&[&total.to_string()], total)));
+    all.push(sizes::long());
     named("recording", all)
 }
 

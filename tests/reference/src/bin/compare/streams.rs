@@ -5,6 +5,7 @@ use crate::fields::{adorn, cast, encoded, random_bytes, Fields, ACTIONS, GOOD_IN
 use crate::framing::{damaged, fragments, framed, noise};
 use crate::names;
 use crate::rng::Rng;
+use crate::sizes;
 use crate::window::window;
 
 /// A stream and the ids it uses.
@@ -29,13 +30,14 @@ pub struct Shape {
 pub fn stream(rng: &mut Rng, shape: &Shape) -> Stream {
     let count = rng.weighted(&[0, 30, 30, 15, 10, 5, 10]).max(1);
     let ids = cast(rng, count);
-    let chunks = match rng.weighted(&[36, 18, 15, 8, 8, 9, 6]) {
+    let chunks = match rng.weighted(&[32, 18, 15, 8, 8, 9, 10, 6]) {
         0 => window(rng, shape, &ids),
         1 => soup(rng, shape, &ids),
         2 => faulty(rng, shape, &ids),
         3 => torn(rng, shape, &ids),
         4 => named(rng, shape, &ids),
         5 => limits(rng, shape, &ids),
+        6 => sizes::sizes(rng, shape, &ids),
         _ => rows(rng, shape, &ids),
     };
     Stream { chunks, ids }
@@ -127,10 +129,15 @@ fn file_fields(rng: &mut Rng, mut fields: Fields) -> Fields {
     if rng.chance(8) {
         fields = fields.with("tt", rng.word(&["simple", "rsync"]));
     }
+    if rng.chance(25) {
+        let about = rng.below(12);
+        fields = fields.with("sz", sizes::size(rng, about).as_bytes());
+    }
     fields
 }
 
-fn opening(rng: &mut Rng, id: &[u8]) -> Vec<u8> {
+/// A send command, with quiet now and then.
+pub fn opening(rng: &mut Rng, id: &[u8]) -> Vec<u8> {
     let mut fields = Fields::new("send", id);
     if rng.chance(15) {
         fields = fields.with("q", rng.word(&["1", "2"]));
@@ -275,6 +282,9 @@ fn many_files(rng: &mut Rng, shape: &Shape, ids: &[Vec<u8>]) -> Vec<Vec<u8>> {
         let kind = if sound { rng.word(&["regular", "directory"]) } else { rng.word(&["link"]) };
         if rng.chance(50) {
             fields = fields.with("ft", kind);
+        }
+        if rng.chance(if i < 32 { 2 } else { 40 }) {
+            fields = fields.with("sz", rng.word(&["-1", "-1", "1", "0"]));
         }
         chunks.push(framed(&fields.text()));
     }

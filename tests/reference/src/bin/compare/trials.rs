@@ -29,7 +29,10 @@ pub fn quick() -> Vec<Trial> {
     }
     all.extend(scripts);
     all.extend(special::scripts().into_iter().map(|case| scripts_together(vec![case])));
-    all.extend(special::recordings().into_iter().map(|case| a_recording(case, 1)));
+    all.extend(special::recordings().into_iter().map(|case| {
+        let step = special::step(&case);
+        a_recording(case, step)
+    }));
     all
 }
 

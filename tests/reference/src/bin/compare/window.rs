@@ -3,6 +3,7 @@
 use crate::fields::{cast, encoded, Fields};
 use crate::names;
 use crate::rng::Rng;
+use crate::sizes;
 use crate::streams::{emit, part, Shape};
 
 /// A client: its commands still to be sent.
@@ -52,15 +53,25 @@ fn transfer(rng: &mut Rng, shape: &Shape, id: &[u8], fid: &[u8], list: &mut Vec<
         list.push(file.with("ft", b"directory").with("prm", b"493"));
         return;
     }
-    list.push(if rng.chance(30) { file.with("prm", b"420") } else { file });
-    for _ in 0..rng.weighted(&[30, 30, 20, 10, 10]) {
-        let content = part(rng, shape);
-        list.push(of("data").with("d", &encoded(&content)));
-    }
+    let file = if rng.chance(30) { file.with("prm", b"420") } else { file };
+    let count = rng.weighted(&[30, 30, 20, 10, 10]);
+    let parts: Vec<Vec<u8>> = (0..count).map(|_| part(rng, shape)).collect();
+    let last = if rng.chance(50) { part(rng, shape) } else { Vec::new() };
+    let total = parts.iter().chain([&last]).map(Vec::len).sum();
+    list.push(declaring(rng, file, total));
+    list.extend(parts.iter().map(|content| of("data").with("d", &encoded(content))));
     if rng.chance(94) {
-        let content = if rng.chance(50) { part(rng, shape) } else { Vec::new() };
         let end = of("end_data");
-        list.push(if content.is_empty() { end } else { end.with("d", &encoded(&content)) });
+        list.push(if last.is_empty() { end } else { end.with("d", &encoded(&last)) });
+    }
+}
+
+/// A client's size is most often none or true.
+fn declaring(rng: &mut Rng, file: Fields, total: usize) -> Fields {
+    match rng.weighted(&[55, 40, 5]) {
+        0 => file,
+        1 => file.with("sz", total.to_string().as_bytes()),
+        _ => file.with("sz", sizes::size(rng, total).as_bytes()),
     }
 }
 
