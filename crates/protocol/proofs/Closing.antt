@@ -14,7 +14,7 @@ use Rattle.octets.specs.Slices.{equals}
 use Rattle.octets.proofs.Below.{both-test}
 use Rattle.octets.proofs.Compare.{equals-refl, equals-sound}
 use Rattle.frames.specs.declared.Framing.{Framing}
-use Rattle.protocol.specs.Table.{noFile, noSession, sessionAt, fileAt, idOf, fileIdOf, isPresent, isUsed, putFile, moved}
+use Rattle.protocol.specs.Table.{noFile, noSession, sessionAt, fileAt, idOf, fileIdOf, isPresent, isUsed, isDone, putFile, moved}
 use Rattle.protocol.specs.Replies.{replyRoom}
 use Rattle.protocol.specs.Change.{cleared, after}
 use Rattle.protocol.specs.Rule.{grown, doneBy}
@@ -23,7 +23,7 @@ use Rattle.protocol.specs.Calls.{isOwed, replied, guarded, doneOf}
 use Rattle.protocol.specs.History.{Command, Heard, Event, Mark, marksOf, Question, lastAsk}
 use Rattle.protocol.specs.Stretches.{Key, parts, contents}
 use Rattle.protocol.specs.Machine.{Call, World}
-use Rattle.protocol.specs.Claim.{isDone, isDoneAs, Closes, DirectoryAsked, keyIn, Closed}
+use Rattle.protocol.specs.Claim.{isDoneAs, Closes, DirectoryAsked, keyIn, Closed}
 use Rattle.protocol.specs.declared.FileState.{FileState}
 use Rattle.protocol.specs.declared.FileState.the-variants as FileState
 use Rattle.protocol.specs.declared.FileRecord.{FileRecord}

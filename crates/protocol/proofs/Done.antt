@@ -8,9 +8,9 @@ use native.Mathlib.Omega.{arith}
 use native.Mathlib.Nat.{le-of-suc-le-suc}
 use lib.ListN.{length, getD, set}
 use Rattle.octets.proofs.Below.{both-test}
-use Rattle.protocol.specs.Table.{noFile, noSession, sessionAt, fileAt, putFile}
+use Rattle.protocol.specs.Table.{noFile, noSession, sessionAt, fileAt, isDone, total, putFile}
 use Rattle.protocol.specs.Stretches.{Key}
-use Rattle.protocol.specs.Claim.{isDone, isDoneAs, total, doneIn, doneAs}
+use Rattle.protocol.specs.Claim.{isDoneAs, doneIn, doneAs}
 use Rattle.protocol.specs.declared.FileState.{FileState}
 use Rattle.protocol.specs.declared.FileState.the-variants as FileState
 use Rattle.protocol.specs.declared.FileRecord.{FileRecord}

@@ -2,6 +2,7 @@ pub mod Backs
 pub mod Closing
 pub mod ClosingReplies
 pub mod Console
+pub mod Counts
 pub mod Cuts
 pub mod CutsCalls
 pub mod CutsOrder

@@ -18,13 +18,13 @@ use Rattle.decimal.specs.declared.Number.{Number}
 use Rattle.frames.specs.Stream.{textLimit}
 use Rattle.command.specs.Meaning.{Meaning, meaningOf, sizeOf}
 use Rattle.command.specs.Read.{scratchRoom}
-use Rattle.protocol.specs.Table.{noFile, noSession, sessionAt}
+use Rattle.protocol.specs.Table.{noFile, noSession, sessionAt, isDone}
 use Rattle.protocol.specs.Replies.{replyRoom}
 use Rattle.protocol.specs.History.{Command, Heard, Mark, marksOf, Question, lastAsk}
 use Rattle.protocol.specs.Stretches.{Key, isFor, isFile, isDirectory, declaredIn, Stretch, since, parts, contents, startStands}
 use Rattle.protocol.specs.Stretches.{AllStand}
 use Rattle.protocol.specs.Machine.{Machine, Call, World, isRefused, Lent, step, start}
-use Rattle.protocol.specs.Claim.{isDone, doneAs, keyIn, LastPartAsked, DirectoryAsked, ClosingReply, ClosedWhole, TurnedDone}
+use Rattle.protocol.specs.Claim.{doneAs, keyIn, LastPartAsked, DirectoryAsked, ClosingReply, ClosedWhole, TurnedDone}
 use Rattle.protocol.specs.Claim.{Right, Everywhere, EveryHistory}
 use Rattle.protocol.specs.Sound.{Sound, AllSound, EverySound}
 use Rattle.protocol.specs.Cuts.{AllLent}

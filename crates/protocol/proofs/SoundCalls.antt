@@ -15,12 +15,15 @@ use Rattle.command.specs.Meaning.{Meaning}
 use Rattle.command.specs.Read.{Answer, readOf}
 use Rattle.command.specs.declared.Command.{Command}
 use Rattle.command.proofs.SimulationHeld.{read-held}
+use Rattle.protocol.specs.Table.{sessionAt}
 use Rattle.protocol.specs.Replies.{replyRoom}
 use Rattle.protocol.specs.Sessions.{settleDone, settleFailed, decidedOf}
 use Rattle.protocol.specs.Calls.{isOwed, Feeding, readAct, reportAct, scannedFeed, isShort, feedOf}
 use Rattle.protocol.specs.Calls.{guarded, allowOf, denyOf, dropOf, doneOf, failedOf}
-use Rattle.protocol.specs.Machine.{ours, Call, World, step, start}
+use Rattle.protocol.specs.Machine.{Machine, ours, Call, World, step, start}
 use Rattle.protocol.specs.Sound.{Sound, AllSound, EverySound}
+use Rattle.protocol.specs.Cuts.{after}
+use Rattle.protocol.specs.Counts.{EveryCount}
 use Rattle.protocol.specs.declared.Decision.the-variants as Decision
 use Rattle.protocol.specs.declared.Owed.{Owed}
 use Rattle.protocol.specs.declared.Owed.the-variants as Owed
@@ -30,6 +33,7 @@ use Rattle.protocol.specs.declared.Stepped.{Stepped}
 use Rattle.protocol.specs.declared.Answered.{Answered}
 use Rattle.protocol.proofs.Backs.{not-owed}
 use Rattle.protocol.proofs.Means.{Means, Read, command, refused, text-read}
+use Rattle.protocol.proofs.Counts.{right-counts}
 use Rattle.protocol.proofs.SoundTable.{empty-sound, ReadWell}
 use Rattle.protocol.proofs.SoundTable.{obey-sound, done-sound, failed-sound, decided-sound}
 
@@ -115,3 +119,14 @@ all-sound w ok (c ∷ cs) = (ok, all-sound (step ours w c) (step-sound w c ok) c
 
 pub every-sound : EverySound ours
 every-sound carry calls = all-sound (start carry) empty-sound calls
+
+-- so after every list of calls, and with it the numbers kept in each session
+pub sound-after : (m : Machine) (w : World) (calls : List Call) → AllSound m w calls → Sound (after m w calls .receiver .table)
+sound-after m w [] ok = ok
+sound-after m w (c ∷ cs) ok = sound-after m (step m w c) cs (ok .1)
+
+pub every-count : EveryCount ours
+every-count carry calls i =
+    let w = start carry in
+    let s = sessionAt (after ours w calls .receiver .table) i in
+    right-counts s (sound-after ours w calls (every-sound carry calls) .each i .counted)

@@ -13,7 +13,7 @@ use Rattle.protocol.specs.Change.{change, tells, asks, opens, drops, edi
 use Rattle.protocol.specs.Files.{opening, settled, failedFile, countLimit}
 use Rattle.protocol.specs.Sessions.{askedSession}
 use Rattle.protocol.specs.Rule.{grown}
-use Rattle.protocol.specs.Sound.{IsId, Held, SoundFile, FileIs, PartFits, Fits, DueFits, opensAt, SoundSession}
+use Rattle.protocol.specs.Sound.{IsId, Held, SoundFile, FileIs, PartFits, Fits, DueFits, opensAt, Counted, SoundSession}
 use Rattle.protocol.specs.declared.FileState.{FileState}
 use Rattle.protocol.specs.declared.FileState.the-variants as FileState
 use Rattle.protocol.specs.declared.FileRecord.{FileRecord}
@@ -28,6 +28,7 @@ use Rattle.protocol.specs.declared.Edit.the-variants as Edit
 use Rattle.protocol.specs.declared.News.{News}
 use Rattle.protocol.specs.declared.News.the-variants as News
 use Rattle.protocol.specs.declared.Change.{Change}
+use Rattle.protocol.proofs.Counts.{put-counted}
 use Rattle.protocol.proofs.Laws.{isPast, past-used, no-way, set-at, set-each, set-unique, replicate-each, padded-id}
 
 -- ---- what it is that a change keeps a session sound
@@ -92,8 +93,8 @@ grown-held p = rw (grown-fits p) (p .held)
 -- ---- a session without files, and nothing due
 fileless : {s : Session} → length (s .files) ≡ fileRoom → ((j : ℕ) → fileAt s j ≡ freeFile)
     → (sessionUsed s ≡ false → s ≡ absentSession) → (sessionUsed s ≡ true → IsId (idOf s)) → s .id ≡ padded (idOf s) → s .quiet ≤ 2
-    → SoundSession s Option.none
-fileless room free blank named filled quiet =
+    → Counted s → SoundSession s Option.none
+fileless room free blank named filled quiet counted =
     record {
       room = room;
       blank = blank;
@@ -103,17 +104,21 @@ fileless room free blank named filled quiet =
       quiet = quiet;
       alone = λ j j′ p _ _. no-way (sym p ∙ ap fileUsed (free j));
       each = λ j. rw (free j) free-file;
+      counted = counted;
       opening = λ j e. no-way (ap isUsed (sym e) ∙ ap fileUsed (free j));
       fits = tt;
     }
 
+none-counted : Counted absentSession
+none-counted = record { started = refl; doneBytes = refl }
+
 pub absent-sound : SoundSession absentSession Option.none
-absent-sound = fileless refl free-at (λ _. refl) (λ e. no-way (sym e)) refl (omega arith)
+absent-sound = fileless refl free-at (λ _. refl) (λ e. no-way (sym e)) refl (omega arith) none-counted
 
 pub asked-sound : (quiet : ℕ) (k : List ℕ) → quiet ≤ 2 → IsId k → SoundSession (askedSession quiet k) Option.none
 asked-sound quiet k le id =
     let e = padded-id k (id .short) in
-    fileless refl free-at (λ z. no-way z) (λ _. rw e id) (ap padded (sym e)) le
+    fileless refl free-at (λ z. no-way z) (λ _. rw e id) (ap padded (sym e)) le (record { started = refl; doneBytes = refl })
 
 -- ---- changes
 pub tells-steps : {idle : Bool} {s : Session} {due : Option Due} (w : Told) (r : Reply) → SoundSession s due
@@ -135,7 +140,9 @@ opened-steps {s = s} {due} w r ok a = record { sound = go due ok; same-id = λ _
     shut o = let z : _≡_ {A = ℕ} 0 1 = cc in omega arith
 
     go : (due : Option Due) → SoundSession s due → SoundSession (withState s SessionState.Open) due
-    go Option.none k = fileless (k .room) (k .shut shut) (λ e. no-way e) (λ _. k .named used) (k .filled) (k .quiet)
+    go Option.none k =
+        fileless (k .room) (k .shut shut) (λ e. no-way e) (λ _. k .named used) (k .filled) (k .quiet)
+        (record { started = k .counted .started; doneBytes = k .counted .doneBytes })
     go (Option.some d) k = absurd (shut (k .fits .0))
 
 -- ---- changes of an open session
@@ -159,12 +166,16 @@ module _ {s : Session} {due : Option Due} (ok : SoundSession s due) (o : s .stat
         filled = ok .filled;
         quiet = ok .quiet;
         alone = set-unique fileUsed fileIdOf noFile (s .files) j f h (ok .alone) (λ _. new);
-        each = set-each SoundFile noFile (s .files) j f h file (λ n _. ok .each n);
+        each = each;
+        counted = put-counted s j f (ok .room) each (ok .counted);
         opening =
             set-at (λ (n : ℕ) (x : FileRecord). x .state ≡ FileState.Opening → opensAt next ≡ Option.some n) noFile (s .files) j f h here
             (λ n r e. absurd (r (only n (ok .opening n e))));
         fits = fits;
       }
+    where
+      each : (n : ℕ) → SoundFile (fileAt (putFile s j f) n)
+      each = set-each SoundFile noFile (s .files) j f h file (λ n _. ok .each n)
 
   -- the record j, which is used and the only one that may be opening, moves past its opening
   pub settled-steps : {idle : Bool} (j : ℕ) (old : FileState) → isUsed old ≡ true → FileIs s j old
@@ -208,6 +219,7 @@ module _ {s : Session} (ok : SoundSession s Option.none) (o : s .state ≡ Sessi
               quiet = ok .quiet;
               alone = ok .alone;
               each = ok .each;
+              counted = ok .counted;
               opening = λ j e. absurd (Option·none-ne-some j (ok .opening j e));
               fits = (o, fits);
             };

@@ -31,6 +31,7 @@ use Rattle.protocol.specs.declared.Told.the-variants as Told
 use Rattle.protocol.specs.declared.Change.{Change}
 use Rattle.protocol.proofs.Laws.{no-way, equals-same, first-at, found-at, found-nowhere}
 use Rattle.protocol.proofs.Ways.{brought, NewFile, PartOf, Way, nothing, dropped, openAsked, partFailed, writeAsked, commitAsked, way}
+use Rattle.protocol.proofs.Counts.{zero-started}
 use Rattle.protocol.proofs.SoundRule.{Steps, tells-steps, drops-steps, opened-steps, settled-steps, file-failed-steps, none-opens}
 use Rattle.protocol.proofs.SoundRule.{asks-steps, opens-steps, grown-held}
 
@@ -82,7 +83,7 @@ module _ {s : Session} (ok : SoundSession s Option.none) (q : Request) (id : IsF
   way-steps (partFailed j w o p) = file-failed-steps ok o j FileState.Started refl (started j p) (λ i. none-opens) w
   way-steps (writeAsked last j o p short fits held) =
       write-steps last j (q .long) o (record { file = started j p; short = short; fits = fits; held = held })
-  way-steps (commitAsked o _ e) = asks-steps ok o Due.Commit e
+  way-steps (commitAsked o _ e) = asks-steps ok o Due.Commit (zero-started (ok .counted) e)
 
   pub obeyed-steps : sessionUsed s ≡ true → Kept (obeyedBy s q)
   obeyed-steps u = way-steps (way s q u)

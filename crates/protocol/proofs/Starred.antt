@@ -23,7 +23,7 @@ use Rattle.command.specs.Fields.{isKey, fieldRead, fieldsRead, textRead}
 use Rattle.command.specs.Meaning.{meaningOf}
 use Rattle.command.specs.Slots.{actionOf, fileTypeOf, transmissionOf, commandOf}
 use Rattle.command.specs.Read.{kept, readOf}
-use Rattle.protocol.specs.Table.{first}
+use Rattle.protocol.specs.Table.{first, adjusted}
 use Rattle.protocol.specs.Actions.{resultIn, kindOf}
 use Rattle.protocol.specs.Replies.{statusText, replyBytes, repliedOf}
 use Rattle.protocol.specs.Files.{fileChecked, fileOf, partAsked, dataOf, finishOf}
@@ -63,7 +63,7 @@ unfolding actionOf fileTypeOf transmissionOf commandOf kept readOf
 reading = tt
 
 rule : Unit {0}
-unfolding first resultIn kindOf statusText replyBytes repliedOf fileChecked fileOf partAsked dataOf finishOf obeyedBy doneBy decidedBy
+unfolding adjusted first resultIn kindOf statusText replyBytes repliedOf fileChecked fileOf partAsked dataOf finishOf obeyedBy doneBy decidedBy
 rule = tt
 
 sessions : Unit {0}

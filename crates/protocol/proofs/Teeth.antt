@@ -7,7 +7,7 @@ use mathlib.Core.List.{List, [], _∷_, _++_}
 use native.Mathlib.Omega.{arith}
 use lib.ListN.{length, take}
 use Rattle.octets.specs.Ascii.{ascii}
-use Rattle.protocol.specs.Table.{freshReceiver, emptyTable, sessionAt, fileAt, isPresent}
+use Rattle.protocol.specs.Table.{freshReceiver, emptyTable, sessionAt, fileAt, isPresent, total, startedShare}
 use Rattle.protocol.specs.Replies.{framed}
 use Rattle.protocol.specs.Sessions.{settleFailed}
 use Rattle.protocol.specs.Rule.{failedBy}
@@ -17,10 +17,11 @@ use Rattle.protocol.specs.Machine.{Machine, ours, isUnfed, start}
 use Rattle.protocol.specs.Sound.{opensAt, dueOf, EverySound}
 use Rattle.protocol.specs.Promises.{EveryCall}
 use Rattle.protocol.specs.Cuts.{allGiven, after, consoleCalls, CutsAlike}
+use Rattle.protocol.specs.Counts.{EveryCount}
 use Rattle.protocol.specs.WrongMachines.{sendPiece, filePiece, declaredPiece, directoryPiece, dataPiece, longerIdPiece, endPiece, cancelPiece}
 use Rattle.protocol.specs.WrongMachines.{oneTooSmall, lastOnly, otherSize, skipping, twice, shorterIds, dataOpens, reopening}
 use Rattle.protocol.specs.WrongMachines.{undeclaring, neverClosing, unasked, deaf, withOwed, keepingOwed, stuckOpening, closerLost, hungry}
-use Rattle.protocol.specs.WrongMachines.{talking, stalling, Teeth}
+use Rattle.protocol.specs.WrongMachines.{keepingNumbers, uncounting, talking, stalling, Teeth}
 use Rattle.protocol.specs.declared.FileState.the-variants as FileState
 use Rattle.protocol.specs.declared.SessionState.the-variants as SessionState
 use Rattle.protocol.specs.declared.Due.the-variants as Due
@@ -84,6 +85,10 @@ canceled = started ++ (feed cancelPiece ∷ [])
 abbrev dropping : List Deed
 dropping = allowed ++ (feed filePiece ∷ dropped (ascii "m") ∷ [])
 
+-- a file is started, and its session dropped
+abbrev startedDropped : List Deed
+startedDropped = started ++ (dropped (ascii "m") ∷ [])
+
 abbrev failing : List Deed
 failing = allowed ++ (feed filePiece ∷ failed ∷ [])
 
@@ -115,6 +120,10 @@ record Computed : Type 0 where
   keepingOwed-drops : sessionAt (tableAfter keepingOwed dropping) 0 .state ≡ SessionState.Absent
   stuckOpening-owes : dueOf (tableAfter stuckOpening failing .owed) 0 ≡ Option.none
   stuckOpening-opens : fileAt (sessionAt (tableAfter stuckOpening failing) 0) 0 .state ≡ FileState.Opening
+  keepingNumbers-counts : sessionAt (tableAfter keepingNumbers startedDropped) 0 .started ≡ 1
+  keepingNumbers-files : total startedShare (sessionAt (tableAfter keepingNumbers startedDropped) 0 .files) ≡ 0
+  uncounting-counts : sessionAt (tableAfter uncounting started) 0 .started ≡ 0
+  uncounting-files : total startedShare (sessionAt (tableAfter uncounting started) 0 .files) ≡ 1
   -- two ways to bring the same bytes, with no console call: one report, and none
   same-bytes : bytesOf (after closerLost (start carry₀) (calls closerLost (start carry₀) whole) .history)
       ≡ bytesOf (after closerLost (start carry₀) (calls closerLost (start carry₀) parted) .history)
@@ -153,6 +162,10 @@ computed = record {
   keepingOwed-drops = refl;
   stuckOpening-owes = refl;
   stuckOpening-opens = refl;
+  keepingNumbers-counts = refl;
+  keepingNumbers-files = refl;
+  uncounting-counts = refl;
+  uncounting-files = refl;
   same-bytes = refl;
   same-calls = refl;
   one-report = refl;
@@ -179,6 +192,18 @@ opening-for-good : EverySound stuckOpening → ⊥
 opening-for-good claim =
     let s = sound-after stuckOpening failing claim .each 0 in
     Option·none-ne-some 0 (sym (ap opensAt (computed .stuckOpening-owes)) ∙ s .opening 0 (computed .stuckOpening-opens))
+
+dropped-counts : EveryCount keepingNumbers → ⊥
+dropped-counts claim =
+    let right = claim carry₀ (calls keepingNumbers (start carry₀) startedDropped) 0 .counted .started in
+    let z : _≡_ {A = ℕ} 1 0 = sym (computed .keepingNumbers-counts) ∙ right ∙ computed .keepingNumbers-files in
+    omega arith
+
+started-uncounted : EveryCount uncounting → ⊥
+started-uncounted claim =
+    let right = claim carry₀ (calls uncounting (start carry₀) started) 0 .counted .started in
+    let z : _≡_ {A = ℕ} 0 1 = sym (computed .uncounting-counts) ∙ right ∙ computed .uncounting-files in
+    omega arith
 
 cut-closer-lost : CutsAlike closerLost → ⊥
 cut-closer-lost alike =
@@ -224,6 +249,8 @@ teeth =
       afterACancel = hands-badly deaf canceled dataPiece (computed .deaf-hands);
       droppedOwes = dropped-owes;
       openingForGood = opening-for-good;
+      droppedCounts = dropped-counts;
+      startedUncounted = started-uncounted;
       cutCloserLost = cut-closer-lost;
       refusedFeedConsumes = refused-consumes;
       refusedFeedReplies = refused-replies;

@@ -7,7 +7,7 @@ use native.Mathlib.Decide.{ℕ-discrete}
 use native.Mathlib.Omega.{arith}
 use lib.ListN.{length}
 use lib.Dec.{ltb, eqb}
-use borrow.Author.Tests.{lt-ltb, ltb-false, eqb-false}
+use borrow.Author.Tests.{lt-ltb, ltb-false, eqb-true, eqb-false}
 use Rattle.octets.specs.Slices.{equals}
 use Rattle.frames.proofs.Choices.{by-cond}
 use Rattle.pathname.specs.Name.{validName}
@@ -22,7 +22,7 @@ use Rattle.protocol.specs.Change.{tells, asks, opens, drops}
 use Rattle.protocol.specs.Files.{Request, ignored, opening, fileStatus, linkLike, isRsync, badPermissions, badSize, declaredBy}
 use Rattle.protocol.specs.Files.{isDirectory, openDue, passes, endsShort}
 use Rattle.protocol.specs.Files.{fileRecorded, fileChecked, fileKnown, fileOf, failedFile, writeDue, partLimit, countLimit}
-use Rattle.protocol.specs.Files.{partAsked, partFound, dataOf, finishFound, finishOf}
+use Rattle.protocol.specs.Files.{partAsked, partFound, dataOf, finishOf}
 use Rattle.protocol.specs.Rule.{isOpen, dropTold, presentResult, obeyedBy}
 use Rattle.protocol.specs.Sound.{Held, Unique}
 use Rattle.protocol.specs.declared.FileState.{FileState}
@@ -91,8 +91,7 @@ module _ (s : Session) (q : Request) where
     writeAsked : (last : Bool) (j : ℕ) → s .state ≡ SessionState.Open → PartOf j → q .long ≤ partLimit
         → fileAt s j .count + q .long ≤ countLimit → Held (brought last) (fileAt s j .count + q .long) (fileAt s j .declared)
         → Way (asks (writeDue last j (q .long)))
-    commitAsked : s .state ≡ SessionState.Open → brings (q .action) ≡ false → first isStarted (s .files) ≡ Found.Nowhere
-        → Way (asks Due.Commit)
+    commitAsked : s .state ≡ SessionState.Open → brings (q .action) ≡ false → s .started ≡ 0 → Way (asks Due.Commit)
 
 is-started : (g : FileState) → isStartedState g ≡ true → g ≡ FileState.Started
 is-started FileState.Free e = no-way (sym e)
@@ -200,11 +199,9 @@ module _ (s : Session) (q : Request) where
   -- ---- by the action table
   finish-way : s .state ≡ SessionState.Open → brings (q .action) ≡ false → Way s q (finishOf s)
   unfolding finishOf
-  finish-way o b = go (first isStarted (s .files)) refl
-    where
-      go : (f : Found) → first isStarted (s .files) ≡ f → Way s q (finishFound s f)
-      go Found.Nowhere e = commitAsked o b e
-      go (Found.At j) e = dropped Told.Discarded _ refl (session Status.Einval)
+  finish-way o b =
+      by-cond (Way s q) (eqb (s .started) 0) (λ e. commitAsked o b (eqb-true _ _ e))
+      (λ _. dropped Told.Discarded _ refl (session Status.Einval))
 
   drop-plain : (b : Bool) → isPlain (cond b Told.Discarded Told.Withdrawn) ≡ true
   drop-plain true = refl

@@ -1,5 +1,5 @@
 -- Demand 3, of a machine: every list of calls from a fresh receiver, and what holds at each of them.
-use Prim.Native.Nat.{ℕ, _+_, _≤_, _<_}
+use Prim.Native.Nat.{ℕ, _≤_, _<_}
 use mathlib.Core.Path.{_≡_}
 use mathlib.Core.Bool.{Bool, true, false, cond, _&&_}
 use mathlib.Core.Logic.{_⊎_}
@@ -18,37 +18,24 @@ use Rattle.protocol.specs.History.{Command, Heard, Mark, marksOf, Questi
 use Rattle.protocol.specs.Stretches.{Key, isFor, isFile, isDirectory, declaredIn, Stretch, since, parts, contents, startStands}
 use Rattle.protocol.specs.Stretches.{AllStand}
 use Rattle.protocol.specs.Machine.{Machine, Call, World, isRefused, step, Lent, start}
-use Rattle.protocol.specs.declared.FileState.{FileState}
-use Rattle.protocol.specs.declared.FileState.the-variants as FileState
 use Rattle.protocol.specs.declared.FileRecord.{FileRecord}
 use Rattle.protocol.specs.declared.Session.{Session}
 use Rattle.protocol.specs.declared.Table.{Table}
 use Rattle.protocol.specs.declared.Answered.{Answered}
 
 -- ---- the done records of a table, by ids and not by places
-abbrev pub isDone : FileState → Bool
-isDone FileState.Free = false
-isDone FileState.Opening = false
-isDone FileState.Started = false
-isDone FileState.Done = true
-isDone FileState.Failed = false
-
 -- the record f of the session s has these ids, and is done with count n; the session has that quiet
 abbrev pub isDoneAs : Key → ℕ → ℕ → Session → FileRecord → Bool
 isDoneAs k n quiet s f =
-    isDone (f .state) && (equals (Table.idOf s) (k .id) &&
+    Table.isDone (f .state) && (equals (Table.idOf s) (k .id) &&
     (equals (Table.fileIdOf f) (k .file) && (eqb (f .count) n && eqb (s .quiet) quiet)))
 
 -- how many there are: a sum over the sessions, of sums over their files
-abbrev pub total : {A : Type 0} → (A → ℕ) → List A → ℕ
-total g [] = 0
-total g (x ∷ xs) = g x + total g xs
-
 abbrev pub doneIn : Key → ℕ → ℕ → Session → ℕ
-doneIn k n quiet s = total (λ (f : FileRecord). cond (isDoneAs k n quiet s f) 1 0) (s .files)
+doneIn k n quiet s = Table.total (λ (f : FileRecord). cond (isDoneAs k n quiet s f) 1 0) (s .files)
 
 abbrev pub doneAs : Key → ℕ → ℕ → Table → ℕ
-doneAs k n quiet t = total (doneIn k n quiet) (t .sessions)
+doneAs k n quiet t = Table.total (doneIn k n quiet) (t .sessions)
 
 -- "It closes as done, its record turning done": more records with these ids are done with that count than before, in whichever places. So a
 -- done record whose count changes counts as closing anew.

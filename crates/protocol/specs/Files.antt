@@ -188,5 +188,10 @@ abbrev pub finishFound : Session → Found → Change
 finishFound s Found.Nowhere = asks Due.Commit
 finishFound s (Found.At j) = drops Told.Discarded (sessionReply Status.Einval s)
 
+-- by a search of the records, as that sentence has it
+abbrev pub finishByRecords : Session → Change
+finishByRecords s = finishFound s (first isStarted (s .files))
+
+-- by the kept number: "keep in the session the number of started files, for finish". `EveryCount` says that it is the same.
 unfoldable pub finishOf : Session → Change
-finishOf s = finishFound s (first isStarted (s .files))
+finishOf s = cond (eqb (s .started) 0) (asks Due.Commit) (drops Told.Discarded (sessionReply Status.Einval s))

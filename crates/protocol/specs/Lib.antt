@@ -13,5 +13,6 @@ pub mod Sound
 pub mod Promises
 pub mod Claim
 pub mod Cuts
+pub mod Counts
 pub mod WrongMachines
 pub mod Starred

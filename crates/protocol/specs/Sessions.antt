@@ -6,7 +6,7 @@ use Rattle.octets.specs.Slices.{partOf}
 use Rattle.command.specs.Slots.{nowhere}
 use Rattle.command.specs.declared.Place.{Place}
 use Rattle.command.specs.declared.Command.{Command}
-use Rattle.protocol.specs.Table.{fileRoom, freeFile, padded, sessionAt, findSession, first, isAbsent, putSession}
+use Rattle.protocol.specs.Table.{noFiles, padded, sessionAt, findSession, first, isAbsent, putSession}
 use Rattle.protocol.specs.Actions.{kindOf}
 use Rattle.protocol.specs.Replies.{sessionReply}
 use Rattle.protocol.specs.Change.{stepped, telling, stepBy}
@@ -47,7 +47,15 @@ requestIn c text scratch = request c (fileIdIn c text) (stringIn scratch (c .nam
 -- the session that `send` makes
 abbrev pub askedSession : (quiet : ℕ) (id : List ℕ) → Session
 askedSession quiet id =
-    record { state = SessionState.Asked; quiet = quiet; id = padded id; «id_len» = length id; files = replicate fileRoom freeFile }
+    record {
+      state = SessionState.Asked;
+      quiet = quiet;
+      id = padded id;
+      «id_len» = length id;
+      started = 0;
+      «done_bytes» = 0;
+      files = noFiles;
+    }
 
 -- a status about it: "The session's quiet counts, or the command's own where the session is absent"
 abbrev pub absentStatus : Table → Session → Status → Stepped

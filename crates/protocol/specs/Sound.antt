@@ -9,7 +9,7 @@ use lib.Dec.{eqb}
 use Rattle.octets.specs.Members.{every}
 use Rattle.command.specs.Letters.{safeByte}
 use Rattle.protocol.specs.Table.{sessionRoom, fileRoom, idRoom, freeFile, absentSession, noFile, noSession, sessionAt, fileAt}
-use Rattle.protocol.specs.Table.{idOf, fileIdOf, padded, first, sessionUsed, fileUsed, isStarted}
+use Rattle.protocol.specs.Table.{idOf, fileIdOf, padded, first, sessionUsed, fileUsed, isStarted, total, startedShare, doneShare}
 use Rattle.protocol.specs.Files.{partLimit, countLimit}
 use Rattle.protocol.specs.Machine.{Machine, Call, World, step, start}
 use Rattle.protocol.specs.declared.FileState.{FileState}
@@ -92,6 +92,11 @@ opensAt (Option.some (Due.Write j n)) = Option.none
 opensAt (Option.some (Due.WriteLast j n)) = Option.none
 opensAt (Option.some Due.Commit) = Option.none
 
+-- ---- the numbers kept in a session: those counted from its records
+pub record Counted (s : Session) : Type 0 where
+  pub started : s .started ≡ total startedShare (s .files)
+  pub doneBytes : s .«done_bytes» ≡ total doneShare (s .files)
+
 -- ---- a session, with what is due for it
 pub record SoundSession (s : Session) (due : Option Due) : Type 0 where
   pub room : length (s .files) ≡ fileRoom
@@ -104,6 +109,7 @@ pub record SoundSession (s : Session) (due : Option Due) : Type 0 where
   -- its files have different ids
   pub alone : Unique fileUsed fileIdOf noFile (s .files)
   pub each : (j : ℕ) → SoundFile (fileAt s j)
+  pub counted : Counted s
   -- a file is opening exactly where its open is due
   pub opening : (j : ℕ) → fileAt s j .state ≡ FileState.Opening → opensAt due ≡ Option.some j
   pub fits : DueFits s due

@@ -11,9 +11,9 @@ use Rattle.command.specs.Keys.{keys, numberOf}
 use Rattle.command.specs.Values.{Value, Got}
 use Rattle.command.specs.Meaning.{Meaning, meaningOf}
 use Rattle.command.specs.Read.{scratchRoom, readOf}
-use Rattle.protocol.specs.Table.{absentSession, emptyTable, sessionAt, fileAt, padded, putFile, putSession}
+use Rattle.protocol.specs.Table.{emptyTable, sessionAt, fileAt, padded, withState, putFile, putSession}
 use Rattle.protocol.specs.Replies.{statusWord, statusText}
-use Rattle.protocol.specs.Sessions.{settleDone}
+use Rattle.protocol.specs.Sessions.{askedSession, settleDone}
 use Rattle.protocol.specs.Calls.{readAct}
 use Rattle.protocol.specs.declared.FileState.the-variants as FileState
 use Rattle.protocol.specs.declared.SessionState.the-variants as SessionState
@@ -38,7 +38,7 @@ valueOf n (Meaning.refused r) = Got.refused r
 abbrev pub halfway : Table
 halfway =
     putSession emptyTable 0
-    (putFile (record { state = SessionState.Open; quiet = 0; id = padded (ascii "m"); «id_len» = 1; files = absentSession .files }) 0
+    (putFile (withState (askedSession 0 (ascii "m")) SessionState.Open) 0
     (record { state = FileState.Started; id = padded (ascii "a"); «id_len» = 1; count = 3; declared = 0 }))
 
 abbrev pub obeyed : List ℕ → Table

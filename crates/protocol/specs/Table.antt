@@ -1,6 +1,6 @@
 -- The table of sessions: room, ids, finding, and what is put back.
-use Prim.Native.Nat.{ℕ, zero, suc}
-use mathlib.Core.Bool.{Bool, true, false, not, _&&_}
+use Prim.Native.Nat.{ℕ, zero, suc, _+_, _-_, min}
+use mathlib.Core.Bool.{Bool, true, false, not, cond, _&&_}
 use mathlib.Core.List.{List, [], _∷_, _++_}
 use lib.ListN.{take, getD, set, replicate}
 use Rattle.octets.specs.Slices.{equals}
@@ -34,8 +34,11 @@ zeros = replicate idRoom 0
 abbrev pub freeFile : FileRecord
 freeFile = record { state = FileState.Free; id = zeros; «id_len» = 0; count = 0; declared = 0 }
 
+abbrev pub noFiles : List FileRecord
+noFiles = replicate fileRoom freeFile
+
 abbrev pub absentSession : Session
-absentSession = record { state = SessionState.Absent; quiet = 0; id = zeros; «id_len» = 0; files = replicate fileRoom freeFile }
+absentSession = record { state = SessionState.Absent; quiet = 0; id = zeros; «id_len» = 0; started = 0; «done_bytes» = 0; files = noFiles }
 
 -- "A fresh receiver has no session, no file and nothing owed"
 abbrev pub emptyTable : Table
@@ -116,6 +119,26 @@ isStartedState FileState.Failed = false
 abbrev pub isStarted : FileRecord → Bool
 isStarted f = isStartedState (f .state)
 
+abbrev pub isDone : FileState → Bool
+isDone FileState.Free = false
+isDone FileState.Opening = false
+isDone FileState.Started = false
+isDone FileState.Done = true
+isDone FileState.Failed = false
+
+-- ---- counting
+abbrev pub total : {A : Type 0} → (A → ℕ) → List A → ℕ
+total g [] = 0
+total g (x ∷ xs) = g x + total g xs
+
+-- what a record adds to "the number of started files" and to "the sum of counts of its done ones"
+abbrev pub startedShare : FileRecord → ℕ
+startedShare f = cond (isStarted f) 1 0
+
+abbrev pub doneShare : FileRecord → ℕ
+doneShare f = cond (isDone (f .state)) (f .count) 0
+
+-- ---- ids that match
 -- "Ids match only if length and all bytes agree"
 abbrev pub hasId : List ℕ → Session → Bool
 hasId k s = sessionUsed s && equals (idOf s) k
@@ -135,10 +158,36 @@ abbrev pub putSession : Table → ℕ → Session → Table
 putSession t i s = record { sessions = set (t .sessions) i s; owed = t .owed }
 
 abbrev pub withState : Session → SessionState → Session
-withState s g = record { state = g; quiet = s .quiet; id = s .id; «id_len» = s .«id_len»; files = s .files }
+withState s g =
+    record {
+      state = g;
+      quiet = s .quiet;
+      id = s .id;
+      «id_len» = s .«id_len»;
+      started = s .started;
+      «done_bytes» = s .«done_bytes»;
+      files = s .files;
+    }
 
+-- a kept number with one record's share for another's; as far as a u64 holds it, which no list of calls from a fresh receiver passes
+unfoldable pub adjusted : (kept old new : ℕ) → ℕ
+adjusted kept old new = min ((kept - old) + new) 18446744073709551615
+
+-- the one place that changes a session's files, and the numbers kept of them
 abbrev pub putFile : Session → ℕ → FileRecord → Session
-putFile s j f = record { state = s .state; quiet = s .quiet; id = s .id; «id_len» = s .«id_len»; files = set (s .files) j f }
+putFile s j f =
+    let files = set (s .files) j f in
+    let old = fileAt s j in
+    let new = getD files j noFile in
+    record {
+      state = s .state;
+      quiet = s .quiet;
+      id = s .id;
+      «id_len» = s .«id_len»;
+      started = adjusted (s .started) (startedShare old) (startedShare new);
+      «done_bytes» = adjusted (s .«done_bytes») (doneShare old) (doneShare new);
+      files = files;
+    }
 
 -- a file's record in another state, with a count
 abbrev pub moved : FileRecord → FileState → ℕ → FileRecord

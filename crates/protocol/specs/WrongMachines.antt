@@ -16,9 +16,11 @@ use Rattle.protocol.specs.Sound.{EverySound}
 use Rattle.protocol.specs.Promises.{EveryCall}
 use Rattle.protocol.specs.Claim.{EveryHistory}
 use Rattle.protocol.specs.Cuts.{CutsAlike}
+use Rattle.protocol.specs.Counts.{EveryCount}
 use Rattle.protocol.specs.declared.SessionState.{SessionState}
 use Rattle.protocol.specs.declared.SessionState.the-variants as SessionState
 use Rattle.protocol.specs.declared.FileRecord.{FileRecord}
+use Rattle.protocol.specs.declared.Session.{Session}
 use Rattle.protocol.specs.declared.Due.{Due}
 use Rattle.protocol.specs.declared.Due.the-variants as Due
 use Rattle.protocol.specs.declared.Owed.{Owed}
@@ -220,6 +222,31 @@ leaving t a = record { receiver = withTable (a .receiver) t; told = a .told; «r
 abbrev pub keepingOwed : Machine
 keepingOwed = droppingBy (λ r id. let a = dropOf r id in leaving (withOwed (a .receiver .table) (r .table .owed)) a)
 
+-- a session with the numbers kept of another
+abbrev pub withNumbers : Session → Session → Session
+withNumbers s x =
+    record {
+      state = s .state;
+      quiet = s .quiet;
+      id = s .id;
+      «id_len» = s .«id_len»;
+      started = x .started;
+      «done_bytes» = x .«done_bytes»;
+      files = s .files;
+    }
+
+-- the numbers kept in the first session stay as they were: through a drop, and through an answer
+abbrev pub numbersOf : Table → Table → Table
+numbersOf t t′ = putSession t′ 0 (withNumbers (sessionAt t′ 0) (sessionAt t 0))
+
+abbrev pub keepingNumbers : Machine
+keepingNumbers = droppingBy (λ r id. let a = dropOf r id in leaving (numbersOf (r .table) (a .receiver .table)) a)
+
+abbrev pub uncounting : Machine
+uncounting =
+    answeringBy (λ r reply.
+    let b = doneOf r reply in outcome (leaving (numbersOf (r .table) (b .answer .receiver .table)) (b .answer)) (b .buffer))
+
 -- an open that failed leaves its record opening
 abbrev pub stuckOpening : Machine
 stuckOpening =
@@ -269,6 +296,8 @@ pub record Teeth : Type 0 where
   pub afterACancel : EveryHistory deaf → ⊥
   pub droppedOwes : EverySound keepingOwed → ⊥
   pub openingForGood : EverySound stuckOpening → ⊥
+  pub droppedCounts : EveryCount keepingNumbers → ⊥
+  pub startedUncounted : EveryCount uncounting → ⊥
   pub cutCloserLost : CutsAlike closerLost → ⊥
   pub refusedFeedConsumes : EveryCall hungry → ⊥
   pub refusedFeedReplies : EveryCall talking → ⊥

@@ -7,6 +7,7 @@ ghost use mathlib.Core.Path.{_≡_};
 ghost use Rattle.protocol.specs.Claim.{EveryHistory};
 ghost use Rattle.protocol.specs.Cuts.{CutsAlike};
 ghost use Rattle.protocol.specs.Machine.{ours};
+ghost use Rattle.protocol.specs.Counts.{EveryCount};
 ghost use Rattle.protocol.specs.Sound.{EverySound};
 ghost use Rattle.protocol.specs.Starred.{AllHold, starred};
 ghost use Rattle.protocol.specs.Table.{freshReceiver};
@@ -41,11 +42,15 @@ pub enum SessionState {
     Open,
 }
 
+// A session, with two numbers that are kept of its files: how many are started, and the sum of the
+// counts of those that are done.
 pub struct Session {
     pub state: SessionState,
     pub quiet: u64,
     pub id: [u8; 32],
     pub id_len: usize,
+    pub started: u64,
+    pub done_bytes: u64,
     pub files: [FileRecord; Session::FILES],
 }
 
@@ -248,6 +253,8 @@ impl Session {
         quiet: 0,
         id: [0; 32],
         id_len: 0,
+        started: 0,
+        done_bytes: 0,
         files: [FileRecord::FREE; Session::FILES],
     };
 }
@@ -319,7 +326,8 @@ impl Receiver {
     // keeps (demand 3), that cuts do not matter, what holds of every table, and document 01's starred
     // cases stand here too, so that nobody can drop a theorem unseen.
     pub fn fresh() -> Receiver
-        ensures { λ r. ⌜ (r ≡ freshReceiver) × EveryHistory ours × CutsAlike ours × EverySound ours × Teeth × AllHold starred ⌝ }
+        ensures { λ r. ⌜ (r ≡ freshReceiver) × EveryHistory ours × CutsAlike ours × EverySound ours × EveryCount ours × Teeth
+            × AllHold starred ⌝ }
     {
         Receiver {
             framing: Framing::Plain,

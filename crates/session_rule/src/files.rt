@@ -1,10 +1,10 @@
-// A session's files: one by its id, free room, one still started, and the record at a place. Only what
-// a test needs goes on from a search, since a callee copies what it is given.
-ghost use mathlib.Core.Bool.{not, cond, _&&_};
+// A session's files: one by its id, free room, and the record at a place. Only what a test needs goes on
+// from a search, since a callee copies what it is given.
+ghost use mathlib.Core.Bool.{not, _&&_};
 ghost use mathlib.Core.Path.{_≡_};
 ghost use lib.ListN.{take};
 ghost use Rattle.octets.specs.Slices.{equals};
-ghost use Rattle.protocol.specs.Table.{first, isUsed, isFree, isStartedState, isStarted, findFile, fileAt};
+ghost use Rattle.protocol.specs.Table.{first, isUsed, isFree, isStartedState, findFile, fileAt};
 use crate::ids::same_id;
 use protocol::FileRecord;
 use protocol::FileState;
@@ -30,24 +30,11 @@ pub(crate) fn find_file(session: Session, id: &[u8]) -> Found
 pub(crate) fn free_file(session: Session) -> Found
     ensures { λ r. ⌜ r ≡ first isFree (session .files) ⌝ }
 {
-    first_file(session, false)
-}
-
-pub(crate) fn started_file(session: Session) -> Found
-    ensures { λ r. ⌜ r ≡ first isStarted (session .files) ⌝ }
-{
-    first_file(session, true)
-}
-
-// The first file that is started, or else the first that is free room.
-fn first_file(session: Session, started: bool) -> Found
-    ensures { λ r. ⌜ r ≡ first (λ f. cond started (isStarted f) (isFree f)) (session .files) ⌝ }
-{
     let mut j = 0;
     while j < Session::FILES {
         let file = session.files[j];
         let state = file.state;
-        if is_sought(started, state) {
+        if is_free(state) {
             return Found::At(j);
         }
         j += 1;
@@ -85,16 +72,6 @@ fn is_used(state: FileState) -> bool
         FileState::Started => true,
         FileState::Done => true,
         FileState::Failed => true,
-    }
-}
-
-fn is_sought(started: bool, state: FileState) -> bool
-    ensures { λ r. ⌜ r ≡ cond started (isStartedState state) (not (isUsed state)) ⌝ }
-{
-    if started {
-        is_started(state)
-    } else {
-        is_free(state)
     }
 }
 

@@ -3,11 +3,9 @@ ghost use mathlib.Core.Path.{_≡_};
 ghost use Rattle.protocol.specs.Files.{finishOf};
 use crate::changes::asks;
 use crate::changes::drops;
-use crate::files::started_file;
 use crate::replies::session_reply;
 use protocol::Change;
 use protocol::Due;
-use protocol::Found;
 use protocol::Session;
 use protocol::Status;
 use protocol::Told;
@@ -16,8 +14,8 @@ use protocol::Told;
 pub(crate) fn finish(session: Session) -> Change
     ensures { λ c. ⌜ c ≡ finishOf session ⌝ }
 {
-    match started_file(session) {
-        Found::Nowhere => asks(Due::Commit),
-        Found::At(_) => drops(Told::Discarded, session_reply(Status::Einval, session)),
+    if session.started == 0 {
+        return asks(Due::Commit);
     }
+    drops(Told::Discarded, session_reply(Status::Einval, session))
 }

@@ -2,6 +2,8 @@
 ghost use mathlib.Core.Path.{_≡_};
 ghost use Rattle.protocol.specs.Change.{edited, cleared, owedAfter, askOf, toldBy};
 ghost use Rattle.protocol.specs.Table.{putFile};
+use crate::numbers::done_bytes_with;
+use crate::numbers::started_with;
 use crate::places::emptied;
 use command::Place;
 use protocol::Ask;
@@ -28,11 +30,15 @@ pub(crate) fn edited(session: Session, file: FileRecord, edit: Edit) -> Session
     }
 }
 
+// The one place that changes a session's files, and the numbers kept of them.
 fn put_file(session: Session, j: usize, file: FileRecord) -> Session
     ensures { λ r. ⌜ r ≡ putFile session j file ⌝ }
 {
     if j < Session::FILES {
+        let old = session.files[j];
         let mut next = session;
+        next.started = started_with(session.started, old, file);
+        next.done_bytes = done_bytes_with(session.done_bytes, old, file);
         next.files[j] = file;
         next
     } else {

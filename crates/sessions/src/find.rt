@@ -9,7 +9,7 @@ use protocol::SessionState;
 use protocol::Table;
 use session_rule::ids::same_id;
 
-pub(crate) fn find_session(table: Table, id: &[u8]) -> Found
+pub fn find_session(table: Table, id: &[u8]) -> Found
     ensures { λ r. ⌜ r ≡ findSession table (now (id .entry)) ⌝ }
 {
     let mut i = 0;

@@ -7,9 +7,10 @@
 // bytes of a reply.
 mod absent;
 mod changes;
-mod find;
+pub mod find;
 pub mod next;
-mod places;
+mod numbers;
+pub mod places;
 
 ghost use mathlib.Core.Path.{_≡_};
 ghost use Rattle.protocol.specs.Calls.{isOwed};

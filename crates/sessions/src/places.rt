@@ -6,7 +6,7 @@ use protocol::Session;
 use protocol::SessionState;
 use protocol::Table;
 
-pub(crate) fn session_at(table: Table, i: usize) -> Session
+pub fn session_at(table: Table, i: usize) -> Session
     ensures { λ r. ⌜ r ≡ sessionAt table i ⌝ }
 {
     if i < Table::SESSIONS {
@@ -33,6 +33,8 @@ pub(crate) fn emptied(session: Session) -> Session
         quiet: 0,
         id: id,
         id_len: 0,
+        started: 0,
+        done_bytes: 0,
         files: files,
     }
 }

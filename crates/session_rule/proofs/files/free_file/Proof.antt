@@ -2,22 +2,17 @@ use Prim.Native.Nat.{_-_}
 use mathlib.Core.Path.{sym, _∙_}
 use native.Mathlib.Omega.{arith}
 use borrow.Author.Needs.{needs}
-use Rattle.protocol.specs.Table.{isFree, isStarted}
-use Rattle.protocol.specs.declared.FileRecord.{FileRecord}
-use mathlib.Core.Bool.{Bool, cond}
+use Rattle.protocol.specs.Table.{isFree}
 use Rattle.session_rule.proofs.ArrayLaws.{length-mapped}
 use Rattle.session_rule.proofs.SearchLaws.{Searching, begun, here, further, none}
-use Rattle.session_rule.proofs.files.first_file.Statement.{statement}
-use Rattle.session_rule.proofs.files.first_file.Tie as tie
-
-abbrev sought : Bool → FileRecord → Bool
-sought started f = cond started (isStarted f) (isFree f)
+use Rattle.session_rule.proofs.files.free_file.Statement.{statement}
+use Rattle.session_rule.proofs.files.free_file.Tie as tie
 
 abbrev Inv-loop : tie.InvT-loop
-Inv-loop started session j₀ j = Searching (sought started) (session .files) 32 j
+Inv-loop session j₀ j = Searching isFree (session .files) 32 j
 
 abbrev μ-loop : tie.MeasureT-loop
-μ-loop started session j₀ j = 32 - j
+μ-loop session j₀ j = 32 - j
 
 loop-holds : tie.Need-loop-holds Inv-loop μ-loop
 loop-holds c = begun _ _ _ (search (needs, length-mapped))
@@ -28,15 +23,15 @@ mul-file c = omega arith
 element-copy-out-file : tie.Need-element-copy-out-file Inv-loop μ-loop
 element-copy-out-file c = omega arith
 
-is-sought-requires : tie.Need-is-sought-requires Inv-loop μ-loop
-is-sought-requires c κs = search needs
+is-free-requires : tie.Need-is-free-requires Inv-loop μ-loop
+is-free-requires c κs = search needs
 
 returns : tie.Need-returns Inv-loop μ-loop
 returns c =
     let l = c .before .before .before .before in
     let a = l .before .args in
-    here (sought (a .started)) (a .t1 .files) 32 _ (l .loop .j) (l .loop .inv) (omega arith)
-    (sym (c .before .is-sought .ensures) ∙ c .if1 .taken)
+    here isFree (a .t1 .files) 32 _ (l .loop .j) (l .loop .inv) (omega arith)
+    (sym (c .before .is-free .ensures) ∙ c .if1 .taken)
 
 add-j : tie.Need-add-j Inv-loop μ-loop
 add-j c = omega arith
@@ -48,16 +43,16 @@ loop-again : tie.Need-loop-again Inv-loop μ-loop
 loop-again c =
     let l = c .before .before .before .before in
     let a = l .before .args in
-    further (sought (a .started)) (a .t1 .files) 32 _ (l .loop .j) (l .loop .inv) (omega arith)
-    (sym (c .before .is-sought .ensures) ∙ c .if1 .left)
+    further isFree (a .t1 .files) 32 _ (l .loop .j) (l .loop .inv) (omega arith)
+    (sym (c .before .is-free .ensures) ∙ c .if1 .left)
 
 returns-2 : tie.Need-returns-2 Inv-loop μ-loop
 returns-2 c =
     let l = c .before in
-    none (sought (l .before .args .started)) (l .before .args .t1 .files) 32 (l .loop .j) (l .loop .inv) (omega arith)
+    none isFree (l .before .args .t1 .files) 32 (l .loop .j) (l .loop .inv) (omega arith)
 
-pub first-file-spec : {M : Type 1} → statement M
-first-file-spec =
+pub free-file-spec : {M : Type 1} → statement M
+free-file-spec =
     tie.close
     (tie.spec
     Inv-loop
@@ -65,7 +60,7 @@ first-file-spec =
     loop-holds
     mul-file
     element-copy-out-file
-    is-sought-requires
+    is-free-requires
     returns
     add-j
     loop-less
