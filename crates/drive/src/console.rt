@@ -9,8 +9,11 @@ use octets::size::less;
 use protocol::Answered;
 use protocol::Failure;
 use protocol::Fed;
+use protocol::Found;
 use protocol::Receiver;
 use protocol::Reply;
+use sessions::find::find_session;
+use sessions::places::session_at;
 use streams::Run;
 
 // How the run stands, the receiver, how much of each buffer is lent, and the latest feed: its piece's
@@ -64,6 +67,7 @@ pub(crate) fn perform(
     match letter {
         b'f' => feed(console, bytes, at, n, carry, scratch, reply),
         b't' => text(console, bytes, carry),
+        b'y' => numbers(console, octets::part(bytes, at, n)),
         b'n' => anew(run, carry, scratch, reply),
         b'c' => lend(console, letter, script::number(bytes, at, 1)),
         b's' => lend(console, letter, script::number(bytes, at, 1)),
@@ -143,6 +147,22 @@ fn text(console: Console, bytes: &[u8], carry: &mut [u8]) -> Console {
     let text = frames::text(piece, octets::part(carry, 0, c), report);
     Console {
         run: line::text(run, text),
+        ..console
+    }
+}
+
+// The numbers kept in the session with the operation's id. No call is made.
+fn numbers(console: Console, operation: &[u8]) -> Console {
+    let run = console.run;
+    let receiver = console.receiver;
+    let table = receiver.table;
+    let id = octets::part(operation, 2, less(operation.len(), 2));
+    let printed = match find_session(table, id) {
+        Found::Nowhere => line::no_numbers(run),
+        Found::At(i) => line::numbers(run, session_at(table, i)),
+    };
+    Console {
+        run: printed,
         ..console
     }
 }

@@ -2,6 +2,7 @@
 use crate::script::wide;
 use command::Place;
 use protocol::Ask;
+use protocol::Session;
 use protocol::Status;
 use protocol::Told;
 use streams::Run;
@@ -88,6 +89,19 @@ pub(crate) fn sums<'a>(run: Run, carry: &'a [u8], scratch: &'a [u8], reply: &'a 
 // The text of a report.
 pub(crate) fn text(run: Run, text: &[u8]) -> Run {
     hex(run.text(b"t "), text).text(b"\n")
+}
+
+// How many files of a session are started, and the bytes of those that are done.
+pub(crate) fn numbers(run: Run, session: Session) -> Run {
+    let started = run.text(b"y ").number(session.started as usize);
+    started
+        .text(b" ")
+        .number(session.done_bytes as usize)
+        .text(b"\n")
+}
+
+pub(crate) fn no_numbers(run: Run) -> Run {
+    run.text(b"y none\n")
 }
 
 pub(crate) fn bad_script(run: Run) -> Run {

@@ -22,6 +22,7 @@ fn claimed_length(bytes: &[u8], at: usize) -> usize {
         b'a' => 2 + wide(byte(bytes, after(at, 1))),
         b'd' => 2 + wide(byte(bytes, after(at, 1))),
         b'x' => 2 + wide(byte(bytes, after(at, 1))),
+        b'y' => 2 + wide(byte(bytes, after(at, 1))),
         b'e' => if is_code(byte(bytes, after(at, 1))) {
             2
         } else {
