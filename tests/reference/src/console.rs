@@ -1,6 +1,6 @@
 //! The scripted console: a list of calls on one receiver, every answer printed.
 
-use crate::receiver::{self, Answer, Failure, Receiver, Told};
+use crate::receiver::{self, Answer, Failure, Numbers, Receiver, Told};
 use crate::script::{self, Op, Ops};
 use std::io::Write;
 
@@ -105,7 +105,7 @@ impl Console {
             Op::Drop(id) => self.receiver.drop(id),
             Op::Done => self.receiver.done(reply),
             Op::Failed(code) => self.receiver.failed(failure(*code), reply),
-            Op::Text | Op::Anew | Op::Lend(..) => {
+            Op::Text | Op::Numbers(_) | Op::Anew | Op::Lend(..) => {
                 self.set(op);
                 return None;
             }
@@ -127,6 +127,11 @@ impl Console {
         receiver::text(&self.piece, self.carry.lend(), &self.report)
     }
 
+    /// The numbers of a session that is present.
+    pub fn numbers(&self, id: &[u8]) -> Option<Numbers> {
+        self.receiver.numbers(id)
+    }
+
     /// The carry, whole.
     pub fn carry(&self) -> &[u8] {
         &self.carry.bytes
@@ -140,11 +145,16 @@ impl Console {
     /// Does one operation and adds its line to `out`.
     fn print(&mut self, op: &Op, out: &mut Vec<u8>) {
         if let Some(answer) = self.apply(op) {
-            self.print_answer(op.letter(), &answer, out);
-        } else if *op == Op::Text {
-            out.extend_from_slice(b"t ");
-            hex(self.text(), out);
-            out.push(b'\n');
+            return self.print_answer(op.letter(), &answer, out);
+        }
+        match op {
+            Op::Text => {
+                out.extend_from_slice(b"t ");
+                hex(self.text(), out);
+                out.push(b'\n');
+            }
+            Op::Numbers(id) => print_numbers(self.numbers(id), out),
+            _ => {}
         }
     }
 
@@ -158,6 +168,14 @@ impl Console {
         let (carry, scratch, reply) = (self.carry.sum(), self.scratch.sum(), self.reply.sum());
         let _ = writeln!(out, " {carry} {scratch} {reply}");
     }
+}
+
+fn print_numbers(numbers: Option<Numbers>, out: &mut Vec<u8>) {
+    // Writing to a vector does not fail.
+    let _ = match numbers {
+        Some(Numbers { started, done_bytes }) => writeln!(out, "y {started} {done_bytes}"),
+        None => writeln!(out, "y none"),
+    };
 }
 
 fn told(told: &Told, out: &mut Vec<u8>) {

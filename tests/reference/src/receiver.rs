@@ -14,7 +14,7 @@ mod session;
 mod utf8;
 
 pub use reply::Status;
-pub use session::Id;
+pub use session::{Id, Numbers};
 
 use frames::{Found, Frames};
 use reply::Reply;
@@ -273,6 +273,11 @@ impl Receiver {
             Some(Owed::Write(part)) => self.answer_write(part, failure, reply),
             Some(Owed::Commit { session }) => self.answer_commit(session, failure, reply),
         }
+    }
+
+    /// The numbers of a session that is present. No call of the papers: it refuses nothing and changes nothing.
+    pub fn numbers(&self, id: &[u8]) -> Option<Numbers> {
+        self.sessions.numbers(&Id::new(id)?)
     }
 
     fn place(&self, id: &[u8]) -> Option<usize> {

@@ -17,6 +17,8 @@ pub enum Op {
     Drop(Vec<u8>),
     Done,
     Failed(u8),
+    /// Order 10: the numbers of the session with this id.
+    Numbers(Vec<u8>),
     Anew,
     Lend(Buffer, u16),
 }
@@ -31,6 +33,7 @@ impl Op {
             Op::Drop(_) => b'x',
             Op::Done => b'k',
             Op::Failed(_) => b'e',
+            Op::Numbers(_) => b'y',
             Op::Anew => b'n',
             Op::Lend(Buffer::Carry, _) => b'c',
             Op::Lend(Buffer::Scratch, _) => b's',
@@ -47,7 +50,7 @@ impl Op {
                 out.extend_from_slice(&(len as u16).to_le_bytes());
                 out.extend_from_slice(&piece[..len]);
             }
-            Op::Allow(id) | Op::Deny(id) | Op::Drop(id) => {
+            Op::Allow(id) | Op::Deny(id) | Op::Drop(id) | Op::Numbers(id) => {
                 let len = id.len().min(u8::MAX as usize);
                 out.push(len as u8);
                 out.extend_from_slice(&id[..len]);
@@ -109,6 +112,7 @@ impl<'s> Ops<'s> {
             b'x' => Op::Drop(self.id()?),
             b'k' => Op::Done,
             b'e' => Op::Failed(self.byte().filter(|code| (1..=4).contains(code))?),
+            b'y' => Op::Numbers(self.id()?),
             b'n' => Op::Anew,
             b'c' => Op::Lend(Buffer::Carry, self.number()?),
             b's' => Op::Lend(Buffer::Scratch, self.number()?),
@@ -145,6 +149,7 @@ mod tests {
             Op::Drop(b"mm".to_vec()),
             Op::Done,
             Op::Failed(4),
+            Op::Numbers(b"m".to_vec()),
             Op::Anew,
             Op::Lend(Buffer::Reply, 123),
         ];
@@ -154,9 +159,18 @@ mod tests {
 
     #[test]
     fn faults_end_the_script() {
-        for bad in
-            [&b"z"[..], b"f\x02", b"f\x02\x00a", b"e\x05", b"e\x00", b"e", b"a\x01", b"c\x01"]
-        {
+        for bad in [
+            &b"z"[..],
+            b"f\x02",
+            b"f\x02\x00a",
+            b"e\x05",
+            b"e\x00",
+            b"e",
+            b"a\x01",
+            b"y",
+            b"y\x02m",
+            b"c\x01",
+        ] {
             assert_eq!(Ops::new(bad).collect::<Vec<_>>(), [Err(())]);
         }
     }

@@ -2,9 +2,9 @@
 //! a paper, or for document 01's cases written from its rules; none was made by the program.
 
 use reference::console::{self, Console};
-use reference::receiver::{base64, command, name, Answer, Refusal, Told};
+use reference::receiver::{base64, command, name, Answer, Numbers, Refusal, Told};
 use reference::replay::Replay;
-use reference::script::Op;
+use reference::script::{self, Op};
 
 /// The bytes of an example's notation.
 fn bytes(notation: &str) -> Vec<u8> {
@@ -141,14 +141,17 @@ fn feed(console: &mut Console, mut piece: Vec<u8>) -> String {
 }
 
 fn run(items: &str) -> String {
-    let mut console = Console::default();
+    run_on(&mut Console::default(), items)
+}
+
+fn run_on(console: &mut Console, items: &str) -> String {
     let results = items.split(" | ").map(|item| {
         match item.strip_prefix('[').and_then(|item| item.strip_suffix(']')) {
             Some(text) => {
                 let answer = console.apply(&call(text)).unwrap();
-                shown(&console, &answer, "ok")
+                shown(console, &answer, "ok")
             }
-            None => feed(&mut console, bytes(item)),
+            None => feed(console, bytes(item)),
         }
     });
     results.collect::<Vec<String>>().join(" | ")
@@ -314,6 +317,51 @@ fn the_scripted_console() {
     assert_eq!(String::from_utf8(out).unwrap(), expected);
 }
 
+/// The numbers as the table writes them.
+fn numbers(console: &Console) -> String {
+    let shown = |numbers: Numbers| format!("{} {}", numbers.started, numbers.done_bytes);
+    console.numbers(b"m").map_or("-".into(), shown)
+}
+
+#[test]
+fn the_table_of_order_10() {
+    let mut console = Console::default();
+    assert_eq!(numbers(&console), "-");
+    run_on(&mut console, "^[]5113;ac=send;id=m^[\\ | [allow m]");
+    let mut count = 0;
+    for row in include_str!("order10.txt").lines().filter(|line| !line.starts_with('#')) {
+        let [_, items, results, expected] = row.split(" => ").collect::<Vec<_>>()[..] else {
+            panic!("no row: {row}");
+        };
+        assert_eq!(run_on(&mut console, items), results, "{row}");
+        assert_eq!(numbers(&console), expected, "{row}");
+        count += 1;
+    }
+    assert_eq!(count, ORDER_10);
+}
+
+/// The example of order 10's page, and what `y` must not change: the text of the latest feed.
+#[test]
+fn the_numbers_in_a_script() {
+    let feed = |text: &str| Op::Feed(bytes(&format!("^[]5113;{text}^[\\")));
+    let (m, look) = (b"m".to_vec(), Op::Numbers(b"m".to_vec()));
+    let first = [look.clone(), feed("ac=send;id=m"), look.clone(), Op::Allow(m), look.clone()];
+    let file = [feed("ac=file;id=m;fid=a;n=L256"), Op::Done, look.clone()];
+    let end = [feed("ac=end_data;id=m;fid=a;d=YWJj"), Op::Done, look.clone(), Op::Text];
+    let others = ["", "mm", "M"].map(|id| Op::Numbers(id.into())).to_vec();
+    let long = Op::Numbers(vec![b'm'; 255]);
+    let ops = [&first[..], &file, &end, &others, &[long]].concat();
+    let mut out = Vec::new();
+    console::run(&script::encode(&ops), &mut out);
+    let lines = String::from_utf8(out).unwrap();
+    let lines: Vec<&str> = lines.lines().filter(|line| line.starts_with(['y', 't'])).collect();
+    let text = "t 353131333b61633d656e645f646174613b69643d6d3b6669643d613b643d59574a6a";
+    let none = ["y none"; 4];
+    assert_eq!(lines[..4], ["y none", "y 0 0", "y 0 0", "y 1 0"]);
+    assert_eq!(lines[4..6], ["y 0 3", text]);
+    assert_eq!(lines[6..], none);
+}
+
 #[test]
 fn the_33rd_file() {
     let mut items = vec!["^[]5113;ac=send;id=m^[\\".to_string(), "[allow m]".into()];
@@ -335,6 +383,7 @@ fn bad_scripts() {
         (&b"z"[..], "bad script\n"),
         (b"e\x05", "bad script\n"),
         (b"f\x02\x00a", "bad script\n"),
+        (b"y\x00y\x02m", "y none\nbad script\n"),
         (&[b'n'; 65_537], "bad script\n"),
         (&[b'n'; 65_536], ""),
     ] {
@@ -349,3 +398,4 @@ const READINGS: usize = 162;
 const DOCUMENT: usize = 18;
 const ORDER_2: usize = 60;
 const ORDER_4: usize = 47;
+const ORDER_10: usize = 12;

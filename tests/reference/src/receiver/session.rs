@@ -54,6 +54,13 @@ pub enum SessionState {
     Open,
 }
 
+/// What a console may show of a session: its started files, and the bytes of its done ones.
+#[derive(Clone, Copy, Debug, PartialEq)]
+pub struct Numbers {
+    pub started: usize,
+    pub done_bytes: u64,
+}
+
 #[derive(Debug, Default)]
 pub struct Session {
     pub state: SessionState,
@@ -95,6 +102,13 @@ impl Session {
         &mut self.files[place]
     }
 
+    /// Both numbers of order 10, counted from the records.
+    pub fn numbers(&self) -> Numbers {
+        let of = |state| self.files[..self.used].iter().filter(move |file| file.state == state);
+        let started = of(FileState::Started).count();
+        Numbers { started, done_bytes: of(FileState::Done).map(|file| file.count).sum() }
+    }
+
     pub fn any_started(&self) -> bool {
         self.files[..self.used].iter().any(|file| file.state == FileState::Started)
     }
@@ -113,6 +127,10 @@ impl Table {
 
     pub fn free(&self) -> Option<usize> {
         self.0.iter().position(|s| s.state == SessionState::Absent)
+    }
+
+    pub fn numbers(&self, id: &Id) -> Option<Numbers> {
+        Some(self.0[self.find(id)?].numbers())
     }
 
     pub fn at(&mut self, place: usize) -> &mut Session {

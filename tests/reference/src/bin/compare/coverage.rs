@@ -1,4 +1,4 @@
-//! Counts what came up in the outputs: refusals, statuses sent, and what the console was told.
+//! Counts what came up in the outputs: refusals, statuses sent, what the console was told, and a session's numbers.
 
 use reference::receiver::base64;
 use std::collections::BTreeMap;
@@ -18,11 +18,15 @@ const STATUSES: [&str; 14] = [
     "ENOENT", "ENOSPC", "EEXIST", "EMFILE", "EFBIG",
 ];
 
+/// Of order 10's two numbers: which are not zero; or no session.
+const NUMBERS: [&str; 5] = ["none", "zeros", "started", "done", "both"];
+
 #[derive(Default)]
 pub struct Coverage {
     refusals: BTreeMap<u8, u64>,
     told: BTreeMap<String, u64>,
     statuses: BTreeMap<String, u64>,
+    numbers: BTreeMap<String, u64>,
     lines: u64,
 }
 
@@ -32,10 +36,23 @@ impl Coverage {
         for line in output.split(|&b| b == b'\n').filter(|line| !line.is_empty()) {
             self.lines += 1;
             let fields: Vec<&[u8]> = line.split(|&b| b == b' ').collect();
-            if fields.len() == 8 {
-                self.answer(&fields);
+            match fields[..] {
+                [b"y", ..] => self.numbers(&fields[1..]),
+                _ if fields.len() == 8 => self.answer(&fields),
+                _ => {}
             }
         }
+    }
+
+    fn numbers(&mut self, fields: &[&[u8]]) {
+        let kind = match *fields {
+            [b"none"] => "none",
+            [b"0", b"0"] => "zeros",
+            [_, b"0"] => "started",
+            [b"0", _] => "done",
+            _ => "both",
+        };
+        *self.numbers.entry(kind.into()).or_default() += 1;
     }
 
     fn answer(&mut self, fields: &[&[u8]]) {
@@ -63,6 +80,7 @@ impl Coverage {
         join(&mut self.refusals, other.refusals);
         join(&mut self.told, other.told);
         join(&mut self.statuses, other.statuses);
+        join(&mut self.numbers, other.numbers);
         self.lines += other.lines;
     }
 
@@ -71,10 +89,12 @@ impl Coverage {
         let refusals = REFUSALS.iter().filter(|no| !self.refusals.contains_key(no));
         let told = TOLD.iter().filter(|kind| !self.told.contains_key(**kind));
         let statuses = STATUSES.iter().filter(|word| !self.statuses.contains_key(**word));
+        let numbers = NUMBERS.iter().filter(|kind| !self.numbers.contains_key(**kind));
         refusals
             .map(|no| format!("refusal {no}"))
             .chain(told.map(|kind| format!("told {kind}")))
             .chain(statuses.map(|word| format!("status {word}")))
+            .chain(numbers.map(|kind| format!("numbers {kind}")))
             .collect()
     }
 
@@ -83,6 +103,7 @@ impl Coverage {
         println!("refusals: {}", listed(&self.refusals));
         println!("told: {}", listed(&self.told));
         println!("statuses sent: {}", listed(&self.statuses));
+        println!("a session's numbers: {}", listed(&self.numbers));
     }
 }
 

@@ -207,7 +207,7 @@ fn split(rng: &mut Rng, list: &mut Vec<Op>, place: usize) {
 fn change(rng: &mut Rng, op: &mut Op) {
     match op {
         Op::Feed(piece) => mutate(rng, piece),
-        Op::Allow(id) | Op::Deny(id) | Op::Drop(id) => mutate(rng, id),
+        Op::Allow(id) | Op::Deny(id) | Op::Drop(id) | Op::Numbers(id) => mutate(rng, id),
         Op::Failed(code) => *code = rng.within(1, 4) as u8,
         Op::Lend(_, len) => *len = len.wrapping_add(*rng.pick(&[1, 2, u16::MAX])),
         _ => *op = any_op(rng),
@@ -216,7 +216,7 @@ fn change(rng: &mut Rng, op: &mut Op) {
 
 fn any_op(rng: &mut Rng) -> Op {
     let id = rng.word(&["m", "mm", "M", "a", "0", "@_:./-", ""]).to_vec();
-    match rng.below(8) {
+    match rng.below(9) {
         0 => Op::Allow(id),
         1 => Op::Deny(id),
         2 => Op::Drop(id),
@@ -224,6 +224,7 @@ fn any_op(rng: &mut Rng) -> Op {
         4 => Op::Failed(rng.within(1, 4) as u8),
         5 => Op::Text,
         6 => Op::Feed(rng.pick(&WORDS).to_vec()),
+        7 => Op::Numbers(id),
         _ => Op::Anew,
     }
 }

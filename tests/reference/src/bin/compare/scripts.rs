@@ -35,6 +35,8 @@ struct Maker<'r> {
     failures: usize,
     /// Sessions left asked for a while, in a hundred.
     hesitates: usize,
+    /// Looks at a session's numbers, in a hundred of the places before and after an answer.
+    looks: usize,
     /// Those that were left asked; some are meanwhile withdrawn.
     waiting: Vec<Vec<u8>>,
 }
@@ -58,9 +60,10 @@ pub fn script(seed: u64) -> Vec<Op> {
 pub fn perform(rng: &mut Rng, chunks: &[Vec<u8>], ids: Vec<Vec<u8>>) -> Vec<Op> {
     let cut = cut(rng);
     let (wrong, failures) = (*rng.pick(&[0, 2, 10, 30]), *rng.pick(&[0, 5, 25]));
-    let hesitates = *rng.pick(&[0, 5, 50]);
+    let (hesitates, looks) = (*rng.pick(&[0, 5, 50]), *rng.pick(&[0, 20, 80]));
     let (console, ops, waiting) = (Console::default(), Vec::new(), Vec::new());
-    let mut maker = Maker { rng, console, ops, bytes: 0, ids, wrong, failures, hesitates, waiting };
+    let mut maker =
+        Maker { rng, console, ops, bytes: 0, ids, wrong, failures, hesitates, looks, waiting };
     maker.perform(chunks, cut);
     maker.ops
 }
@@ -122,10 +125,12 @@ impl Maker<'_> {
             // What was not consumed is fed again, but not always.
             let again = took_nothing(answer.refusal) || self.rng.chance(98);
             at += if again { answer.consumed } else { len };
+            self.look(&answer);
             if self.rng.chance(30) {
                 self.text(&answer);
             }
             self.react(&answer);
+            self.look(&answer);
         }
         for _ in 0..self.rng.weighted(&[60, 20, 20]) {
             self.stray();
@@ -155,6 +160,19 @@ impl Maker<'_> {
                 self.add(Op::Text);
             }
         }
+    }
+
+    /// The numbers of a session, most often of one that is present; rarely where nothing was told before.
+    fn look(&mut self, report: &Answer) {
+        let told = report.told != Told::Nothing || self.rng.chance(5);
+        if !told || !self.rng.chance(self.looks) {
+            return;
+        }
+        let present = |id: &&Vec<u8>| self.console.numbers(id).is_some();
+        let present: Vec<Vec<u8>> = self.ids.iter().filter(present).cloned().collect();
+        let any = present.is_empty() || self.rng.chance(20);
+        let id = if any { self.any_id() } else { self.rng.pick(&present).clone() };
+        self.add(Op::Numbers(id));
     }
 
     /// Answers a session that was asked.
@@ -242,7 +260,7 @@ impl Maker<'_> {
 
     /// A call that need not fit.
     fn stray(&mut self) {
-        let op = match self.rng.below(12) {
+        let op = match self.rng.below(13) {
             0 | 1 => Op::Allow(self.any_id()),
             2 => Op::Deny(self.any_id()),
             3 => Op::Drop(self.any_id()),
@@ -250,6 +268,7 @@ impl Maker<'_> {
             6 => Op::Failed(self.rng.within(1, 4) as u8),
             7 => Op::Text,
             8 => Op::Feed(Vec::new()),
+            9 => Op::Numbers(self.any_id()),
             _ => self.lend(),
         };
         self.add(op);

@@ -1,5 +1,5 @@
 //! Cases that no seed makes, or few: scripts at the length limit, scripts that are none, long texts in pieces, every listed
-//! value, tiny recordings, every edge of UTF-8, declared lengths met and missed by one, a long file.
+//! value, the numbers of a full session, tiny recordings, every edge of UTF-8, declared lengths met and missed by one, a long file.
 
 use crate::bad_values;
 use crate::fields::{encoded, Fields};
@@ -29,18 +29,19 @@ fn named(kind: &str, inputs: Vec<Vec<u8>>) -> Vec<Case> {
     inputs.map(|(i, input)| Case { name: format!("special-{kind}-{i}"), input }).collect()
 }
 
-/// Scripts at the length limit, scripts that are none, long texts, and one of values; only to be run alone.
+/// Scripts at the length limit, scripts that are none, long texts, one of values, one of numbers; only to be run alone.
 pub fn scripts() -> Vec<Case> {
     #[rustfmt::skip]
     let faults = [
         &b""[..], b"z", b"N", b"\x00", b"\xff", b"\n", b"kz", b"ke\x00", b"ke\x05", b"ke\xff", b"te",
         b"f", b"f\x00", b"f\x01\x00", b"f\x02\x00a", b"a", b"a\x01", b"d\x02m", b"x", b"c", b"c\x00",
         b"s\x01", b"r\x7b", b"t", b"tkn", b"kkt", b"f\x00\x00t", b"a\x00d\x00x\x00",
+        b"y", b"y\x01", b"y\x02m", b"ty\xff", b"y\x00", b"y\x01my\x01mt", b"Y\x01m",
     ];
     let mut all: Vec<Vec<u8>> = faults.iter().map(|bytes| bytes.to_vec()).collect();
     all.extend([LONGEST_SCRIPT - 1, LONGEST_SCRIPT, LONGEST_SCRIPT + 1, 70_000].map(long));
     all.extend([8191, 8192, 8193, 8300, 20_000].map(in_pieces));
-    all.push(values());
+    all.extend([values(), full_room()]);
     named("script", all)
 }
 
@@ -63,6 +64,30 @@ fn values() -> Vec<u8> {
     };
     let ops: Vec<Op> =
         bad_values::listed().into_iter().map(|field| Op::Feed(framed(&text(field)))).collect();
+    encode(&ops)
+}
+
+/// Looks at the numbers of a session after each of its calls: 32 files started, a 33rd, some closed and some failed, then the
+/// place used again.
+fn full_room() -> Vec<u8> {
+    let of = |action: &str| Fields::new(action, b"m");
+    let look = || Op::Numbers(b"m".to_vec());
+    let with = |fields: Fields, call: Op| [Op::Feed(framed(&fields.text())), look(), call, look()];
+    let mut ops = with(of("send"), Op::Allow(b"m".to_vec())).to_vec();
+    let fids: Vec<String> = (0..33).map(|i| i.to_string()).collect();
+    for fid in &fids {
+        ops.extend(with(of("file").with("fid", fid.as_bytes()).with("n", b"L256"), Op::Done));
+    }
+    for (fid, call) in fids.iter().zip([Op::Done, Op::Failed(2), Op::Done]) {
+        let part = |action: &str| of(action).with("fid", fid.as_bytes()).with("d", b"YWJj");
+        ops.extend(with(part("data"), Op::Done));
+        ops.extend(with(part("end_data"), call));
+    }
+    let large = of("data").with("fid", b"9").with("d", &encoded(&[b'x'; 4097]));
+    ops.extend(with(large, Op::Text));
+    ops.extend(with(of("finish"), Op::Text));
+    ops.extend(with(of("send"), Op::Allow(b"m".to_vec())));
+    ops.extend(with(of("finish"), Op::Done));
     encode(&ops)
 }
 
