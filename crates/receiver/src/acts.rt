@@ -1,10 +1,10 @@
-// What a report of the frames does to the table: a command text is read and obeyed.
-ghost use mathlib.Core.List.{List};
+// What a report of the frames says, and what it does to the table: a command text is read and obeyed.
 ghost use mathlib.Core.Path.{_≡_};
-ghost use Prim.Native.Nat.{ℕ};
+ghost use Rattle.octets.specs.Outcome.{outcome};
 ghost use Rattle.command.specs.Read.{readOf};
 ghost use Rattle.sessions.specs.Leaving.{taken};
-ghost use Rattle.protocol.specs.Calls.{acted, unread, readAct, reportAct};
+ghost use Rattle.protocol.specs.Calls.{acted, reportAct};
+ghost use Rattle.receiver.specs.Said.{silent, readSaid, saidOf};
 use command::Command;
 use command::Reading;
 use frames::Report;
@@ -12,47 +12,74 @@ use protocol::Table;
 use protocol::Told;
 use sessions::next::Next;
 
+// What a report says: a command that was read, or something told alone.
+pub struct Said {
+    pub is_read: bool,
+    pub told: Told,
+    pub command: Command,
+}
+
 // What a step leaves, and the command that was read for it.
 pub(crate) struct Acted {
     pub next: Next,
     pub command: Command,
 }
 
-// A report, given its text.
+// A report, given its text. It touches no table.
+pub fn hear(report: Report, text: &[u8], scratch: &mut [u8]) -> Said
+    ensures { λ s. ⌜ outcome s (now (scratch .exit)) ≡ saidOf report (now (text .entry)) (now (scratch .entry)) ⌝ }
+{
+    match report {
+        Report::Nothing => silent(Told::Nothing),
+        Report::InPiece(_, _) => read(text, scratch),
+        Report::InCarry(_) => read(text, scratch),
+        Report::TooLong => silent(Told::Refused(1)),
+        Report::Abandoned => silent(Told::Refused(2)),
+        Report::ShortCarry => silent(Told::Refused(9)),
+    }
+}
+
+// A command text is read.
+fn read(text: &[u8], scratch: &mut [u8]) -> Said
+    ensures { λ s. ⌜ outcome s (now (scratch .exit)) ≡ readSaid (readOf (now (text .entry)) (now (scratch .entry))) ⌝ }
+{
+    match command_reader::read(text, scratch) {
+        Reading::Read(command) => Said {
+            is_read: true,
+            told: Told::Nothing,
+            command: command,
+        },
+        Reading::Refused(refusal) => silent(Told::Refused(refusal.number())),
+    }
+}
+
+// Something told, where no command was read.
+fn silent(told: Told) -> Said
+    ensures { λ s. ⌜ s ≡ silent told ⌝ }
+{
+    Said {
+        is_read: false,
+        told: told,
+        command: Command::NONE,
+    }
+}
+
+// A report, given its text: its command is obeyed.
 pub(crate) fn act(table: Table, report: Report, text: &[u8], scratch: &mut [u8]) -> Acted
     ensures { λ a. ⌜ acted (taken table (a .next)) (a .command) (now (scratch .exit))
         ≡ reportAct table report (now (text .entry)) (now (scratch .entry)) ⌝ }
 {
-    match report {
-        Report::Nothing => tell(table, Told::Nothing),
-        Report::InPiece(_, _) => read(table, text, scratch),
-        Report::InCarry(_) => read(table, text, scratch),
-        Report::TooLong => tell(table, Told::Refused(1)),
-        Report::Abandoned => tell(table, Told::Refused(2)),
-        Report::ShortCarry => tell(table, Told::Refused(9)),
-    }
-}
-
-// A command text is read, and its command obeyed.
-fn read(table: Table, text: &[u8], scratch: &mut [u8]) -> Acted
-    ensures { λ a. ⌜ acted (taken table (a .next)) (a .command) (now (scratch .exit))
-        ≡ readAct table (now (text .entry)) (readOf (now (text .entry)) (now (scratch .entry))) ⌝ }
-{
-    match command_reader::read(text, scratch) {
-        Reading::Read(command) => Acted {
+    let said = hear(report, text, scratch);
+    let told = said.told;
+    let command = said.command;
+    if said.is_read {
+        return Acted {
             next: sessions::obey(table, command, text, scratch),
             command: command,
-        },
-        Reading::Refused(refusal) => tell(table, Told::Refused(refusal.number())),
+        };
     }
-}
-
-// Nothing but something told, where no command was read.
-fn tell(table: Table, told: Told) -> Acted
-    ensures { λ a. ⌜ ((scratch : List ℕ) → acted (taken table (a .next)) (a .command) scratch ≡ unread table told scratch) ⌝ }
-{
     Acted {
         next: sessions::next::tell(table, told),
-        command: Command::NONE,
+        command: command,
     }
 }

@@ -5,8 +5,8 @@
 // list of calls holds of these. The text of a report is had from `frames::text`.
 //
 // Not here: opening and writing files, and sending the reply; these are the console's.
-mod acts;
-mod replies;
+pub mod acts;
+pub mod replies;
 
 ghost use mathlib.Core.Path.{_≡_};
 ghost use Rattle.octets.specs.Outcome.{outcome};

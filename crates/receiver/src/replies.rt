@@ -24,7 +24,7 @@ use sessions::next::Next;
 use sessions::next::put;
 
 // Whether a buffer is too short for a feed.
-pub(crate) fn is_short(carry: usize, scratch: usize, reply: usize) -> bool
+pub fn is_short(carry: usize, scratch: usize, reply: usize) -> bool
     ensures { λ r. ⌜ r ≡ (ltb carry textLimit || (ltb scratch scratchRoom || ltb reply replyRoom)) ⌝ }
 {
     if carry < Framing::TEXT_LIMIT {

@@ -57,7 +57,7 @@ fn absent_status(table: Table, session: Session, status: Status) -> Next
 }
 
 // The session that `send` makes.
-fn asked(quiet: u64, id: &[u8]) -> Session
+pub fn asked(quiet: u64, id: &[u8]) -> Session
     ensures { λ r. ⌜ r ≡ askedSession quiet (now (id .entry)) ⌝ }
 {
     let own = padded(id);

@@ -41,7 +41,7 @@ pub(crate) fn free_session(table: Table) -> Found
 }
 
 // Whether a session has the id, by its state and the first n bytes of its own.
-fn has_id(state: SessionState, own: [u8; 32], n: usize, id: &[u8]) -> bool
+pub fn has_id(state: SessionState, own: [u8; 32], n: usize, id: &[u8]) -> bool
     ensures { λ r. ⌜ r ≡ (isPresent state && equals (take n own) (now (id .entry))) ⌝ }
 {
     match state {
@@ -51,7 +51,7 @@ fn has_id(state: SessionState, own: [u8; 32], n: usize, id: &[u8]) -> bool
     }
 }
 
-fn is_absent(state: SessionState) -> bool
+pub fn is_absent(state: SessionState) -> bool
     ensures { λ r. ⌜ r ≡ not (isPresent state) ⌝ }
 {
     match state {

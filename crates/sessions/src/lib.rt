@@ -5,7 +5,7 @@
 //
 // Not here: what the step makes of the session (`session_rule`), reading a command's text, and the
 // bytes of a reply.
-mod absent;
+pub mod absent;
 mod changes;
 pub mod find;
 pub mod next;
@@ -15,10 +15,8 @@ pub mod places;
 ghost use mathlib.Core.Path.{_≡_};
 ghost use Rattle.protocol.specs.Calls.{isOwed};
 ghost use Rattle.protocol.specs.Sessions.{requestIn, obeyOf, settleDone, settleFailed, decidedOf};
-ghost use Rattle.protocol.specs.Change.{stepBy};
 ghost use Rattle.protocol.specs.Rule.{obeyedBy};
-ghost use Rattle.protocol.specs.Table.{sessionAt};
-ghost use Rattle.sessions.specs.Leaving.{taken};
+ghost use Rattle.sessions.specs.Leaving.{taken, nextBy};
 use absent::absent;
 use command::Command;
 use command::Place;
@@ -31,6 +29,7 @@ use protocol::Decision;
 use protocol::Failure;
 use protocol::Found;
 use protocol::Owed;
+use protocol::Session;
 use protocol::Table;
 use protocol::Told;
 use session_rule::answers;
@@ -43,23 +42,29 @@ pub fn obey(table: Table, command: Command, text: &[u8], scratch: &[u8]) -> Next
 {
     let place = command.id;
     let action = command.action;
+    let owed = table.owed;
     let id = octets::part(text, place.start, place.len);
     match find_session(table, id) {
         Found::Nowhere => absent(table, action, command.quiet, id),
-        Found::At(i) => present(table, i, command, text, scratch),
+        Found::At(i) => present(session_at(table, i), i, owed, command, text, scratch),
     }
 }
 
-// A command of the session at place i.
-fn present(table: Table, i: usize, command: Command, text: &[u8], scratch: &[u8]) -> Next
+// A command of the session at place i, which is present.
+pub fn present(
+    session: Session,
+    i: usize,
+    owed: Owed,
+    command: Command,
+    text: &[u8],
+    scratch: &[u8],
+) -> Next
     ensures { λ n. let q = requestIn command (now (text .entry)) (now (scratch .entry)) in
-        ⌜ taken table n ≡ stepBy table i (command .payload) (obeyedBy (sessionAt table i) q) ⌝ }
+        ⌜ n ≡ nextBy session i owed (command .payload) (obeyedBy session q) ⌝ }
 {
     let file = command.file_id;
     let name = command.name;
     let payload = command.payload;
-    let owed = table.owed;
-    let session = session_at(table, i);
     let change = commands::obey(
         session,
         command,

@@ -41,7 +41,7 @@ pub fn put(table: Table, next: Next) -> Table
 }
 
 // The session at place i by its change, its payload standing at a place of the scratch.
-pub(crate) fn step(session: Session, i: usize, owed: Owed, payload: Place, change: Change) -> Next
+pub fn step(session: Session, i: usize, owed: Owed, payload: Place, change: Change) -> Next
     ensures { λ n. ⌜ n ≡ nextBy session i owed payload change ⌝ }
 {
     let edit = change.edit;

@@ -18,6 +18,9 @@ absent-requires c κs = search needs
 enum-known-i : tie.Need-enum-known-i
 enum-known-i c = search needs
 
+session-at-requires : tie.Need-session-at-requires
+session-at-requires c κs = search needs
+
 present-requires : tie.Need-present-requires
 present-requires c κs = search needs
 
@@ -31,9 +34,16 @@ returns c =
 returns-2 : tie.Need-returns-2
 unfolding obeyOf
 returns-2 c =
-    let arm = c .before .before in
+    let at = c .before in
+    let arm = at .before .before in
     let found = arm .before .before in
-    rw (← found .before .part .ensures, ← found .find-session .ensures, arm .i .given .1) (c .present .ensures)
+    rw (
+      c .present .ensures,
+      at .session-at .ensures,
+      ← found .before .part .ensures,
+      ← found .find-session .ensures,
+      arm .i .given .1,
+    )
 
 pub obey-spec : {M : Type 1} → statement M
 obey-spec =
@@ -44,6 +54,7 @@ obey-spec =
     enum-told
     absent-requires
     enum-known-i
+    session-at-requires
     present-requires
     returns
     returns-2)

@@ -2,9 +2,6 @@ use borrow.Author.Needs.{needs}
 use Rattle.sessions.proofs.present.Statement.{statement}
 use Rattle.sessions.proofs.present.Tie as tie
 
-session-at-requires : tie.Need-session-at-requires
-session-at-requires c κs = search needs
-
 part-requires : tie.Need-part-requires
 part-requires c κs = search needs
 
@@ -20,22 +17,9 @@ step-requires c κs = search needs
 returns : tie.Need-returns
 returns c =
     let rule = c .before in
-    let parts = rule .before in
-    rw (
-      c .step .ensures,
-      rule .obey .ensures,
-      parts .part2 .ensures,
-      parts .before .part .ensures,
-      parts .before .before .session-at .ensures,
-    )
+    let parts = rule .before in rw (c .step .ensures, rule .obey .ensures, parts .part2 .ensures, parts .before .part .ensures)
 
 pub present-spec : {M : Type 1} → statement M
 present-spec =
     tie.close
-    (tie.spec
-    session-at-requires
-    part-requires
-    part-requires-2
-    obey-requires
-    step-requires
-    returns)
+    (tie.spec part-requires part-requires-2 obey-requires step-requires returns)
