@@ -1,0 +1,8 @@
+pub mod Again
+pub mod ArrayLaws
+pub mod Cells
+pub mod Early
+pub mod Elements
+pub mod InPlace
+pub mod Places
+pub mod StepLaws

@@ -1,0 +1,4 @@
+pub mod Heads
+pub mod Steps
+pub mod Calls
+pub mod Feeds

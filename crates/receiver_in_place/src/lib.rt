@@ -1,0 +1,150 @@
+// The console's calls on a receiver that is lent and changed where it lies: feed, and answer for the
+// others. Answers, the receiver afterwards and every lent byte are those of the calls by value, for any
+// receiver and any buffers. A call copies one session out and back, and nothing else of the table.
+//
+// Not here: what a call gives (`protocol`), the step of one session (`session_rule`, `sessions`).
+mod calls;
+mod feeds;
+mod heads;
+mod steps;
+
+ghost use mathlib.Core.Path.{_≡_};
+ghost use Rattle.octets.specs.Outcome.{outcome};
+ghost use Rattle.protocol.specs.Calls.{feeding, feedOf};
+ghost use Rattle.receiver_in_place.specs.Calls.{answered, calledOf};
+ghost use Rattle.receiver_in_place.specs.Feeds.{fedIn};
+ghost use Rattle.receiver_in_place.specs.Heads.{headsOf};
+use calls::aim_of;
+use calls::answer_at;
+use command::Command;
+use feeds::act;
+use feeds::hear;
+use frames::Report;
+use heads::Head;
+use heads::Heads;
+use protocol::Failure;
+use protocol::Receiver;
+use protocol::Told;
+
+// The console's calls but feed.
+pub enum Call {
+    Allow,
+    Deny,
+    Drop,
+    Done,
+    Failed(Failure),
+}
+
+// What a feed answers: `Fed` without the receiver.
+pub struct FedInPlace {
+    pub consumed: usize,
+    pub report: Report,
+    pub told: Told,
+    pub command: Command,
+    pub reply_len: usize,
+}
+
+// What another call answers: `Answered` without the receiver.
+pub struct AnsweredInPlace {
+    pub told: Told,
+    pub reply_len: usize,
+}
+
+// ---- The calls. Each is straight on, but for the return of a feed that concerns no session: what is
+// decided, the functions that they call decide.
+// The heads of the four sessions.
+fn heads_of(receiver: &mut Receiver) -> Heads
+    ensures { λ h. ⌜ (h ≡ headsOf (now (receiver .entry) .table)) × (now (receiver .exit) ≡ now (receiver .entry)) ⌝ }
+{
+    Heads {
+        first: Head {
+            state: receiver.table.sessions[0].state,
+            id: receiver.table.sessions[0].id,
+            id_len: receiver.table.sessions[0].id_len,
+        },
+        second: Head {
+            state: receiver.table.sessions[1].state,
+            id: receiver.table.sessions[1].id,
+            id_len: receiver.table.sessions[1].id_len,
+        },
+        third: Head {
+            state: receiver.table.sessions[2].state,
+            id: receiver.table.sessions[2].id,
+            id_len: receiver.table.sessions[2].id_len,
+        },
+        fourth: Head {
+            state: receiver.table.sessions[3].state,
+            id: receiver.table.sessions[3].id,
+            id_len: receiver.table.sessions[3].id_len,
+        },
+    }
+}
+
+// Takes one piece through the first thing to report.
+pub fn feed<'r, 'p, 'b>(
+    receiver: &'r mut Receiver,
+    piece: &'p [u8],
+    carry: &'b mut [u8],
+    scratch: &'b mut [u8],
+    reply: &'b mut [u8],
+) -> FedInPlace
+    ensures { λ f. ⌜ feeding (fedIn (now (receiver .exit)) f) (now (carry .exit)) (now (scratch .exit)) (now (reply .exit))
+        ≡ feedOf (now (receiver .entry)) (now (piece .entry)) (now (carry .entry)) (now (scratch .entry)) (now (reply .entry)) ⌝ }
+{
+    let heads = heads_of(receiver);
+    let framing = receiver.framing;
+    let owed = receiver.table.owed;
+    let heard = hear(framing, owed, heads, piece, carry, scratch, reply.len());
+    receiver.framing = heard.framing;
+    if heard.quiet {
+        return FedInPlace {
+            consumed: heard.consumed,
+            report: heard.report,
+            told: heard.told,
+            command: heard.command,
+            reply_len: 0,
+        };
+    }
+    let i = heard.place;
+    let left = act(
+        heard,
+        receiver.table.sessions[i],
+        owed,
+        piece,
+        carry,
+        scratch,
+        reply,
+    );
+    receiver.table.sessions[i] = left.session;
+    receiver.table.owed = left.owed;
+    FedInPlace {
+        consumed: heard.consumed,
+        report: heard.report,
+        told: left.told,
+        command: heard.command,
+        reply_len: left.reply_len,
+    }
+}
+
+// Any other call. Done and failed look at no id, a drop at no reply buffer.
+pub fn answer<'r, 'i, 'b>(
+    receiver: &'r mut Receiver,
+    call: Call,
+    id: &'i [u8],
+    reply: &'b mut [u8],
+) -> AnsweredInPlace
+    ensures { λ a. ⌜ outcome (answered (now (receiver .exit)) a) (now (reply .exit))
+        ≡ calledOf (now (receiver .entry)) call (now (id .entry)) (now (reply .entry)) ⌝ }
+{
+    let heads = heads_of(receiver);
+    let owed = receiver.table.owed;
+    let aim = aim_of(call, owed, heads, id);
+    let i = aim.place;
+    let left = answer_at(call, aim.found, receiver.table.sessions[i], owed, reply);
+    receiver.table.sessions[i] = left.session;
+    receiver.table.owed = left.owed;
+    AnsweredInPlace {
+        told: left.told,
+        reply_len: left.reply_len,
+    }
+}
