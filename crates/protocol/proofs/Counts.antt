@@ -71,7 +71,8 @@ pub put-counted : (s : Session) (j : ℕ) (f : FileRecord) → length (s .files)
     → Counted s → Counted (putFile s j f)
 put-counted s j f room sound c =
     record {
-      started = put-kept startedShare refl (s .files) j f (s .started) room (λ n. one-small (isStarted (fileAt (putFile s j f) n))) (c .started);
+      started =
+          put-kept startedShare refl (s .files) j f (s .started) room (λ n. one-small (isStarted (fileAt (putFile s j f) n))) (c .started);
       doneBytes =
           put-kept doneShare refl (s .files) j f (s .«done_bytes») room
           (λ n. let x = fileAt (putFile s j f) n in done-small (isDone (x .state)) (x .count) (sound n .counted)) (c .doneBytes);

@@ -30,7 +30,8 @@ use Rattle.protocol.specs.declared.Decision.the-variants as Decision
 use Rattle.protocol.specs.declared.Told.the-variants as Told
 use Rattle.protocol.specs.declared.Change.{Change}
 use Rattle.protocol.proofs.Laws.{no-way, equals-same, first-at, found-at, found-nowhere}
-use Rattle.protocol.proofs.Ways.{brought, NewFile, PartOf, Way, nothing, dropped, openAsked, partFailed, writeAsked, commitAsked, way}
+use Rattle.protocol.proofs.Ways.{brought, NewFile, PartOf, Way, nothing, dropped, openAsked, partFailed, writeAsked, commitAsked}
+use Rattle.protocol.proofs.Ways.{way}
 use Rattle.protocol.proofs.Counts.{zero-started}
 use Rattle.protocol.proofs.SoundRule.{Steps, tells-steps, drops-steps, opened-steps, settled-steps, file-failed-steps, none-opens}
 use Rattle.protocol.proofs.SoundRule.{asks-steps, opens-steps, grown-held}

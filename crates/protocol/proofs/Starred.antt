@@ -63,7 +63,8 @@ unfolding actionOf fileTypeOf transmissionOf commandOf kept readOf
 reading = tt
 
 rule : Unit {0}
-unfolding adjusted first resultIn kindOf statusText replyBytes repliedOf fileChecked fileOf partAsked dataOf finishOf obeyedBy doneBy decidedBy
+unfolding adjusted first resultIn kindOf statusText replyBytes repliedOf fileChecked fileOf partAsked dataOf finishOf obeyedBy doneBy
+    decidedBy
 rule = tt
 
 sessions : Unit {0}

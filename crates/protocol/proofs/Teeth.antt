@@ -18,10 +18,10 @@ use Rattle.protocol.specs.Sound.{opensAt, dueOf, EverySound}
 use Rattle.protocol.specs.Promises.{EveryCall}
 use Rattle.protocol.specs.Cuts.{allGiven, after, consoleCalls, CutsAlike}
 use Rattle.protocol.specs.Counts.{EveryCount}
-use Rattle.protocol.specs.WrongMachines.{sendPiece, filePiece, declaredPiece, directoryPiece, dataPiece, longerIdPiece, endPiece, cancelPiece}
+use Rattle.protocol.specs.WrongMachines.{sendPiece, filePiece, declaredPiece, directoryPiece, dataPiece, longerIdPiece, endPiece}
 use Rattle.protocol.specs.WrongMachines.{oneTooSmall, lastOnly, otherSize, skipping, twice, shorterIds, dataOpens, reopening}
-use Rattle.protocol.specs.WrongMachines.{undeclaring, neverClosing, unasked, deaf, withOwed, keepingOwed, stuckOpening, closerLost, hungry}
-use Rattle.protocol.specs.WrongMachines.{keepingNumbers, uncounting, talking, stalling, Teeth}
+use Rattle.protocol.specs.WrongMachines.{cancelPiece, undeclaring, neverClosing, unasked, deaf, withOwed, keepingOwed, stuckOpening}
+use Rattle.protocol.specs.WrongMachines.{keepingNumbers, uncounting, closerLost, hungry, talking, stalling, Teeth}
 use Rattle.protocol.specs.declared.FileState.the-variants as FileState
 use Rattle.protocol.specs.declared.SessionState.the-variants as SessionState
 use Rattle.protocol.specs.declared.Due.the-variants as Due

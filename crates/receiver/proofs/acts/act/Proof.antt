@@ -14,7 +14,8 @@ same-length c = search needs
 
 returns : tie.Need-returns
 returns c =
-    let read = c .before .before in rw (← said-acts _ _ _ _, ← read .before .before .before .before .hear .ensures, read .if1 .taken, c .obey .ensures)
+    let read = c .before .before in
+    rw (← said-acts _ _ _ _, ← read .before .before .before .before .hear .ensures, read .if1 .taken, c .obey .ensures)
 
 tell-requires : tie.Need-tell-requires
 tell-requires c κs = search needs
@@ -24,7 +25,8 @@ same-length-2 c = search needs
 
 returns-2 : tie.Need-returns-2
 returns-2 c =
-    let read = c .before in rw (← said-acts _ _ _ _, ← read .before .before .before .before .hear .ensures, read .if1 .left, c .tell .ensures)
+    let read = c .before in
+    rw (← said-acts _ _ _ _, ← read .before .before .before .before .hear .ensures, read .if1 .left, c .tell .ensures)
 
 pub act-spec : {M : Type 1} → statement M
 act-spec =

@@ -12,7 +12,8 @@ unheard-requires c κs = search needs
 
 returns : tie.Need-returns
 unfolding hearOf
-returns c = (rw (c .unheard .ensures, ← c .before .before .is-short .ensures, c .before .if1 .taken), rw (c .unheard .ensures) (omega arith))
+returns c =
+    (rw (c .unheard .ensures, ← c .before .before .is-short .ensures, c .before .if1 .taken), rw (c .unheard .ensures) (omega arith))
 
 is-owed-requires : tie.Need-is-owed-requires
 is-owed-requires c κs = search needs
