@@ -38,11 +38,11 @@ words s = split 32 (ascii s)
 abbrev pub finished : Alias
 finished = record { text = ascii "finished"; code = 6 }
 
--- "61 unknown word (ac, zip, ft, tt)"
+-- "61 enumerated word unknown": of ac, zip, ft and tt
 abbrev pub named : ℕ → List (List ℕ) → List Alias → Kind
 named = word Refusal.UnknownWord
 
--- "64 .. also any `q` but `0`, `1`, `2`"
+-- "64 integer out of range (also any `q` but 0, 1, 2)"
 abbrev pub levels : Kind
 levels = word Refusal.OutOfRange 0 (words "0 1 2") []
 

@@ -62,20 +62,20 @@ wordRead unknown first ws aliases v =
 abbrev pub over : Bool → List ℕ → Bool
 over short v = short && ltb 32 (length v)
 
--- "62 character not allowed in a safe string (id, fid, pw, pr)", then 8
+-- "62 character not allowed in a safe string", then 8
 unfoldable pub safeRead : Bool → List ℕ → Got
 safeRead short v =
     cond (every safeByte v)
     (cond (over short v) (refuses Refusal.TooLong) (Got.got (Value.bytes v)))
     (refuses Refusal.UnsafeCharacter)
 
--- "63 integer malformed or over 19 digits, 64 out of range (mod, prm, sz)"
+-- "63 integer malformed (or over 19 digits), 64 integer out of range"
 abbrev pub integerRead : Parsed → Got
 integerRead (Integer n) = Got.got (Value.number n)
 integerRead Malformed = refuses Refusal.MalformedInteger
 integerRead OutOfRange = refuses Refusal.OutOfRange
 
--- "65, 66, 67 Base64 (n, st, d)"
+-- "65 Base64 length or padding, 66 Base64 character, 67 unused bits not zero"
 abbrev pub base64Refusal : Fault → Refusal
 base64Refusal Fault.Length = Refusal.Base64Length
 base64Refusal Fault.Character = Refusal.Base64Character
@@ -126,7 +126,7 @@ integerShown n =
     (cond (Decimal.outOfRange n) (unshown Refusal.OutOfRange)
     (cond (eqb (n .magnitude) 0) Shown.leftOut (Shown.text (Decimal.textOf n))))
 
--- any bytes have a Base64 text
+-- any bytes have a Base64 text; numbers that are no bytes, which no call has, are refused
 unfoldable pub base64Shown : List ℕ → Shown
 base64Shown b = cond (every isByte b) (textOr (Base64.textOf b)) (unshown Refusal.Base64Length)
 

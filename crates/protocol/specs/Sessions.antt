@@ -1,7 +1,7 @@
 -- The table of four sessions: which one a command or a call concerns, and its step put back.
 use Prim.Native.Nat.{ℕ}
 use mathlib.Core.List.{List}
-use lib.ListN.{length, replicate}
+use lib.ListN.{length}
 use Rattle.octets.specs.Slices.{partOf}
 use Rattle.command.specs.Slots.{nowhere}
 use Rattle.command.specs.declared.Place.{Place}

@@ -64,7 +64,7 @@ pub record DirectoryFits (s : Session) (j : ℕ) : Type 0 where
   pub file : FileIs s j FileState.Opening
   pub undeclared : fileAt s j .declared ≡ 0
 
--- "at most 4,096 decoded bytes", and the count with them at most 2^40 and right for the state g that they bring the file to
+-- not "Over 4,096 decoded bytes", and the count with them at most 2^40 and right for the state g that they bring the file to
 pub record PartFits (s : Session) (g : FileState) (j n : ℕ) : Type 0 where
   pub file : FileIs s j FileState.Started
   pub short : n ≤ partLimit
@@ -110,7 +110,7 @@ pub record SoundSession (s : Session) (due : Option Due) : Type 0 where
   pub alone : Unique fileUsed fileIdOf noFile (s .files)
   pub each : (j : ℕ) → SoundFile (fileAt s j)
   pub counted : Counted s
-  -- a file is opening exactly where its open is due
+  -- a file is opening only where its open is due
   pub opening : (j : ℕ) → fileAt s j .state ≡ FileState.Opening → opensAt due ≡ Option.some j
   pub fits : DueFits s due
 

@@ -6,7 +6,7 @@ use lib.ListN.{length, set}
 use lib.Dec.{ltb}
 use Rattle.octets.specs.Outcome.{Outcome, outcome}
 use Rattle.command.specs.Slots.{nowhere}
-use Rattle.protocol.specs.Table.{sessionRoom, noSession, sessionAt}
+use Rattle.protocol.specs.Table.{sessionRoom, noSession}
 use Rattle.protocol.specs.Replies.{replyRoom, noReply}
 use Rattle.protocol.specs.Rule.{doneBy, failedBy, decidedBy}
 use Rattle.protocol.specs.Calls.{allowOf, denyOf, dropOf, doneOf, failedOf}

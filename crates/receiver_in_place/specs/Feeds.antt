@@ -2,7 +2,7 @@
 use Prim.Native.Nat.{ℕ}
 use mathlib.Core.Bool.{true, cond, not, _||_}
 use mathlib.Core.List.{List}
-use lib.ListN.{length, set}
+use lib.ListN.{length}
 use lib.Dec.{ltb}
 use Rattle.octets.specs.Outcome.{Outcome, outcome}
 use Rattle.frames.specs.Stream.{textLimit}
@@ -181,7 +181,7 @@ fedIn r f =
       «reply_len» = f .«reply_len»;
     }
 
--- where no session is concerned
+-- where no command was read
 abbrev pub quietFed : Heard → FedInPlace
 quietFed h =
     record { consumed = h .consumed; report = h .report; told = h .told; command = h .command; «reply_len» = 0 }

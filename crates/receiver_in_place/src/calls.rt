@@ -19,7 +19,6 @@ use command::Place;
 use protocol::Change;
 use protocol::Decision;
 use protocol::Due;
-use protocol::Failure;
 use protocol::Found;
 use protocol::Owed;
 use protocol::Reply;
@@ -163,7 +162,7 @@ fn due(owed: Owed) -> Due
     }
 }
 
-// "11: .. while nothing is owed; 12: .. no such session"
+// 11: "done or failed while nothing is owed"; 12 where no session has the id
 fn refusal(call: Call) -> Told
     ensures { λ t. ⌜ t ≡ Told.Refused (refusalOf call) ⌝ }
 {

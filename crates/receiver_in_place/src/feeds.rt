@@ -50,7 +50,7 @@ use sessions::find::is_absent;
 use sessions::next::Next;
 
 // What a piece says: the framing afterwards, how much of it is used, where its text stands; whether no
-// session is concerned, and what is told then; else the command, the session that it concerns, and the
+// command was read, and what is told then; else the command, the session that it concerns, and the
 // place of the one that is copied out.
 pub struct Heard {
     pub framing: Framing,

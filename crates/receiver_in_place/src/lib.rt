@@ -50,8 +50,8 @@ pub struct AnsweredInPlace {
     pub reply_len: usize,
 }
 
-// ---- The calls. Each is straight on, but for the return of a feed that concerns no session: what is
-// decided, the functions that they call decide.
+// ---- The calls. Each is straight on, but for the return of a feed in which no command was read: what
+// is decided, the functions that they call decide.
 // The heads of the four sessions.
 fn heads_of(receiver: &mut Receiver) -> Heads
     ensures { λ h. ⌜ (h ≡ headsOf (now (receiver .entry) .table)) × (now (receiver .exit) ≡ now (receiver .entry)) ⌝ }
