@@ -35,12 +35,15 @@ fn put_file(session: Session, j: usize, file: FileRecord) -> Session
     ensures { λ r. ⌜ r ≡ putFile session j file ⌝ }
 {
     if j < Session::FILES {
-        let old = session.files[j];
-        let mut next = session;
-        next.started = started_with(session.started, old, file);
-        next.done_bytes = done_bytes_with(session.done_bytes, old, file);
-        next.files[j] = file;
-        next
+        let mut files = session.files;
+        let old = files[j];
+        files[j] = file;
+        Session {
+            started: started_with(session.started, old, file),
+            done_bytes: done_bytes_with(session.done_bytes, old, file),
+            files: files,
+            ..session
+        }
     } else {
         session
     }

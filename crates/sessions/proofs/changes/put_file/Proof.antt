@@ -1,6 +1,6 @@
 use mathlib.Core.Path.{_≡_}
 use native.Mathlib.Omega.{arith}
-use lib.ListN.{length}
+use lib.ListN.{length, length-map}
 use Rattle.session_rule.proofs.ArrayLaws.{length-mapped}
 use Rattle.sessions.proofs.NumberLaws.{put-inside, put-outside}
 use borrow.Author.Needs.{needs}
@@ -10,8 +10,14 @@ use Rattle.sessions.proofs.changes.put_file.Tie as tie
 mul-old : tie.Need-mul-old
 mul-old c = search needs
 
-element-copy-out-old : tie.Need-element-copy-out-old
-element-copy-out-old c = search needs
+array-copy-out-old : tie.Need-array-copy-out-old
+array-copy-out-old c = search needs
+
+mul-files : tie.Need-mul-files
+mul-files c = search needs
+
+array-set-from-files : tie.Need-array-set-from-files
+array-set-from-files c = search needs
 
 started-with-requires : tie.Need-started-with-requires
 started-with-requires c κs = search needs
@@ -19,34 +25,30 @@ started-with-requires c κs = search needs
 done-bytes-with-requires : tie.Need-done-bytes-with-requires
 done-bytes-with-requires c κs = search needs
 
-mul-file : tie.Need-mul-file
-mul-file c = search needs
-
-element-set-from-file : tie.Need-element-set-from-file
-element-set-from-file c = search needs
-
 returns : tie.Need-returns
 returns c =
-    let start = c .before .before .before .before in
+    let filed = c .before .before in
+    let start = filed .before .before .before .before in
     let a = start .args in
-    let e : length (a .t1 .files) ≡ 32 = search (needs, length-mapped) in
-    put-inside (a .t1) (a .j) (a .file) _ _ _ (omega arith) (c .before .started-with .ensures) (c .done-bytes-with .ensures)
+    let files = start .good .0 .1 .1 .1 .1 .1 .1 .1 .1 .0 in
+    let e : length (a .session .files) ≡ 32 = simp length-map at (files .1 .0 .1) in
+    put-inside (a .session) (a .j) (a .file) _ _ _ (omega arith) (filed .started-with .ensures) (c .before .done-bytes-with .ensures)
 
 returns-2 : tie.Need-returns-2
 returns-2 c =
     let a = c .before .args in
-    let e : length (a .t1 .files) ≡ 32 = search (needs, length-mapped) in
-    put-outside (a .t1) (a .j) (a .file) (omega arith) (search needs) (search needs)
+    let e : length (a .session .files) ≡ 32 = search (needs, length-mapped) in
+    put-outside (a .session) (a .j) (a .file) (omega arith) (search needs) (search needs)
 
 pub put-file-spec : {M : Type 1} → statement M
 put-file-spec =
     tie.close
     (tie.spec
     mul-old
-    element-copy-out-old
+    array-copy-out-old
+    mul-files
+    array-set-from-files
     started-with-requires
     done-bytes-with-requires
-    mul-file
-    element-set-from-file
     returns
     returns-2)
