@@ -26,8 +26,8 @@ use Rattle.protocol.specs.Stretches.{AllStand}
 use Rattle.protocol.specs.Machine.{Machine, Call, World, isRefused, Lent, step, start}
 use Rattle.protocol.specs.Claim.{doneAs, keyIn, LastPartAsked, DirectoryAsked, ClosingReply, ClosedWhole, TurnedDone}
 use Rattle.protocol.specs.Claim.{Right, Everywhere, EveryHistory}
-use Rattle.protocol.specs.Sound.{Sound, AllSound, EverySound}
-use Rattle.protocol.specs.Cuts.{AllLent}
+use Rattle.protocol.specs.Sound.{Sound, EverySound}
+use Rattle.protocol.specs.Cuts.{AllLent, after}
 use Rattle.protocol.specs.declared.FileState.{FileState}
 use Rattle.protocol.specs.declared.FileState.the-variants as FileState
 use Rattle.protocol.specs.declared.FileRecord.{FileRecord}
@@ -38,6 +38,7 @@ use Rattle.protocol.specs.declared.Answered.{Answered}
 use Rattle.protocol.proofs.Laws.{no-way, equals-same}
 use Rattle.protocol.proofs.Done.{NoneDone}
 use Rattle.protocol.proofs.Puts.{none-closes}
+use Rattle.protocol.proofs.SoundCalls.{sound-after}
 
 -- ---- a list of calls: every feed is lent the world's carry, and the other buffers are all alike
 unfoldable pub carry₀ : List ℕ
@@ -81,8 +82,7 @@ module _ (m : Machine) where
 
   -- the world after them, and what the claim says of the call after that
   abbrev afterwards : World → List Deed → World
-  afterwards w [] = w
-  afterwards w (c ∷ cs) = afterwards (step m w (callOf w c)) cs
+  afterwards w cs = after m w (calls w cs)
 
   right-after : (w : World) (cs : List Deed) (d : Deed) → Everywhere m w (calls w (cs ++ (d ∷ [])))
       → Right m (afterwards w cs) (callOf (afterwards w cs) d)
@@ -96,12 +96,8 @@ module _ (m : Machine) where
   right-at cs d claim = right-after (start carry₀) cs d (claim carry₀ (calls (start carry₀) (cs ++ (d ∷ []))))
 
   -- and that the table is sound
-  last-sound : (w : World) (cs : List Deed) → AllSound m w (calls w cs) → Sound (afterwards w cs .receiver .table)
-  last-sound w [] all = all
-  last-sound w (c ∷ cs) all = last-sound (step m w (callOf w c)) cs (all .1)
-
-  pub sound-after : (cs : List Deed) → EverySound m → Sound (afterAll cs .receiver .table)
-  sound-after cs claim = last-sound (start carry₀) cs (claim carry₀ (calls (start carry₀) cs))
+  pub sound-at-last : (cs : List Deed) → EverySound m → Sound (afterAll cs .receiver .table)
+  sound-at-last cs claim = sound-after m (start carry₀) (calls (start carry₀) cs) (claim carry₀ (calls (start carry₀) cs))
 
 -- ---- a part is handed over where none may be, at the feed of a piece
 abbrev pub HandsBadly : Machine → List Deed → List ℕ → Type 0

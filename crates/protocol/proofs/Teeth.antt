@@ -35,7 +35,7 @@ use Rattle.protocol.proofs.Sizes.{empty-sized}
 use Rattle.protocol.proofs.SoundTable.{owed-session}
 use Rattle.protocol.proofs.Starred.{computing}
 use Rattle.protocol.proofs.Refuting.{carry₀, scratch₀, reply₀, Deed, feed, allow, done, dropped, failed, calls, all-lent}
-use Rattle.protocol.proofs.Refuting.{afterAll, sound-after}
+use Rattle.protocol.proofs.Refuting.{afterAll, sound-at-last}
 use Rattle.protocol.proofs.Refuting.{HandsBadly, hands-badly, turnsRight, ClosesBadly, closes-badly, StaysOpen, stays-open}
 
 -- a session allowed, a file started in it, and abc written
@@ -184,13 +184,13 @@ computed = record {
 -- ---- the claims are false of each
 dropped-owes : EverySound keepingOwed → ⊥
 dropped-owes claim =
-    let sound = sound-after keepingOwed dropping claim in
+    let sound = sound-at-last keepingOwed dropping claim in
     let present = ap isPresent (owed-session sound (computed .keepingOwed-owes) .fits .0) in
     no-way (sym present ∙ ap isPresent (computed .keepingOwed-drops))
 
 opening-for-good : EverySound stuckOpening → ⊥
 opening-for-good claim =
-    let s = sound-after stuckOpening failing claim .each 0 in
+    let s = sound-at-last stuckOpening failing claim .each 0 in
     Option·none-ne-some 0 (sym (ap opensAt (computed .stuckOpening-owes)) ∙ s .opening 0 (computed .stuckOpening-opens))
 
 dropped-counts : EveryCount keepingNumbers → ⊥

@@ -12,6 +12,7 @@ use Rattle.command.specs.declared.FileType.the-variants as FileType
 use Rattle.command.specs.declared.Transmission.{Transmission}
 use Rattle.command.specs.declared.Transmission.the-variants as Transmission
 use Rattle.command.specs.declared.Command.{Command}
+use Rattle.protocol.specs.Lengths.{lengthBy}
 use Rattle.protocol.specs.Table.{padded, fileAt, findFile, first, isFree, isStarted, moved}
 use Rattle.protocol.specs.Replies.{noReply, sessionReply, fileReply}
 use Rattle.protocol.specs.Change.{tells, asks, opens, files, drops}
@@ -91,7 +92,7 @@ badSize FileType.Symlink n = false
 badSize FileType.Link n = false
 
 abbrev pub declaredBy : FileType → Number → ℕ
-declaredBy FileType.Regular n = cond (n .negative) 0 (n .magnitude)
+declaredBy FileType.Regular n = lengthBy n
 declaredBy FileType.Directory n = 0
 declaredBy FileType.Symlink n = 0
 declaredBy FileType.Link n = 0

@@ -7,6 +7,7 @@ use mathlib.Core.List.{List, [], _∷_, _++_}
 use lib.Dec.{eqb}
 use Rattle.octets.specs.Slices.{equals}
 use Rattle.command.specs.Meaning.{actionCode, fileTypeCode, idOf, fileIdOf, sizeOf, dataOf}
+use Rattle.protocol.specs.Lengths.{lengthBy}
 use Rattle.protocol.specs.History.{Command, Heard, Mark, Question, lastRead}
 
 -- ---- a file: a session's id and its own
@@ -53,9 +54,9 @@ partFor k (Question.asks c Heard.commits) = []
 abbrev pub contentFor : Key → Command → List ℕ
 contentFor k c = cond (isData c && isFor k c) (dataOf c) []
 
--- the length that a file command declares, "a positive one .., zero or none nothing"
+-- the length that a file command declares
 abbrev pub declaredIn : Command → ℕ
-declaredIn c = cond (sizeOf c .negative) 0 (sizeOf c .magnitude)
+declaredIn c = lengthBy (sizeOf c)
 
 -- ---- "since its latest start"
 -- the command that started a file, and the marks since, newest first
