@@ -1,47 +1,6 @@
-// The scripted console: makes the calls of a script on one receiver, and prints every answer and what
-// became of every lent buffer.
-mod console;
-mod line;
-mod script;
+// The scripted console, its calls by value.
+use scripts::Calls;
 
-use console::Console;
-use streams::Got;
-use streams::Run;
-
-// How many bytes a script has at most.
-const SCRIPT_LIMIT: usize = 65536;
-
-// One byte more is read, so that a longer script is seen.
 fn main() {
-    let mut bytes = [0u8; SCRIPT_LIMIT + 1];
-    let run = match streams::read_all(&mut bytes) {
-        Got::Bytes(n) => play(&bytes[..n]),
-        Got::Failed => Run::NotRead,
-    };
-    run.end(b"drive");
-}
-
-// Makes the script's calls one after another, until something fails.
-fn play(bytes: &[u8]) -> Run {
-    if bytes.len() > SCRIPT_LIMIT {
-        return line::bad_script(Run::Well);
-    }
-    let mut carry = [0xA5u8; Console::CARRY];
-    let mut scratch = [0xA5u8; Console::SCRATCH];
-    let mut reply = [0xA5u8; Console::REPLY];
-    let mut state = console::fresh(Run::Well);
-    let mut at = 0;
-    while at < bytes.len() {
-        let run = state.run;
-        if !run.is_well() {
-            break;
-        }
-        let n = script::operation_length(bytes, at);
-        if n == 0 {
-            return line::bad_script(run);
-        }
-        state = console::perform(state, bytes, at, n, &mut carry, &mut scratch, &mut reply);
-        at += n;
-    }
-    state.run
+    scripts::run(Calls::ByValue).end(b"drive");
 }

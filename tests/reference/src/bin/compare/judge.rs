@@ -1,7 +1,7 @@
 //! Runs a case on both sides, counts, and keeps the cases that differ.
 
 use crate::coverage::Coverage;
-use crate::programs::{self, Outcome, DRIVE, REPLAY};
+use crate::programs::{self, player, Outcome, REPLAY};
 use crate::shrink::shrink;
 use reference::console::{self, LONGEST_SCRIPT};
 use reference::replay::Replay;
@@ -75,7 +75,7 @@ impl Tally {
         self.scripts += batch.len() as u64;
         self.runs += 1;
         self.bytes += input.len() as u64;
-        let actual = programs::run(DRIVE, &input, LONGEST_SCRIPT);
+        let actual = programs::run(player(), &input, LONGEST_SCRIPT);
         self.coverage.script(&actual.output);
         if actual.agrees(&expected) {
             return;
@@ -92,7 +92,7 @@ impl Tally {
     }
 
     fn alone(&mut self, case: &Case, expected: &[u8]) {
-        let actual = programs::run(DRIVE, &case.input, LONGEST_SCRIPT);
+        let actual = programs::run(player(), &case.input, LONGEST_SCRIPT);
         if actual.agrees(expected) {
             return;
         }
@@ -102,7 +102,7 @@ impl Tally {
         }
         if let Ok(ops) = Ops::new(&case.input).collect::<Result<Vec<Op>, ()>>() {
             let small = script::encode(&shrink(ops, |ops| script_differs(&script::encode(ops))));
-            let actual = programs::run(DRIVE, &small, LONGEST_SCRIPT);
+            let actual = programs::run(player(), &small, LONGEST_SCRIPT);
             write(&format!("{}-small", case.name), &small, &expected_of_script(&small), &actual);
         }
     }
@@ -141,7 +141,7 @@ impl Tally {
 }
 
 fn script_differs(input: &[u8]) -> bool {
-    !programs::run(DRIVE, input, LONGEST_SCRIPT).agrees(&expected_of_script(input))
+    !programs::run(player(), input, LONGEST_SCRIPT).agrees(&expected_of_script(input))
 }
 
 /// Says that a case differs, and why. Keeps it unless enough are kept; answers whether it did.

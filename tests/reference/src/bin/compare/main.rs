@@ -31,7 +31,8 @@ use std::process::ExitCode;
 use std::time::{Duration, Instant};
 use std::{env, fs};
 
-const USAGE: &str = "compare quick | long | fuzz SECONDS [SEED] | one KIND SEED | faults [WORD..]
+const USAGE: &str = "compare [in-place] quick | long | fuzz SECONDS [SEED] | one KIND SEED
+compare faults [WORD..]
 KIND: script, recording, fuzz-script, fuzz-raw, fuzz-recording";
 
 /// Whether things that never came up are a fault.
@@ -43,12 +44,17 @@ enum Cover {
 
 fn main() -> ExitCode {
     let args: Vec<String> = env::args().skip(1).collect();
-    let args: Vec<&str> = args.iter().map(String::as_str).collect();
+    let mut args: Vec<&str> = args.iter().map(String::as_str).collect();
     if let ["faults", words @ ..] = &args[..] {
         return faults(words);
     }
-    if !programs::present() {
-        println!("{} or {} is missing", programs::DRIVE, programs::REPLAY);
+    if args.first() == Some(&"in-place") {
+        args.remove(0);
+        programs::play_in_place();
+    }
+    let missing = programs::missing();
+    if !missing.is_empty() {
+        println!("missing: {}", missing.join(", "));
         return ExitCode::FAILURE;
     }
     let start = Instant::now();
@@ -115,7 +121,8 @@ fn read(path: &str) -> Option<Vec<u8>> {
 
 fn finish(start: Instant, tally: Tally, cover: Cover) -> ExitCode {
     let cases = tally.scripts + tally.recordings;
-    println!("scripts: {}, recordings: {}", tally.scripts, tally.recordings);
+    println!("scripts: {}, played by {}", tally.scripts, programs::player());
+    println!("recordings: {}", tally.recordings);
     println!("runs of a program: {}, bytes: {}", tally.runs, tally.bytes);
     tally.coverage.print();
     let missing = tally.coverage.missing();
@@ -149,7 +156,7 @@ fn one(kind: &str, seed: u64) -> Option<ExitCode> {
     let (program, expected) = if kind.ends_with("recording") {
         (programs::REPLAY, expected_of_recording(&input))
     } else {
-        (programs::DRIVE, expected_of_script(&input))
+        (programs::player(), expected_of_script(&input))
     };
     let actual = programs::run(program, &input, input.len().max(1));
     let path = format!("target/reference/{name}");

@@ -3,7 +3,7 @@
 use std::io::{self, ErrorKind, Read, Write};
 use std::path::Path;
 use std::process::{Child, Command, ExitStatus, Stdio};
-use std::sync::mpsc;
+use std::sync::{mpsc, OnceLock};
 use std::thread::{self, ScopedJoinHandle};
 use std::time::{Duration, Instant};
 
@@ -13,11 +13,25 @@ const LONGEST_RUN: Duration = Duration::from_secs(30);
 const LONGEST_QUOTE: usize = 200;
 
 /// The programs, found from the repository's root.
-pub const DRIVE: &str = "target/bin/drive";
+const DRIVE: &str = "target/bin/drive";
+const DRIVE_IN_PLACE: &str = "target/bin/drive_in_place";
 pub const REPLAY: &str = "target/bin/replay";
 
-pub fn present() -> bool {
-    [DRIVE, REPLAY].iter().all(|path| Path::new(path).exists())
+static PLAYER: OnceLock<&str> = OnceLock::new();
+
+/// Scripts are played with the calls in place; said before any run.
+pub fn play_in_place() {
+    PLAYER.get_or_init(|| DRIVE_IN_PLACE);
+}
+
+/// The program that plays the scripts.
+pub fn player() -> &'static str {
+    PLAYER.get_or_init(|| DRIVE)
+}
+
+/// The programs that are missing.
+pub fn missing() -> Vec<&'static str> {
+    [player(), REPLAY].into_iter().filter(|path| !Path::new(path).exists()).collect()
 }
 
 /// What a run gave. A fault is anything but a start, an end with status 0 and output alone.

@@ -1,4 +1,5 @@
 // The console's state between the calls of a script, and each operation.
+use crate::Calls;
 use crate::line;
 use crate::script;
 use command::Command;
@@ -12,14 +13,16 @@ use protocol::Fed;
 use protocol::Found;
 use protocol::Receiver;
 use protocol::Reply;
+use receiver_in_place::Call;
 use sessions::find::find_session;
 use sessions::places::session_at;
 use streams::Run;
 
-// How the run stands, the receiver, how much of each buffer is lent, and the latest feed: its piece's
-// place in the script and its report.
+// How the run stands, which calls are made, the receiver, how much of each buffer is lent, and the latest
+// feed: its piece's place in the script and its report.
 pub struct Console {
     pub run: Run,
+    pub calls: Calls,
     pub receiver: Receiver,
     pub carry: usize,
     pub scratch: usize,
@@ -39,9 +42,10 @@ impl Console {
 }
 
 // A fresh receiver, every buffer lent whole, no feed made yet.
-pub(crate) fn fresh(run: Run) -> Console {
+pub(crate) fn fresh(run: Run, calls: Calls) -> Console {
     Console {
         run: run,
+        calls: calls,
         receiver: Receiver::fresh(),
         carry: Console::CARRY,
         scratch: Console::SCRATCH,
@@ -64,11 +68,12 @@ pub(crate) fn perform(
 ) -> Console {
     let letter = script::byte(bytes, at);
     let run = console.run;
+    let calls = console.calls;
     match letter {
         b'f' => feed(console, bytes, at, n, carry, scratch, reply),
         b't' => text(console, bytes, carry),
         b'y' => numbers(console, octets::part(bytes, at, n)),
-        b'n' => anew(run, carry, scratch, reply),
+        b'n' => anew(run, calls, carry, scratch, reply),
         b'c' => lend(console, letter, script::number(bytes, at, 1)),
         b's' => lend(console, letter, script::number(bytes, at, 1)),
         b'r' => lend(console, letter, script::number(bytes, at, 1)),
@@ -86,20 +91,11 @@ fn feed(
     scratch: &mut [u8],
     reply: &mut [u8],
 ) -> Console {
-    let receiver = console.receiver;
     let run = console.run;
     let start = within(at, 3, bytes.len());
     let len = less(n, 3);
-    let fed = feed_lent(
-        receiver,
-        octets::part(bytes, start, len),
-        carry,
-        console.carry,
-        scratch,
-        console.scratch,
-        reply,
-        console.reply,
-    );
+    let piece = octets::part(bytes, start, len);
+    let fed = feed_lent(console, piece, carry, scratch, reply);
     let told = fed.told;
     let sent = octets::part(reply, 0, fed.reply_len);
     let called = line::call(run, b'f', fed.consumed, told, sent);
@@ -117,19 +113,18 @@ fn feed(
 
 // A feed that is lent the first bytes of each buffer.
 fn feed_lent(
-    receiver: Receiver,
+    console: Console,
     piece: &[u8],
     carry: &mut [u8],
-    carry_len: usize,
     scratch: &mut [u8],
-    scratch_len: usize,
     reply: &mut [u8],
-    reply_len: usize,
 ) -> Fed {
-    let c = least(carry_len, carry.len());
-    let s = least(scratch_len, scratch.len());
-    let r = least(reply_len, reply.len());
-    receiver::feed(
+    let calls = console.calls;
+    let receiver = console.receiver;
+    let c = least(console.carry, carry.len());
+    let s = least(console.scratch, scratch.len());
+    let r = least(console.reply, reply.len());
+    calls.feed(
         receiver,
         piece,
         &mut carry[..c],
@@ -168,11 +163,11 @@ fn numbers(console: Console, operation: &[u8]) -> Console {
 }
 
 // Starts anew: a fresh receiver, and the buffers as at first.
-fn anew(run: Run, carry: &mut [u8], scratch: &mut [u8], reply: &mut [u8]) -> Console {
+fn anew(run: Run, calls: Calls, carry: &mut [u8], scratch: &mut [u8], reply: &mut [u8]) -> Console {
     fill(carry);
     fill(scratch);
     fill(reply);
-    fresh(run)
+    fresh(run, calls)
 }
 
 fn fill(buffer: &mut [u8]) {
@@ -213,11 +208,9 @@ fn call<'a>(
     scratch: &'a [u8],
     reply: &mut [u8],
 ) -> Console {
-    let receiver = console.receiver;
     let run = console.run;
     let letter = script::byte(operation, 0);
-    let r = least(console.reply, reply.len());
-    let answered = call_lent(receiver, letter, operation, &mut reply[..r]);
+    let answered = call_lent(console, operation, reply);
     let told = answered.told;
     let sent = octets::part(reply, 0, answered.reply_len);
     let called = line::call(run, letter, 0, told, sent);
@@ -229,14 +222,25 @@ fn call<'a>(
     }
 }
 
-fn call_lent(receiver: Receiver, letter: u8, operation: &[u8], reply: &mut [u8]) -> Answered {
+// A call that is lent the first bytes of the reply buffer.
+fn call_lent(console: Console, operation: &[u8], reply: &mut [u8]) -> Answered {
+    let calls = console.calls;
+    let receiver = console.receiver;
+    let call = call_of(operation);
     let id = octets::part(operation, 2, less(operation.len(), 2));
+    let r = least(console.reply, reply.len());
+    calls.answer(receiver, call, id, &mut reply[..r])
+}
+
+// The call that an operation's letter stands for.
+fn call_of(operation: &[u8]) -> Call {
+    let letter = script::byte(operation, 0);
     match letter {
-        b'a' => receiver::allow(receiver, id, reply),
-        b'd' => receiver::deny(receiver, id, reply),
-        b'x' => receiver::drop(receiver, id),
-        b'k' => receiver::done(receiver, reply),
-        _ => receiver::failed(receiver, failure(script::byte(operation, 1)), reply),
+        b'a' => Call::Allow,
+        b'd' => Call::Deny,
+        b'x' => Call::Drop,
+        b'k' => Call::Done,
+        _ => Call::Failed(failure(script::byte(operation, 1))),
     }
 }
 

@@ -4,8 +4,8 @@ use native.Mathlib.Omega.{arith}
 use lib.ListN.{length}
 use borrow.Author.Tests.{leb-true}
 use borrow.Author.Needs.{needs}
-use Rattle.drive.proofs.script.operation_length.Statement.{statement}
-use Rattle.drive.proofs.script.operation_length.Tie as tie
+use Rattle.scripts.proofs.script.operation_length.Statement.{statement}
+use Rattle.scripts.proofs.script.operation_length.Tie as tie
 
 claimed-length-requires : tie.Need-claimed-length-requires
 claimed-length-requires c κs = search needs

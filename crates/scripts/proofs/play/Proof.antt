@@ -5,8 +5,8 @@ use borrow.Author.Needs.{needs}
 use Rattle.frames.specs.Stream.{textLimit}
 use Rattle.command.specs.Read.{scratchRoom}
 use Rattle.protocol.specs.Replies.{replyRoom}
-use Rattle.drive.proofs.play.Statement.{statement}
-use Rattle.drive.proofs.play.Tie as tie
+use Rattle.scripts.proofs.play.Statement.{statement}
+use Rattle.scripts.proofs.play.Tie as tie
 
 abbrev Inv-loop : tie.InvT-loop
 Inv-loop bytes carry₀ scratch₀ reply₀ state₀ at₀ carry scratch reply state at =

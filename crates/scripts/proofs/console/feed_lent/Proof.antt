@@ -2,8 +2,8 @@ use mathlib.Core.Path.{sym}
 use native.Mathlib.Omega.{arith}
 use lib.Seq.{length-take-le}
 use borrow.Author.Needs.{needs}
-use Rattle.drive.proofs.console.feed_lent.Statement.{statement}
-use Rattle.drive.proofs.console.feed_lent.Tie as tie
+use Rattle.scripts.proofs.console.feed_lent.Statement.{statement}
+use Rattle.scripts.proofs.console.feed_lent.Tie as tie
 
 least-requires : tie.Need-least-requires
 least-requires c κs = search needs
@@ -20,7 +20,7 @@ slice-relend-prefix-feed c = search needs
 slice-aggregate-feed : tie.Need-slice-aggregate-feed
 slice-aggregate-feed c =
     let l = c .before .before .before in
-    sym (length-take-le (l .least .result) (l .before .before .before .before .before .args .carry .now)
+    sym (length-take-le (l .least .result) (l .before .before .before .before .before .before .args .carry .now)
     (omega (arith, l .least .ensures)))
 
 slice-relend-prefix-feed-2 : tie.Need-slice-relend-prefix-feed-2
@@ -29,7 +29,7 @@ slice-relend-prefix-feed-2 c = search needs
 slice-aggregate-feed-2 : tie.Need-slice-aggregate-feed-2
 slice-aggregate-feed-2 c =
     let l = c .before .before .before in
-    sym (length-take-le (l .least2 .result) (l .before .before .before .before .before .before .args .scratch .now)
+    sym (length-take-le (l .least2 .result) (l .before .before .before .before .before .before .before .args .scratch .now)
     (omega (arith, l .least2 .ensures)))
 
 slice-relend-prefix-feed-3 : tie.Need-slice-relend-prefix-feed-3
@@ -38,7 +38,7 @@ slice-relend-prefix-feed-3 c = search needs
 slice-aggregate-feed-3 : tie.Need-slice-aggregate-feed-3
 slice-aggregate-feed-3 c =
     let l = c .before .before .before in
-    sym (length-take-le (l .least3 .result) (l .before .before .before .before .before .before .before .args .reply .now)
+    sym (length-take-le (l .least3 .result) (l .before .before .before .before .before .before .before .before .args .reply .now)
     (omega (arith, l .least3 .ensures)))
 
 feed-requires : tie.Need-feed-requires

@@ -3,8 +3,8 @@ use mathlib.Core.Path.{sym, _∙_}
 use native.Mathlib.Omega.{arith}
 use borrow.Author.Tests.{leb-true}
 use borrow.Author.Needs.{needs}
-use Rattle.drive.proofs.console.within.Statement.{statement}
-use Rattle.drive.proofs.console.within.Tie as tie
+use Rattle.scripts.proofs.console.within.Statement.{statement}
+use Rattle.scripts.proofs.console.within.Tie as tie
 
 fits-requires : tie.Need-fits-requires
 fits-requires c κs = search needs

@@ -1,7 +1,7 @@
 use borrow.Author.Needs.{needs}
 use Rattle.streams.proofs.Laws.{held}
-use Rattle.drive.proofs.main.Statement.{statement}
-use Rattle.drive.proofs.main.Tie as tie
+use Rattle.scripts.proofs.run.Statement.{statement}
+use Rattle.scripts.proofs.run.Tie as tie
 
 slice-aggregate-read-all : tie.Need-slice-aggregate-read-all
 slice-aggregate-read-all c = search needs
@@ -28,17 +28,14 @@ play-requires c κs = search needs
 enum-told : tie.Need-enum-told
 enum-told c = search needs
 
-slice-aggregate-end : tie.Need-slice-aggregate-end
-slice-aggregate-end c = search needs
-
-end-requires : tie.Need-end-requires
-end-requires c κs = search needs
-
 returns : tie.Need-returns
 returns c = search needs
 
-pub main-spec : {M : Type 1} → statement M
-main-spec =
+returns-2 : tie.Need-returns-2
+returns-2 c = search needs
+
+pub run-spec : {M : Type 1} → statement M
+run-spec =
     tie.close
     (tie.spec
     slice-aggregate-read-all
@@ -48,6 +45,5 @@ main-spec =
     slice-aggregate-play
     play-requires
     enum-told
-    slice-aggregate-end
-    end-requires
-    returns)
+    returns
+    returns-2)

@@ -1,8 +1,8 @@
 use Prim.Native.Nat.{_≤_, _<_}
 use lib.ListN.{length}
 use borrow.Author.Needs.{needs}
-use Rattle.drive.proofs.line.sum.Statement.{statement}
-use Rattle.drive.proofs.line.sum.Tie as tie
+use Rattle.scripts.proofs.line.sum.Statement.{statement}
+use Rattle.scripts.proofs.line.sum.Tie as tie
 
 abbrev Inv-loop : tie.InvT-loop
 Inv-loop buffer total₀ rest₀ i₀ total rest i = (i ≤ length buffer) × (total < 65521) × (rest < 65521)

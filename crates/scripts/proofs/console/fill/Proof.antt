@@ -3,8 +3,8 @@ use mathlib.Core.Path.{_≡_}
 use native.Mathlib.Omega.{arith}
 use lib.ListN.{length, length-set}
 use borrow.Author.Needs.{needs}
-use Rattle.drive.proofs.console.fill.Statement.{statement}
-use Rattle.drive.proofs.console.fill.Tie as tie
+use Rattle.scripts.proofs.console.fill.Statement.{statement}
+use Rattle.scripts.proofs.console.fill.Tie as tie
 
 abbrev Inv-loop : tie.InvT-loop
 Inv-loop buffer₀ i₀ buffer i = (i ≤ length buffer) × (length buffer ≡ length buffer₀)
