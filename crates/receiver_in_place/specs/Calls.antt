@@ -5,6 +5,8 @@ use mathlib.Core.List.{List}
 use lib.ListN.{length, set}
 use lib.Dec.{ltb}
 use Rattle.octets.specs.Outcome.{Outcome, outcome}
+use Rattle.octets.specs.Slices.{partOf}
+use Rattle.frames.specs.Calls.{textOf}
 use Rattle.command.specs.Slots.{nowhere}
 use Rattle.protocol.specs.Table.{sessionRoom, noSession}
 use Rattle.protocol.specs.Replies.{replyRoom, noReply}
@@ -31,6 +33,7 @@ use Rattle.receiver_in_place.specs.declared.steps.Left.{Left}
 use Rattle.receiver_in_place.specs.declared.Call.{Call}
 use Rattle.receiver_in_place.specs.declared.Call.the-variants as Call
 use Rattle.receiver_in_place.specs.declared.AnsweredInPlace.{AnsweredInPlace}
+use Rattle.receiver_in_place.specs.declared.FedInPlace.{FedInPlace}
 
 -- ---- "with the same answers and receiver after": each call is what it is by value
 unfoldable pub calledOf : Receiver → Call → (id reply : List ℕ) → Outcome Answered
@@ -43,6 +46,10 @@ calledOf r (Call.Failed e) id reply = failedOf r e reply
 -- the answer in place, with the receiver where it lies
 abbrev pub answered : Receiver → AnsweredInPlace → Answered
 answered r a = record { receiver = r; told = a .told; «reply_len» = a .«reply_len» }
+
+-- the id of the command that a feed reported, where it lies
+abbrev pub fedId : FedInPlace → (piece carry : List ℕ) → List ℕ
+fedId f piece carry = partOf (textOf piece carry (f .report)) (f .command .id .start) (f .command .id .len)
 
 -- ---- which session a call concerns
 abbrev pub ownerOf : Owed → Found

@@ -6,8 +6,9 @@ ghost use lib.Dec.{ltb};
 ghost use Rattle.octets.specs.Outcome.{outcome};
 ghost use Rattle.protocol.specs.Replies.{replyRoom};
 ghost use Rattle.receiver_in_place.specs.Steps.{aimed};
-ghost use Rattle.receiver_in_place.specs.Calls.{isGuarded, refusalOf, ownerOf, dueOf, concerned, changeBy, nextAt, nextFor, answerAt};
+ghost use Rattle.receiver_in_place.specs.Calls.{isGuarded, refusalOf, ownerOf, dueOf, concerned, changeBy, nextAt, nextFor, answerAt, fedId};
 use crate::Call;
+use crate::FedInPlace;
 use crate::heads::Heads;
 use crate::heads::find;
 use crate::steps::Aim;
@@ -35,6 +36,25 @@ pub(crate) fn aim_of(call: Call, owed: Owed, heads: Heads, id: &[u8]) -> Aim
     ensures { λ a. ⌜ (a ≡ aimed (concerned call owed heads (now (id .entry)))) × (a .place < 4) ⌝ }
 {
     aim_at(concern(call, owed, heads, id))
+}
+
+// The same, by the id of the command that a feed reported.
+pub(crate) fn aim_for<'p, 'b>(
+    call: Call,
+    owed: Owed,
+    heads: Heads,
+    fed: FedInPlace,
+    piece: &'p [u8],
+    carry: &'b mut [u8],
+) -> Aim
+    ensures { λ a. ⌜ (a ≡ aimed (concerned call owed heads (fedId fed (now (piece .entry)) (now (carry .entry)))))
+        × (a .place < 4) × (now (carry .exit) ≡ now (carry .entry)) ⌝ }
+{
+    let report = fed.report;
+    let command = fed.command;
+    let id = command.id;
+    let text = frames::text(piece, carry, report);
+    aim_of(call, owed, heads, octets::part(text, id.start, id.len))
 }
 
 // Allow, deny and drop concern the session with the id, done and failed the one that owes.

@@ -11,9 +11,10 @@ mod steps;
 ghost use mathlib.Core.Path.{_≡_};
 ghost use Rattle.octets.specs.Outcome.{outcome};
 ghost use Rattle.protocol.specs.Calls.{feeding, feedOf};
-ghost use Rattle.receiver_in_place.specs.Calls.{answered, calledOf};
+ghost use Rattle.receiver_in_place.specs.Calls.{answered, calledOf, fedId};
 ghost use Rattle.receiver_in_place.specs.Feeds.{fedIn};
 ghost use Rattle.receiver_in_place.specs.Heads.{headsOf};
+use calls::aim_for;
 use calls::aim_of;
 use calls::answer_at;
 use command::Command;
@@ -139,6 +140,33 @@ pub fn answer<'r, 'i, 'b>(
     let heads = heads_of(receiver);
     let owed = receiver.table.owed;
     let aim = aim_of(call, owed, heads, id);
+    let i = aim.place;
+    let left = answer_at(call, aim.found, receiver.table.sessions[i], owed, reply);
+    receiver.table.sessions[i] = left.session;
+    receiver.table.owed = left.owed;
+    AnsweredInPlace {
+        told: left.told,
+        reply_len: left.reply_len,
+    }
+}
+
+// Any other call, by the id of the command that a feed reported: where it lies, in that feed's piece or
+// in the carry.
+pub fn answer_for<'r, 'p, 'b>(
+    receiver: &'r mut Receiver,
+    call: Call,
+    fed: FedInPlace,
+    piece: &'p [u8],
+    carry: &'b mut [u8],
+    reply: &'b mut [u8],
+) -> AnsweredInPlace
+    ensures { λ a. ⌜ (outcome (answered (now (receiver .exit)) a) (now (reply .exit))
+        ≡ calledOf (now (receiver .entry)) call (fedId fed (now (piece .entry)) (now (carry .entry))) (now (reply .entry)))
+        × (now (carry .exit) ≡ now (carry .entry)) ⌝ }
+{
+    let heads = heads_of(receiver);
+    let owed = receiver.table.owed;
+    let aim = aim_for(call, owed, heads, fed, piece, carry);
     let i = aim.place;
     let left = answer_at(call, aim.found, receiver.table.sessions[i], owed, reply);
     receiver.table.sessions[i] = left.session;

@@ -1,91 +1,149 @@
-"""Prints the proof of answer: `python3 crates/receiver_in_place/tools/answer.py`, at the top of the project."""
-from printing import GIVEN, RUN, X, ending, save, tup
+"""Prints the proofs of answer and answer_for: `python3 crates/receiver_in_place/tools/answer.py`, at the top of the project."""
+from printing import GIVEN, RUN, X, ending, owning, save, tup, typed
 from steps import LOOK, SLICE, copied, fits, landed, lawful, left, looked, own, put, said
-from walk import Walk
-
-w = Walk("receiver_in_place", "answer")
-w.ctx = ["tokens", "owned"]
-w.say("qed W ((‵ (flft κ q) ⊛ ‵ (flft κi qi) ⊛ ‵ (flft κb qb) ⊛ ‵ ftrue) ∷ ‵ (owns (MutRef (named 0) κ T.the-row ∷ K.the-row ∷ ShrSlice (named 1) κi u8 ∷ MutSlice (named 2) κb u8 ∷ []) x at) ∷ []) ∵")
-for n in ("r-token", "i-token", "b-token"):
-    w.step(["tokens"], "split ! $", [n, "tokens"])
-w.drop("tokens")
-w.step(["owned"], "fsplit ! $", ["ref", "owned"])
-w.step(["owned"], "fsplit ! $ drop ! $", ["owned"])
-for n in ("id", "reply"):
-    w.step(["owned"], "fsplit ! $", [n, "owned"])
-w.drop("owned")
-w.enter("vptr b o ∷ kval ∷ ti ∷ ty ∷ []", ["(tt, tt)", lawful("EL", "K", "k", "k-is"), SLICE % "room-i", SLICE % "room-y"])
-looked(w, 5)
-w.assign(lawful("EL", "O", "w₀", "(owed-is h was)"))
-# what `aim_of` asks
-w.step([], "nothing ! $", ["end"])
-w.joined("id", "end", into="slices")
-own(w, "LL", "Hs", "heads₀", "(LL.owes Hs.the-type Hs′.the-laws heads₀ told₀)", "heads")
-own(w, "EL", "O", "w₀", "(owed-is h was)", "what is owed")
-own(w, "EL", "K", "k", "k-is", "call")
-w.joined("call", "what is owed", "heads", "slices", into="given")
-w.step([], "nothing ! $", ["end"])
-w.joined("i-token", "end", into="tokens", op="join")
-w.step(["tokens", "given"], f"join ! $ use1 W (raw (Place {X} .pre to-place)) goes-place $", ["asked"])
-w.note()
-w.call(f"Place {X}", "known-place", "to-place", "v₁")
-said(w, "₁", ("Aim", "Q"), "‵ (flft κi qi) ⊛ ‵ ftrue", "place", "(κi, tt) place-args", "Unit {0} × (Unit {0} × (Unit {0} × (Unit {0} × Unit {0})))", "({r} ≡ d₁) × ({r} .place < 4)")
-w.drop("lasts")
-w.step(["answer"], "split ! $", ["tokens", "answer"])
-w.step(["tokens"], "split ! $", ["i-token", "end"])
-w.drop("end")
-w.rewrite("answer", "(λ (z : Aim). ‵ (Q.the-row .own z (v₁ ∷ []))) (e₁ .0) refl")
-w.say("let inside : i₀ < 4 = subst (λ (z : Aim). z .place < 4) (e₁ .0) (e₁ .1) in")
-fits(w)
-landed(w, "₁", "Q", "d₁", 7)
-# the session at the place, and the reply buffer
-w.assign("(tt, record { fits = told₁ .1 .0 .1 })")
-copied(w)
-w.assign()
-w.assign(SLICE % "room-y")
-# what `answer_at` asks: the buffer is given for good
-w.step([], "nothing ! $", ["end"])
-w.joined("reply", "end", into="slices")
-own(w, "EL", "O", "w₀", "(owed-is h was)", "what is owed")
-own(w, "LL", "S", "s₁", "(session-is h was i₀ inside)", "session")
-own(w, "EL", "X", "(d₁ .found)", "(told₁ .0)", "found")
-own(w, "EL", "K", "k", "k-is", "call")
-w.joined("call", "found", "session", "what is owed", "slices", into="given")
-w.step([], "nothing ! $", ["end"])
-w.joined("b-token", "end", into="tokens", op="join")
-w.step(["tokens", "given"], f"join ! $ use1 W (raw (Step {X} .pre to-step)) goes-step $", ["asked"])
-w.note()
-w.call(f"Step {X}", "known-step", "to-step", "v₂")
-said(w, "₂", ("Left", "L"), "‵ (flft κb qb) ⊛ ‵ ftrue", "step", "(κb, tt) step-args", "Unit {0} × (Unit {0} × (Unit {0} × (Unit {0} × (List ℕ × Unit {0}))))", "outcome {r} ({zs} .1 .1 .1 .1 .0) ≡ D₂")
-for _ in range(4):
-    w.step(["lasts"], "fsplit ! $ drop ! $", ["lasts"])
-w.step(["lasts"], "fsplit ! $ fsplit ! $", ["reply-last", "length", "lasts"])
-w.step(["length"], "feqL ! (λ ly.", [])
-w.drop("lasts")
-w.step(["answer"], "split ! $", ["tokens", "answer"])
-w.step(["tokens"], "split ! $", ["b-token", "end"])
-w.drop("end")
-w.rewrite("answer", "(λ (z : Left). ‵ (L.the-row .own z (v₂ ∷ []))) (ap (λ (u : Outcome Left). u .answer) e₂) refl")
-w.rewrite("reply-last", "(λ (l : List ℕ). ‵ (finally u8 (yy .name) l)) (ap (λ (u : Outcome Left). u .buffer) e₂) refl")
-w.say("let my = ap (λ (u : Outcome Left). length (u .buffer)) (sym e₂) ∙ ly in")
-landed(w, "₂", "L", "d₂", 9)
-w.note()
-put(w, "(h .framing)")
-w.say("let answer-is = LL.owes F.the-type F′.the-laws a₂ (told₂ .1 .1 .0, (told₂ .1 .1 .1 .0, tt)) in")
-w.assign(lawful("LL", "F", "a₂", "answer-is"))
-left(w, "returns !", "h′", "(anew h was (h .framing) i₀ (d₂ .session) (d₂ .owed) (framing-is h was) (told₂ .0) (told₂ .1 .0))",
-     ("obs", "borrow", "r-token", "i-token", "b-token", "reply-last"), "(in-place-answer h k (yi .now) (yy .now) (four h was)) my answer-is")
+from walk import NAMES, Walk
 
 U8 = "(plain (λ _. u8))"
+REF = "RefT (List ℕ)"
 GHOST = "((κ, (κi, (κb, tt))), (q, (qi, (qb, tt))), tt, x, at)"
-HEAD = f"""abbrev CallS : Slot 3
-CallS = plain (λ _. K.the-row)
+
+
+def walk(by_fed):
+    """by_fed: the id lies in what a feed reported of its piece and of the carry, and not in a slice of its own"""
+    w = Walk("receiver_in_place", "answer_for" if by_fed else "answer")
+    w.names = {**NAMES, "receiver_in_place::FedInPlace": "Fd"}
+    more = 2 if by_fed else 0
+    read = ("id", "carry") if by_fed else ("id",)
+    w.ctx = ["tokens", "owned"]
+    rows = "MutRef (named 0) κ T.the-row ∷ K.the-row ∷ " + "Fd.the-row ∷ " * by_fed + "ShrSlice (named 1) κi u8 ∷ " + "MutSlice (named 2) κb u8 ∷ " * (1 + by_fed) + "[]"
+    w.say(f"qed W ((‵ (flft κ q) ⊛ ‵ (flft κi qi) ⊛ ‵ (flft κb qb) ⊛ ‵ ftrue) ∷ ‵ (owns ({rows}) x at) ∷ []) ∵")
+    for n in ("r-token", "i-token", "b-token"):
+        w.step(["tokens"], "split ! $", [n, "tokens"])
+    w.drop("tokens")
+    w.step(["owned"], "fsplit ! $", ["ref", "owned"])
+    for _ in range(1 + by_fed):
+        w.step(["owned"], "fsplit ! $ drop ! $", ["owned"])
+    for n in read + ("reply",):
+        w.step(["owned"], "fsplit ! $", [n, "owned"])
+    w.drop("owned")
+    evidence = ["(tt, tt)", lawful("EL", "K", "k", "k-is")] + [lawful("LL", "Fd", "d", "d-is")] * by_fed
+    w.enter("vptr b o ∷ kval ∷ " + "dval ∷ " * by_fed + "ti ∷ " + "tc ∷ " * by_fed + "ty ∷ []", evidence + [SLICE % f"room-{s}" for s in ("icy" if by_fed else "iy")])
+    looked(w, 5 + more)
+    w.assign(lawful("EL", "O", "w₀", "(owed-is h was)"))
+    if by_fed:
+        w.assign()
+        w.assign(SLICE % "room-c")
+    # what the session is sought by: a slice that is changed is given for good
+    w.step([], "nothing ! $", ["end"])
+    w.joined(*read, "end", into="slices")
+    if by_fed:
+        own(w, "LL", "Fd", "d", "d-is", "what was fed")
+    own(w, "LL", "Hs", "heads₀", "(LL.owes Hs.the-type Hs′.the-laws heads₀ told₀)", "heads")
+    own(w, "EL", "O", "w₀", "(owed-is h was)", "what is owed")
+    own(w, "EL", "K", "k", "k-is", "call")
+    w.joined("call", "what is owed", "heads", *["what was fed"] * by_fed, "slices", into="given")
+    w.step([], "nothing ! $", ["end"])
+    w.joined("i-token", *["b-token"] * by_fed, "end", into="tokens", op="join")
+    w.step(["tokens", "given"], f"join ! $ use1 W (raw (Place {X} .pre to-place)) goes-place $", ["asked"])
+    w.note()
+    w.call(f"Place {X}", "known-place", "to-place", "v₁")
+    lfts = "‵ (flft κi qi) ⊛ " + "‵ (flft κb qb) ⊛ " * by_fed + "‵ ftrue"
+    kinds = ["Unit {0}"] * (4 + by_fed) + ["List ℕ"] * by_fed
+    fact = "({r} ≡ d₁) × ({r} .place < 4)" + " × ({zs} .1 .1 .1 .1 .1 .0 ≡ yc .now)" * by_fed
+    said(w, "₁", ("Aim", "Q"), lfts, "place", f"({'κi, (κb, tt)' if by_fed else 'κi, tt'}) place-args", typed(*kinds), fact)
+    if by_fed:
+        for _ in range(5):
+            w.step(["lasts"], "fsplit ! $ drop ! $", ["lasts"])
+        w.step(["lasts"], "fsplit ! $ fsplit ! $", ["carry-last", "length", "lasts"])
+        w.drop("length")
+    w.drop("lasts")
+    w.step(["answer"], "split ! $", ["tokens", "answer"])
+    for n in ("i-token",) + ("b-token",) * by_fed:
+        w.step(["tokens"], "split ! $", [n, "tokens"])
+    w.drop("tokens")
+    if by_fed:
+        w.rewrite("carry-last", "(λ (l : List ℕ). ‵ (finally u8 (yc .name) l)) (e₁ .2) refl")
+    w.rewrite("answer", "(λ (z : Aim). ‵ (Q.the-row .own z (v₁ ∷ []))) (e₁ .0) refl")
+    w.say("let inside : i₀ < 4 = subst (λ (z : Aim). z .place < 4) (e₁ .0) (e₁ .1) in")
+    fits(w)
+    landed(w, "₁", "Q", "d₁", 7 + more)
+    # the session at the place, and the reply buffer
+    w.assign("(tt, record { fits = told₁ .1 .0 .1 })")
+    copied(w)
+    w.assign()
+    w.assign(SLICE % "room-y")
+    # what `answer_at` asks: the buffer is given for good
+    w.step([], "nothing ! $", ["end"])
+    w.joined("reply", "end", into="slices")
+    own(w, "EL", "O", "w₀", "(owed-is h was)", "what is owed")
+    own(w, "LL", "S", "s₁", "(session-is h was i₀ inside)", "session")
+    own(w, "EL", "X", "(d₁ .found)", "(told₁ .0)", "found")
+    own(w, "EL", "K", "k", "k-is", "call")
+    w.joined("call", "found", "session", "what is owed", "slices", into="given")
+    w.step([], "nothing ! $", ["end"])
+    w.joined("b-token", "end", into="tokens", op="join")
+    w.step(["tokens", "given"], f"join ! $ use1 W (raw (Step {X} .pre to-step)) goes-step $", ["asked"])
+    w.note()
+    w.call(f"Step {X}", "known-step", "to-step", "v₂")
+    said(w, "₂", ("Left", "L"), "‵ (flft κb qb) ⊛ ‵ ftrue", "step", "(κb, tt) step-args", typed(*["Unit {0}"] * 4, "List ℕ"), "outcome {r} ({zs} .1 .1 .1 .1 .0) ≡ D₂")
+    for _ in range(4):
+        w.step(["lasts"], "fsplit ! $ drop ! $", ["lasts"])
+    w.step(["lasts"], "fsplit ! $ fsplit ! $", ["reply-last", "length", "lasts"])
+    w.step(["length"], "feqL ! (λ ly.", [])
+    w.drop("lasts")
+    w.step(["answer"], "split ! $", ["tokens", "answer"])
+    w.step(["tokens"], "split ! $", ["b-token", "end"])
+    w.drop("end")
+    w.rewrite("answer", "(λ (z : Left). ‵ (L.the-row .own z (v₂ ∷ []))) (ap (λ (u : Outcome Left). u .answer) e₂) refl")
+    w.rewrite("reply-last", "(λ (l : List ℕ). ‵ (finally u8 (yy .name) l)) (ap (λ (u : Outcome Left). u .buffer) e₂) refl")
+    w.say("let my = ap (λ (u : Outcome Left). length (u .buffer)) (sym e₂) ∙ ly in")
+    landed(w, "₂", "L", "d₂", 9 + more)
+    w.note()
+    put(w, "(h .framing)")
+    w.say("let answer-is = LL.owes F.the-type F′.the-laws a₂ (told₂ .1 .1 .0, (told₂ .1 .1 .1 .0, tt)) in")
+    w.assign(lawful("LL", "F", "a₂", "answer-is"))
+    left(w, "returns !", "h′", "(anew h was (h .framing) i₀ (d₂ .session) (d₂ .owed) (framing-is h was) (told₂ .0) (told₂ .1 .0))",
+         ("obs", "borrow", "r-token", "i-token", "b-token") + ("carry-last",) * by_fed + ("reply-last",), f"(in-place-answer h k {'ids' if by_fed else '(yi .now)'} (yy .now) (four h was)) my answer-is")
+    return w
+
+
+def printed(by_fed):
+    w = walk(by_fed)
+    function = "answer_for" if by_fed else "answer"
+    sought = "ids" if by_fed else "(yi .now)"
+    args = ("k", *["d"] * by_fed, "yi", *["yc"] * by_fed, "yy")
+    kinds = ("Call", *["FedInPlace"] * by_fed, REF, *[REF] * by_fed, REF)
+    vals = ("kval", *["dval"] * by_fed, "ti", *["tc"] * by_fed, "ty")
+    passed = ("k", "w₀", "heads₀", *["d"] * by_fed, "yi", *["yc"] * by_fed)
+    given = ("kval ∷ []", "oval w₀ ∷ []", "hval ∷ []", *["dval ∷ []"] * by_fed, "ti ∷ []", *["tc ∷ []"] * by_fed)
+    owned = ["K.the-row .own k (kval ∷ [])", "O.the-row .own w₀ (oval w₀ ∷ [])", "Hs.the-row .own heads₀ (hval ∷ [])"] + ["Fd.the-row .own d (dval ∷ [])"] * by_fed
+    owned += ["ShrSlice (named 0) κi u8 .own yi (ti ∷ [])"] + ["MutSlice (named 1) κb u8 .own yc (tc ∷ [])"] * by_fed
+    fed_slot = "\n\nabbrev FedS : Slot 3\nFedS = plain (λ _. Fd.the-row)" if by_fed else ""
+    fed_vals = """
+  abbrev dval : Val
+  dval = LL.val Fd.the-type Fd′.the-laws d
+
+  abbrev tc : Val
+  tc = sliceVal (yc .ptr) (length (yc .now))
+
+  -- the id that was fed
+  abbrev ids : List ℕ
+  ids = fedId d (yi .now) (yc .now)
+""" if by_fed else ""
+    tokens, held = ("sep 𝓤 (A .lft κi qi) (sep 𝓤 (A .lft κb qb) (sem 𝓤 H A ftrue))", "‵ (flft κi qi) ⊛ ‵ (flft κb qb) ⊛ ‵ ftrue") if by_fed else ("sep 𝓤 (A .lft κi qi) (sem 𝓤 H A ftrue)", "‵ (flft κi qi) ⊛ ‵ ftrue")
+    carry, carried = ("(sep 𝓤 (sem 𝓤 H A (finally u8 (yc .name) (yc .now))) ", "‵ (finally u8 (yc .name) (yc .now)) ∷ ") if by_fed else ("", "")
+    gone = ["stay-dropped CallS yes"] + ["stay-dropped FedS yes"] * by_fed + ["stay-dropped IdS yes"] + [f"gave-slice (2 ∷ []) tt {U8}"] * (1 + by_fed)
+    ends = tup("h′", "tt", *["tt"] * by_fed, "tt", *["yc .now"] * by_fed, "D₂ .buffer")
+    fit = tup("tt", "tt", *["tt"] * by_fed, "tt", *["refl"] * by_fed, "ly")
+    joins = "move ! (3 ∷ 0 ∷ []) $ fjoin ! $ move ! (2 ∷ 0 ∷ []) $ fjoin ! $ nothing ! $ fjoin ! $" if by_fed else "move ! (2 ∷ 0 ∷ []) $ fjoin ! $"
+    head = f"""abbrev CallS : Slot 3
+CallS = plain (λ _. K.the-row){fed_slot}
 
 abbrev IdS : Slot 3
 IdS = shrSliceOf (1 ∷ []) tt {U8}
 
 abbrev stayed : Stays (f.ended .signature .params) (f.ended .kept)
-stayed = (stay-ref (0 ∷ []) tt (plain (λ _. T.the-row)), (stay-dropped CallS yes, (stay-dropped IdS yes, (gave-slice (2 ∷ []) tt {U8}, tt))))
+stayed = {tup("stay-ref (0 ∷ []) tt (plain (λ _. T.the-row))", *gone)}
 
 module _ {GIVEN} {RUN} where
   -- the contracts that the proof cites
@@ -98,23 +156,23 @@ module _ {GIVEN} {RUN} where
   abbrev Step : Contract 𝓤
   Step = tripleOf 𝓤 H A step.signature (step.spec {X})
 
-module _ {GIVEN} (W : Given 𝓤 H A) {RUN} (κ κi κb : Lft) (q qi qb : Share) (b o : ℕ) (γ : GName) (h : Receiver) (k : Call) (yi yy : RefT (List ℕ)) where
+module _ {GIVEN} (W : Given 𝓤 H A) {RUN} (κ κi κb : Lft) (q qi qb : Share) (b o : ℕ) (γ : GName) (h : Receiver) (k : Call) {'(d : FedInPlace) ' * by_fed}(yi {'yc ' * by_fed}yy : {REF}) where
 {LOOK}
-  abbrev x : RefT Receiver × (Call × (RefT (List ℕ) × (RefT (List ℕ) × Unit {{0}})))
-  x = {tup('lent γ', 'k', 'yi', 'yy')}
+  abbrev x : {typed('RefT Receiver', *kinds)}
+  x = {tup('lent γ', *args)}
 
   -- machine values
   abbrev kval : Val
   kval = EL.val K.the-type K′.the-laws k
-
+{fed_vals}
   abbrev ti : Val
   ti = sliceVal (yi .ptr) (length (yi .now))
 
   abbrev ty : Val
   ty = sliceVal (yy .ptr) (length (yy .now))
 
-  abbrev at : List Val × (List Val × (List Val × (List Val × Unit {{0}})))
-  at = {tup('vptr b o ∷ []', 'kval ∷ []', 'ti ∷ []', 'ty ∷ []')}
+  abbrev at : {typed(*['List Val'] * (len(vals) + 1))}
+  at = {tup('vptr b o ∷ []', *(f'{v} ∷ []' for v in vals))}
 
   abbrev Post : Val → SProp 𝓤
   Post = walkOf 𝓤 H A f.ended stayed (f.clauses {X}) .post ({GHOST}, tt)
@@ -124,7 +182,7 @@ module _ {GIVEN} (W : Given 𝓤 H A) {RUN} (κ κi κb : Lft) (q qi qb : Share)
   w₀ = h .table .owed
 
   abbrev d₁ : Aim
-  d₁ = aimed (concerned k w₀ heads₀ (yi .now))
+  d₁ = aimed (concerned k w₀ heads₀ {sought})
 
   abbrev i₀ : ℕ
   i₀ = d₁ .place
@@ -148,22 +206,22 @@ module _ {GIVEN} (W : Given 𝓤 H A) {RUN} (κ κi κb : Lft) (q qi qb : Share)
   aval = LL.val F.the-type F′.the-laws a₂
 
   -- what the callees' triples bind outside, and what they ask
-  abbrev place-args : Call × (Owed × (Heads × (RefT (List ℕ) × Unit {{0}})))
-  place-args = {tup('k', 'w₀', 'heads₀', 'yi')}
+  abbrev place-args : {typed('Call', 'Owed', 'Heads', *['FedInPlace'] * by_fed, REF, *[REF] * by_fed)}
+  place-args = {tup(*passed)}
 
   abbrev to-place : Place {X} .Ghost
-  to-place = (((κi, tt), (qi, tt), tt, place-args, {tup('kval ∷ []', 'oval w₀ ∷ []', 'hval ∷ []', 'ti ∷ []')}), tt)
+  to-place = (({'(κi, (κb, tt)), (qi, (qb, tt))' if by_fed else '(κi, tt), (qi, tt)'}, tt, place-args, {tup(*given)}), tt)
 
   abbrev PlaceOwn : Fml
-  PlaceOwn = fsep (K.the-row .own k (kval ∷ [])) (fsep (O.the-row .own w₀ (oval w₀ ∷ [])) (fsep (Hs.the-row .own heads₀ (hval ∷ [])) (fsep (ShrSlice (named 0) κi u8 .own yi (ti ∷ [])) ftrue)))
+  PlaceOwn = {owning(*owned)}
 
-  goes-place : ent 𝓤 (sep 𝓤 (sep 𝓤 (A .lft κi qi) (sem 𝓤 H A ftrue)) (sem 𝓤 H A PlaceOwn)) (Place {X} .pre to-place)
-  goes-place = qed W (((‵ (flft κi qi) ⊛ ‵ ftrue) ⊛ ‵ PlaceOwn) ∷ []) ∵ frame ! $ done !
+  goes-place : ent 𝓤 (sep 𝓤 ({tokens}) (sem 𝓤 H A PlaceOwn)) (Place {X} .pre to-place)
+  goes-place = qed W ((({held}) ⊛ ‵ PlaceOwn) ∷ []) ∵ frame ! $ done !
 
   abbrev xval : Val
   xval = EL.val X.the-type X′.the-laws (d₁ .found)
 
-  abbrev step-args : Call × (Found × (Session × (Owed × (RefT (List ℕ) × Unit {{0}}))))
+  abbrev step-args : {typed('Call', 'Found', 'Session', 'Owed', REF)}
   step-args = {tup('k', 'd₁ .found', 's₁', 'w₀', 'yy')}
 
   abbrev to-step : Step {X} .Ghost
@@ -176,24 +234,33 @@ module _ {GIVEN} (W : Given 𝓤 H A) {RUN} (κ κi κb : Lft) (q qi qb : Share)
   goes-step = qed W (((‵ (flft κb qb) ⊛ ‵ ftrue) ⊛ ‵ StepOwn) ∷ []) ∵ frame ! $ done !
 
   -- the walk's end
-  exits : outcome (answered h′ a₂) (D₂ .buffer) ≡ calledOf h k (yi .now) (yy .now) → length (D₂ .buffer) ≡ length (yy .now) → Is F.the-row a₂ (aval ∷ [])
-      → ent 𝓤 (sep 𝓤 (A .obs γ (T.the-row .coded .code h′)) (sep 𝓤 (A .bor κ (Body (mem T.the-row) b o γ)) (sep 𝓤 (A .lft κ q) (sep 𝓤 (A .lft κi qi) (sep 𝓤 (A .lft κb qb) (sem 𝓤 H A (finally u8 (yy .name) (D₂ .buffer)))))))) (Post aval)
+  exits : outcome (answered h′ a₂) (D₂ .buffer) ≡ calledOf h k {sought} (yy .now) → length (D₂ .buffer) ≡ length (yy .now) → Is F.the-row a₂ (aval ∷ [])
+      → ent 𝓤 (sep 𝓤 (A .obs γ (T.the-row .coded .code h′)) (sep 𝓤 (A .bor κ (Body (mem T.the-row) b o γ)) (sep 𝓤 (A .lft κ q) (sep 𝓤 (A .lft κi qi) (sep 𝓤 (A .lft κb qb) {carry}(sem 𝓤 H A (finally u8 (yy .name) (D₂ .buffer))){')' * by_fed}))))) (Post aval)
   exits e ly is =
-      qed W (‵ (fobs γ (T.the-row .coded .code h′)) ∷ ‵ (fbor κ (Body (mem T.the-row) b o γ)) ∷ ‵ (flft κ q) ∷ ‵ (flft κi qi) ∷ ‵ (flft κb qb) ∷ ‵ (finally u8 (yy .name) (D₂ .buffer)) ∷ []) ∵
-      suffices ! _ (ends-at 𝓤 H A f.ended stayed (f.clauses {X}) W ({GHOST}, tt) aval a₂ {tup('h′', 'tt', 'tt', 'D₂ .buffer')} {tup('tt', 'tt', 'tt', 'ly')}) $ says ! e $
+      qed W (‵ (fobs γ (T.the-row .coded .code h′)) ∷ ‵ (fbor κ (Body (mem T.the-row) b o γ)) ∷ ‵ (flft κ q) ∷ ‵ (flft κi qi) ∷ ‵ (flft κb qb) ∷ {carried}‵ (finally u8 (yy .name) (D₂ .buffer)) ∷ []) ∵
+      suffices ! _ (ends-at 𝓤 H A f.ended stayed (f.clauses {X}) W ({GHOST}, tt) aval a₂ {ends} {fit}) $ says ! {'(e, refl)' if by_fed else 'e'} $
       nothing ! $ move ! (5 ∷ 0 ∷ []) $ join ! $ move ! (4 ∷ 0 ∷ []) $ join ! $ move ! (3 ∷ 0 ∷ []) $ join ! $ frame ! $ feqI ! (List Val) (vptr b o ∷ []) (vptr b o ∷ []) refl $ fjoin3 ! $
-      -- [what the receiver's borrow owns; the last list]
-      nothing ! $ move ! (2 ∷ 0 ∷ []) $ fjoin ! $ nothing ! $ fjoin ! $ nothing ! $ fjoin ! $ move ! (1 ∷ 0 ∷ []) $ fjoin ! $
+      -- [what the receiver's borrow owns; the last list{'s' * by_fed}]
+      nothing ! $ {joins} nothing ! $ fjoin ! $ nothing ! $ fjoin ! $ move ! (1 ∷ 0 ∷ []) $ fjoin ! $
       owned ! F.the-row (Is F.the-row) (LL.makes F.the-type F′.the-plain 𝓤 H A) a₂ _ is $ move ! (1 ∷ 0 ∷ []) $ done !
 
   module _ (C : Calls 𝓤 H) (Λ : Loops 𝓤 H) (fm : FmC 𝓤 H (W .laws) C) (known-look : Triple 𝓤 (C #look) (Look {X})) (known-place : Triple 𝓤 (C #place) (Place {X})) (known-step : Triple 𝓤 (C #step) (Step {X})) where
-    walk : Is K.the-row k (kval ∷ []) → Room u8 (length (yi .now)) → Room u8 (length (yy .now)) → ent 𝓤 (onEntry 𝓤 H A f.signature (κ, (κi, (κb, tt))) (q, (qi, (qb, tt))) x at) (WpFn 𝓤 H C Λ code.function (vptr b o ∷ kval ∷ ti ∷ ty ∷ []) Post)
-    walk k-is room-i room-y =
+    walk : Is K.the-row k (kval ∷ []) → {'Is Fd.the-row d (dval ∷ []) → ' * by_fed}Room u8 (length (yi .now)) → {'Room u8 (length (yc .now)) → ' * by_fed}Room u8 (length (yy .now)) → ent 𝓤 (onEntry 𝓤 H A f.signature (κ, (κi, (κb, tt))) (q, (qi, (qb, tt))) x at) (WpFn 𝓤 H C Λ code.function (vptr b o ∷ {' ∷ '.join(vals)} ∷ []) Post)
+    walk k-is {'d-is ' * by_fed}room-i {'room-c ' * by_fed}room-y =
 """
-CALLEES = (("look", "heads_of"), ("place", "calls.aim_of"), ("step", "calls.answer_at"))
-ROWS = [("ptr-vals", "mut-tells (named 0) (κs .0) T.the-row"), ("EL.vals K.the-type K′.the-laws", "EL.tells K.the-type K′.the-laws"),
-        ("slice-vals", "shr-slice-tells (named 1) (κs .1 .0) u8"), ("slice-vals", "mut-slice-tells (named 2) (κs .1 .1 .0) u8")]
-GOES = ["goes-ref 𝓤 H A W 3 0 tt (plain (λ _. T.the-row))", "goes-dropped 𝓤 H A W 3 CallS yes (λ κs x f. refl)", "goes-dropped 𝓤 H A W 3 IdS yes (λ κs x f. refl)", f"goes-gave-slice 𝓤 H A W 3 2 tt {U8}"]
-WALK = ("walk 𝓤 H A W at-mem run (κs .0) (κs .1 .0) (κs .1 .1 .0) (qs .0) (qs .1 .0) (qs .1 .1 .0) (a .0 .ptr .0) (a .0 .ptr .1) (a .0 .name) (a .0 .now) (a .1 .0) (a .1 .1 .0) (a .1 .1 .1 .0)\n"
-        "      C Λ fm known-look known-place known-step (are .1 .0) (are .1 .1 .0 .0 .1) (are .1 .1 .1 .0 .0 .1)")
-save("answer", "`answer` meets its contract: a walk of its MIR. The receiver is lent to `heads_of` and comes back; its borrow is opened and stays open; the session at the place is copied out, stepped and stored.", HEAD + w.text() + "\n" + ending("answer", 3, ROWS, GOES, WALK, CALLEES), CALLEES)
+    callees = (("look", "heads_of"), ("place", "calls.aim_for" if by_fed else "calls.aim_of"), ("step", "calls.answer_at"))
+    mut = ("slice-vals", "mut-slice-tells (named 2) (κs .1 .1 .0) u8")
+    rows = [("ptr-vals", "mut-tells (named 0) (κs .0) T.the-row"), ("EL.vals K.the-type K′.the-laws", "EL.tells K.the-type K′.the-laws")]
+    rows += [("LL.vals Fd.the-type Fd′.the-laws", "LL.tells Fd.the-type Fd′.the-laws")] * by_fed + [("slice-vals", "shr-slice-tells (named 1) (κs .1 .0) u8")] + [mut] * (1 + by_fed)
+    slots = ["CallS"] + ["FedS"] * by_fed + ["IdS"]
+    goes = ["goes-ref 𝓤 H A W 3 0 tt (plain (λ _. T.the-row))"] + [f"goes-dropped 𝓤 H A W 3 {s} yes (λ κs x f. refl)" for s in slots] + [f"goes-gave-slice 𝓤 H A W 3 2 tt {U8}"] * (1 + by_fed)
+    at = [".1" + " .1" * n + " .0" for n in range(len(args))]
+    known = [at[0]] + [at[1]] * by_fed + [f"{a} .0 .1" for a in at[1 + by_fed:]]
+    run = ("walk 𝓤 H A W at-mem run (κs .0) (κs .1 .0) (κs .1 .1 .0) (qs .0) (qs .1 .0) (qs .1 .1 .0) (a .0 .ptr .0) (a .0 .ptr .1) (a .0 .name) (a .0 .now) " + " ".join(f"(a {a})" for a in at) + "\n"
+           "      C Λ fm known-look known-place known-step " + " ".join(f"(are {a})" for a in known))
+    about = f"`{function}` meets its contract: a walk of its MIR. The receiver is lent to `heads_of` and comes back; its borrow is opened and stays open; the session at the place is copied out, stepped and stored."
+    save(function, about, head + w.text() + "\n" + ending(function, 3, rows, goes, run, callees), callees, "answer")
+
+
+printed(False)
+printed(True)

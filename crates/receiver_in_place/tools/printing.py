@@ -17,6 +17,16 @@ def tup(*xs):
     return "(" + ", (".join(xs) + ", tt" + ")" * len(xs) if xs else "tt"
 
 
+def typed(*types):
+    """the type of a pair of a pair .. of tt"""
+    return " × (".join(types) + " × Unit {0}" + ")" * (len(types) - 1)
+
+
+def owning(*parts):
+    """what each owns, nested to the right"""
+    return "".join(f"fsep ({p}) (" for p in parts[:-1]) + f"fsep ({parts[-1]}) ftrue" + ")" * (len(parts) - 1)
+
+
 def needed(text, uses):
     """the `use` lines of which something stands in the text"""
     words = set()
@@ -99,38 +109,43 @@ def split_use(line):
     return out + [f"use {m.group(1)}.{{{', '.join(now)}}}"]
 
 
-def save(function, about, body, callees=()):
+def save(function, about, body, callees=(), script=None):
     uses = open(os.path.join(HERE, "uses.txt")).read()
     if function == "feed":
         uses = uses.replace("AnsweredInPlace as F", "FedInPlace as F").replace("AnsweredInPlace.Laws as F", "FedInPlace.Laws as F")
     own = "".join(callee(s, m) for s, m in callees)
     own += f"use {OWN}.{function}.Key.{{name as #f}}\nuse {OWN}.{function} as f\nuse {OWN}.{function}.Statement as stated\nuse {OWN}.{function}.Code as code\n"
-    text = f"-- {about}\n-- Printed by tools/{function}.py. Assumes nothing.\n" + needed(body, uses) + own + "\n" + body
+    text = f"-- {about}\n-- Printed by tools/{script or function}.py. Assumes nothing.\n" + needed(body, uses) + own + "\n" + body
     path = os.path.join(ROOT, "crates", CRATE, "proofs", function)
     os.makedirs(path, exist_ok=True)
     open(os.path.join(path, "Proof.antt"), "w").write(laid(text))
 
 
-def ending(function, slots, rows, goes, walk, callees):
-    """from the walk to the statement. slots: how many lifetimes; rows: (values, tells) of each parameter; goes: of each; walk: its arguments; callees: (short, module)"""
+def ending(function, slots, rows, goes, walk, callees, crates={}, tables="C Λ fm"):
+    """from the walk to the statement. slots: how many lifetimes; rows: (values, tells) of each parameter; goes: of each; walk: its arguments; callees: (short, module); crates: of the
+    callees that another crate has; tables: what the walk takes, 𝓣 where it has a loop"""
     known = " ".join(f"known-{s}" for s, _ in callees)
     triples = "".join(f" → Triple 𝓤 (@ #{s}) ({s.capitalize()} {X})" for s, _ in callees)
     at_c, at_t = triples.replace("@", "C"), triples.replace("@", "𝓣 .C")
     cites = "".join(
-        f"\n    (cited 𝓤 H ({s.capitalize()} 𝓤 H (𝓖 .A) (𝓜 .mem) (𝓡 .run)) 𝓜 𝓡 code.env #{s} {s}-def.routine code.calls-receiver-in-place·{m.replace('.', '·').replace('_', '-')} ({s}-thm.met 𝓤 H 𝓜 𝓖 𝓡))"
+        f"\n    (cited 𝓤 H ({s.capitalize()} 𝓤 H (𝓖 .A) (𝓜 .mem) (𝓡 .run)) 𝓜 𝓡 code.env #{s} {s}-def.routine code.calls-{crates.get(s, 'receiver-in-place')}·{m.replace('.', '·').replace('_', '-')} ({s}-thm.met 𝓤 H 𝓜 𝓖 𝓡))"
         for s, m in callees)
     name = function.replace("_", "-")
+    loop = tables == "𝓣"
+    bound = f"(𝓣 : Tables 𝓤 H){at_t}" if loop else f"(C : Calls 𝓤 H) (Λ : Loops 𝓤 H) → FmC 𝓤 H (W .laws) C{at_c}"
+    run = "(𝓣 .C) (𝓣 .Λ)" if loop else "C Λ"
+    given = "𝓣" if loop else "(𝓣 .C) (𝓣 .Λ) (fmOf 𝓤 H (W .laws) 𝓣)"
     return f"""
 module _ {GIVEN} (W : Given 𝓤 H A) {RUN} where
-  f-walks : (C : Calls 𝓤 H) (Λ : Loops 𝓤 H) → FmC 𝓤 H (W .laws) C{at_c} → Walks 𝓤 H A f.ended stayed (WpFn 𝓤 H C Λ code.function) (f.clauses {X})
-  f-walks C Λ fm {known} = walked 𝓤 H A f.ended stayed (f.clauses {X}) (WpFn 𝓤 H C Λ code.function) (λ κs. {tup(*(v for v, _ in rows))})
+  f-walks : {bound} → Walks 𝓤 H A f.ended stayed (WpFn 𝓤 H {run} code.function) (f.clauses {X})
+  f-walks {tables} {known} = walked 𝓤 H A f.ended stayed (f.clauses {X}) (WpFn 𝓤 H {run} code.function) (λ κs. {tup(*(v for v, _ in rows))})
       (λ κs. {tup(*(t for _, t in rows))})
       (λ κs qs bounds a g are. via 𝓤 _ (fst∗ 𝓤 _ (emp 𝓤)) ({walk}))
 
 f-meets : {GIVEN} → Given 𝓤 H A → {RUN} (𝓣 : Tables 𝓤 H){at_t} → Meets 𝓤 H A f.signature (WpFn 𝓤 H (𝓣 .C) (𝓣 .Λ) code.function) (f.spec {X})
 f-meets 𝓤 H A W at-mem run 𝓣 {known} =
     walk-meets 𝓤 H A f.ended stayed W {tup(*goes)} (f.clauses {X})
-    (WpFn 𝓤 H (𝓣 .C) (𝓣 .Λ) code.function) (WpFn-mono 𝓤 H (W .laws) 𝓣 code.function) (f-walks 𝓤 H A W at-mem run (𝓣 .C) (𝓣 .Λ) (fmOf 𝓤 H (W .laws) 𝓣) {known})
+    (WpFn 𝓤 H (𝓣 .C) (𝓣 .Λ) code.function) (WpFn-mono 𝓤 H (W .laws) 𝓣 code.function) (f-walks 𝓤 H A W at-mem run {given} {known})
 
 pub {name}-spec : {{M : Type 1}} → stated.statement M
 unfolding code.routine tablesOf

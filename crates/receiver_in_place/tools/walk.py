@@ -351,9 +351,10 @@ class Walk:
         """the next statement, a call, with what the callee asks at the head; the result's machine value is bound"""
         s = self.todo.pop(0)
         assert s[0] == "call", s
-        self.say(f"calls-at ! fm ({contract}) {known} ({ghost}) {self.operands(items(s[2]))} (λ {result}.")
+        self.last = "" if self.todo else "-last"
+        self.say(f"calls-at{self.last} ! fm ({contract}) {known} ({ghost}) {self.operands(items(s[2]))} (λ {result}.")
         self.ctx = self.ctx[1:]
         self.landing = s[3]
 
     def land(self, evidence):
-        self.say(f"land ! {self.write(self.landing, evidence, None)} $")
+        self.say(f"land{self.last} ! {self.write(self.landing, evidence, None)} $")

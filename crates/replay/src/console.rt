@@ -1,102 +1,168 @@
-// The console of a replay.
-ghost use Prim.Native.Nat.{_≤_};
+// The console of a replay: it allows a session that waits for the user, and answers done to whatever is
+// asked. The receiver lies in one place for a whole piece, and is lent to each call.
+ghost use Prim.Native.Nat.{_-_, _≤_};
 ghost use lib.ListN.{length};
-use protocol::Answered;
-use protocol::Fed;
 use protocol::Receiver;
 use protocol::Told;
+use receiver_in_place::Call;
+use receiver_in_place::FedInPlace;
 use streams::Run;
 
-// The receiver after a call, how many bytes of the piece were consumed, and how the run stands.
-pub struct Turn {
+// The receiver after a piece, and how the run stands.
+pub struct Taken {
     pub receiver: Receiver,
-    pub used: usize,
     pub run: Run,
 }
 
+// Where a piece goes on, and how the run stands. Where something failed, it goes on at its end.
+pub struct Onward {
+    pub at: usize,
+    pub run: Run,
+}
+
+// What follows a feed: how the run stands once its reply is written, and the call to answer with, or
+// where the piece goes on if nothing is to answer.
+pub struct Plan {
+    pub run: Run,
+    pub call: Call,
+    pub is_over: bool,
+    pub onward: Onward,
+}
+
+// ---- What makes or passes on a `&mut Receiver` is proved by a walk, and decides nothing.
 // Feeds a piece until it is consumed or something fails.
-pub(crate) fn take(
+pub(crate) fn take<'p, 'b>(
     before: Receiver,
-    piece: &[u8],
-    carry: &mut [u8],
-    scratch: &mut [u8],
-    reply: &mut [u8],
-) -> Turn {
+    run: Run,
+    piece: &'p [u8],
+    carry: &'b mut [u8],
+    scratch: &'b mut [u8],
+    reply: &'b mut [u8],
+) -> Taken {
     let mut receiver = before;
-    let mut run = Run::Well;
-    let mut at = 0;
-    while at < piece.len() {
-        let turn = feed(receiver, &piece[at..], carry, scratch, reply);
-        let next = turn.receiver;
-        receiver = next;
-        run = turn.run;
-        let used = turn.used;
-        if !run.is_well() {
-            break;
-        }
-        if used == 0 {
-            run = Run::Stuck;
-            break;
-        }
-        at += used;
+    let mut onward = Onward { at: 0, run: run };
+    while onward.at < piece.len() {
+        onward = turn(&mut receiver, piece, onward.at, carry, scratch, reply);
     }
-    Turn {
+    Taken {
         receiver: receiver,
-        used: at,
-        run: run,
+        run: onward.run,
     }
 }
 
-// Feeds a piece through the first thing to report, and answers that.
-fn feed(
-    receiver: Receiver,
-    piece: &[u8],
-    carry: &mut [u8],
-    scratch: &mut [u8],
-    reply: &mut [u8],
-) -> Turn
-    ensures { λ t. ⌜ t .used ≤ length (now (piece .entry)) ⌝ }
+// Feeds a piece from a place on through the first thing to report, and answers that. At least one byte
+// less is left.
+fn turn<'r, 'p, 'b>(
+    receiver: &'r mut Receiver,
+    piece: &'p [u8],
+    at: usize,
+    carry: &'b mut [u8],
+    scratch: &'b mut [u8],
+    reply: &'b mut [u8],
+) -> Onward
+    ensures { λ o. ⌜ length (now (piece .entry)) - o .at ≤ (length (now (piece .entry)) - at) - 1 ⌝ }
 {
-    let fed = receiver::feed(receiver, piece, carry, scratch, reply);
-    let used = fed.consumed;
-    let report = fed.report;
-    let sent = send(Run::Well, reply, fed.reply_len);
-    let answered = answer(fed, frames::text(piece, carry, report), reply);
-    let next = answered.receiver;
-    Turn {
-        receiver: next,
-        used: used,
-        run: send(sent, reply, answered.reply_len),
+    let left = rest(piece, at);
+    let fed = receiver_in_place::feed(receiver, left, carry, scratch, reply);
+    let plan = planned(fed, at, piece.len(), reply);
+    if plan.is_over {
+        return plan.onward;
     }
+    let answered = receiver_in_place::answer_for(receiver, plan.call, fed, left, carry, reply);
+    finish(
+        plan.run,
+        answered.reply_len,
+        at,
+        fed.consumed,
+        piece.len(),
+        reply,
+    )
 }
 
-// Allows a session that waits for the user, and answers done to whatever is asked.
-fn answer(fed: Fed, text: &[u8], reply: &mut [u8]) -> Answered {
-    let receiver = fed.receiver;
+// ---- What is decided and written.
+// What of a piece is left at a place.
+fn rest<'p>(piece: &'p [u8], at: usize) -> &'p [u8]
+    ensures { λ r. ⌜ length (now r) ≤ length (now (piece .entry)) ⌝ }
+{
+    if at > piece.len() {
+        return &piece[..0];
+    }
+    &piece[at..]
+}
+
+// Writes the feed's reply, and plans what follows.
+fn planned<'b>(fed: FedInPlace, at: usize, len: usize, reply: &'b mut [u8]) -> Plan
+    ensures { λ p. ⌜ len - p .onward .at ≤ (len - at) - 1 ⌝ }
+{
     let told = fed.told;
-    let command = fed.command;
-    match told {
-        Told::Asked => {
-            let id = command.id;
-            receiver::allow(receiver, octets::part(text, id.start, id.len), reply)
-        }
-        Told::Ask(_) => receiver::done(receiver, reply),
-        Told::Nothing => unanswered(receiver),
-        Told::Refused(_) => unanswered(receiver),
-        Told::Ignored => unanswered(receiver),
-        Told::Status(_) => unanswered(receiver),
-        Told::Withdrawn => unanswered(receiver),
-        Told::Discarded => unanswered(receiver),
-        Told::Committed => unanswered(receiver),
+    let run = send(Run::Well, reply, fed.reply_len);
+    Plan {
+        run: run,
+        call: call_for(told),
+        is_over: is_over(told),
+        onward: moved(run, at, fed.consumed, len),
     }
 }
 
-// The receiver as it is, and no reply.
-fn unanswered(receiver: Receiver) -> Answered {
-    Answered {
-        receiver: receiver,
-        told: Told::Nothing,
-        reply_len: 0,
+fn call_for(told: Told) -> Call {
+    match told {
+        Told::Asked => Call::Allow,
+        Told::Ask(_) => Call::Done,
+        Told::Nothing => Call::Done,
+        Told::Refused(_) => Call::Done,
+        Told::Ignored => Call::Done,
+        Told::Status(_) => Call::Done,
+        Told::Withdrawn => Call::Done,
+        Told::Discarded => Call::Done,
+        Told::Committed => Call::Done,
+    }
+}
+
+// Whether nothing is to answer.
+fn is_over(told: Told) -> bool {
+    match told {
+        Told::Asked => false,
+        Told::Ask(_) => false,
+        Told::Nothing => true,
+        Told::Refused(_) => true,
+        Told::Ignored => true,
+        Told::Status(_) => true,
+        Told::Withdrawn => true,
+        Told::Discarded => true,
+        Told::Committed => true,
+    }
+}
+
+// Writes an answer's reply.
+fn finish<'b>(run: Run, n: usize, at: usize, used: usize, len: usize, reply: &'b mut [u8]) -> Onward
+    ensures { λ o. ⌜ len - o .at ≤ (len - at) - 1 ⌝ }
+{
+    moved(send(run, reply, n), at, used, len)
+}
+
+// After so many bytes used at a place: the next place, or the end where the run failed or nothing was
+// used.
+fn moved(run: Run, at: usize, used: usize, len: usize) -> Onward
+    ensures { λ o. ⌜ len - o .at ≤ (len - at) - 1 ⌝ }
+{
+    if !run.is_well() {
+        return Onward { at: len, run: run };
+    }
+    if used == 0 {
+        return Onward {
+            at: len,
+            run: Run::Stuck,
+        };
+    }
+    if at > len {
+        return Onward { at: len, run: run };
+    }
+    if used > len - at {
+        return Onward { at: len, run: run };
+    }
+    Onward {
+        at: at + used,
+        run: run,
     }
 }
 

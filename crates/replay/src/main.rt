@@ -29,7 +29,14 @@ fn replay() -> Run {
         if n == 0 {
             break;
         }
-        let turn = console::take(receiver, &piece[..n], &mut carry, &mut scratch, &mut reply);
+        let turn = console::take(
+            receiver,
+            Run::Well,
+            &piece[..n],
+            &mut carry,
+            &mut scratch,
+            &mut reply,
+        );
         let run = turn.run;
         if !run.is_well() {
             return run;
