@@ -32,6 +32,22 @@ pub(crate) fn again(receiver: Receiver) -> Receiver {
     unseen(unseen(receiver, b"ac=cancel", b""), b"ac=send", b"")
 }
 
+pub(crate) fn with_receiver(state: Console, receiver: Receiver) -> Console {
+    Console {
+        receiver: receiver,
+        ..state
+    }
+}
+
+// A word that stands for nothing.
+pub(crate) fn bad(state: Console) -> Console {
+    let run = state.run;
+    Console {
+        run: run.text(b" no such word"),
+        ..state
+    }
+}
+
 // The command of some fields and a value after them, its reply printed.
 pub(crate) fn seen<'a>(before: Console, fields: &'a [u8], value: &'a [u8]) -> Console {
     let mut reply = [0u8; Reply::ROOM];

@@ -65,23 +65,23 @@ fn perform<'a>(state: Console, word: &'a [u8], operand: &'a [u8]) -> Console {
     if octets::equal(word, b"end") {
         return part(state, b"ac=end_data;fid=a;d=", number(operand));
     }
-    let receiver = state.receiver;
-    Console {
-        receiver: prepare(receiver, word, number(operand)),
-        ..state
-    }
+    prepare(state, word, number(operand))
 }
 
-// `fill`, `count` or `again`: the receiver is made ready, and nothing printed. No stream of a bearable
-// length brings a count near its limit.
-fn prepare(receiver: Receiver, word: &[u8], n: u64) -> Receiver {
+// `fill`, `count` or `again`: the receiver is made ready, and nothing printed; another word is said to be
+// none. No stream of a bearable length brings a count near its limit.
+fn prepare(state: Console, word: &[u8], n: u64) -> Console {
+    let receiver = state.receiver;
     if octets::equal(word, b"fill") {
-        return filled(receiver, n);
+        return console::with_receiver(state, filled(receiver, n));
     }
     if octets::equal(word, b"count") {
-        return console::with_count(receiver, n);
+        return console::with_receiver(state, console::with_count(receiver, n));
     }
-    console::again(receiver)
+    if octets::equal(word, b"again") {
+        return console::with_receiver(state, console::again(receiver));
+    }
+    console::bad(state)
 }
 
 // The file a, with the fields that the item adds.
