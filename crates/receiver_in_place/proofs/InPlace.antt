@@ -49,9 +49,9 @@ use Rattle.receiver.specs.declared.acts.Said.{Said}
 use Rattle.receiver.proofs.SaidLaws.{said-acts}
 use Rattle.receiver_in_place.specs.Heads.{headsOf}
 use Rattle.receiver_in_place.specs.Steps.{placeOf, leaves, leftBy}
-use Rattle.receiver_in_place.specs.Calls.{answered, calledOf, concerned, isGuarded, nextFor, answerAt, takes, leftIn}
-use Rattle.receiver_in_place.specs.Feeds.{unheard, heardIn, Hearing, hearing, scannedHear, hearOf, actOf, Acting, fedIn, quietFed}
-use Rattle.receiver_in_place.specs.Feeds.{leftFed, reframed}
+use Rattle.receiver_in_place.specs.Calls.{answered, calledOf, concerned, isGuarded, nextFor, answerAt}
+use Rattle.receiver_in_place.specs.Feeds.{unheard, heardIn, Hearing, hearing, scannedHear, hearOf, actOf, Acting, fedIn}
+use Rattle.receiver_in_place.proofs.Halves.{takes, leftIn, unreadFed, leftFed, reframed}
 use Rattle.receiver_in_place.specs.declared.Call.{Call}
 use Rattle.receiver_in_place.specs.declared.Call.the-variants as Call
 use Rattle.receiver_in_place.specs.declared.steps.Left.{Left}
@@ -112,15 +112,15 @@ module _ (r : Receiver) (piece reply : List ℕ) where
   t = r .table
 
   -- where no session is concerned
-  abbrev pub quietly : Hearing → Feeding
-  quietly h = feeding (fedIn (reframed r (h .heard .framing)) (quietFed (h .heard))) (h .carry) (h .scratch) reply
+  abbrev pub withoutStep : Hearing → Feeding
+  withoutStep h = feeding (fedIn (reframed r (h .heard .framing)) (unreadFed (h .heard))) (h .carry) (h .scratch) reply
 
   -- where one is
   abbrev pub acts : Hearing → Acting
   acts h = actOf (h .heard) (sessionAt t (h .heard .place)) (t .owed) piece (h .carry) (h .scratch) reply
 
-  abbrev pub loudly : Hearing → Feeding
-  loudly h =
+  abbrev pub withStep : Hearing → Feeding
+  withStep h =
       let a = acts h in
       feeding (fedIn (takes (reframed r (h .heard .framing)) (h .heard .place) (a .left)) (leftFed (h .heard) (a .left))) (a .carry) (a
       .scratch) (a .reply)
@@ -145,11 +145,11 @@ module _ (r : Receiver) (piece reply : List ℕ) where
     unfolding scannedFeed
     said = ap given (said-acts t (k .answer .report) text scratch)
 
-    quiet : x .answer .«is_read» ≡ false → quietly h ≡ scannedFeed t piece k scratch reply
+    quiet : x .answer .«is_read» ≡ false → withoutStep h ≡ scannedFeed t piece k scratch reply
     unfolding heardIn
     quiet q = rw (← said, q, no-reply reply)
 
-    loud : x .answer .«is_read» ≡ true → loudly h ≡ scannedFeed t piece k scratch reply
+    loud : x .answer .«is_read» ≡ true → withStep h ≡ scannedFeed t piece k scratch reply
     unfolding heardIn actOf leftBy
     loud q = rw (← said, q) (ap (λ (s : Stepped). given (acted s (x .answer .command) (x .buffer))) (command-steps t (x .answer
         .command) text (x .buffer) e))
@@ -159,9 +159,9 @@ module _ (r : Receiver) (piece reply : List ℕ) where
     heard = hearOf (r .framing) (t .owed) (headsOf t) piece carry scratch (length reply)
 
     abbrev by : Bool → Hearing → Feeding
-    by b h = cond b (quietly h) (loudly h)
+    by b h = cond b (withoutStep h) (withStep h)
 
-    feeds : by (heard .heard .quiet) heard ≡ feedOf r piece carry scratch reply
+    feeds : by (heard .heard .unread) heard ≡ feedOf r piece carry scratch reply
     unfolding hearOf heardIn feedOf
     feeds = go (isShort carry scratch reply) (isOwed (t .owed))
       where
@@ -171,20 +171,20 @@ module _ (r : Receiver) (piece reply : List ℕ) where
         go : (s o : Bool)
             → (let h = cond s (hearing (unheard (r .framing) 9) carry scratch) (cond o (hearing (unheard (r .framing) 10) carry
             scratch) (scannedHear k (headsOf t) piece scratch)) in
-            by (h .heard .quiet) h)
+            by (h .heard .unread) h)
             ≡ cond s (feeding (feedRefused r 9) carry scratch reply) (cond o (feeding (feedRefused r 10) carry scratch reply)
             (scannedFeed t piece k scratch reply))
         go true o = refl
         go false true = refl
         go false false = ways (x e k scratch .answer .«is_read») refl
           where
-            ways : (b : Bool) → x e k scratch .answer .«is_read» ≡ b → by (h e k scratch .heard .quiet) (h e k scratch) ≡ scannedFeed t
+            ways : (b : Bool) → x e k scratch .answer .«is_read» ≡ b → by (h e k scratch .heard .unread) (h e k scratch) ≡ scannedFeed t
                 piece k scratch reply
             ways true q = ap (λ (b : Bool). by (not b) (h e k scratch)) q ∙ loud e k scratch q
             ways false q = ap (λ (b : Bool). by (not b) (h e k scratch)) q ∙ quiet e k scratch q
 
-    pub in-place-quiet : heard .heard .quiet ≡ true → quietly heard ≡ feedOf r piece carry scratch reply
-    in-place-quiet q = ap (λ (b : Bool). by b heard) (sym q) ∙ feeds
+    pub in-place-unread : heard .heard .unread ≡ true → withoutStep heard ≡ feedOf r piece carry scratch reply
+    in-place-unread q = ap (λ (b : Bool). by b heard) (sym q) ∙ feeds
 
-    pub in-place-feed : heard .heard .quiet ≡ false → loudly heard ≡ feedOf r piece carry scratch reply
+    pub in-place-feed : heard .heard .unread ≡ false → withStep heard ≡ feedOf r piece carry scratch reply
     in-place-feed q = ap (λ (b : Bool). by b heard) (sym q) ∙ feeds

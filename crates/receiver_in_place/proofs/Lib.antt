@@ -3,6 +3,7 @@ pub mod ArrayLaws
 pub mod Cells
 pub mod Early
 pub mod Elements
+pub mod Halves
 pub mod InPlace
 pub mod Places
 pub mod StepLaws

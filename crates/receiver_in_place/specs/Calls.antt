@@ -2,7 +2,7 @@
 use Prim.Native.Nat.{ℕ}
 use mathlib.Core.Bool.{Bool, true, false, cond, _&&_}
 use mathlib.Core.List.{List}
-use lib.ListN.{length, set}
+use lib.ListN.{length}
 use lib.Dec.{ltb}
 use Rattle.octets.specs.Outcome.{Outcome, outcome}
 use Rattle.octets.specs.Slices.{partOf}
@@ -105,10 +105,3 @@ nextFor k (Found.At i) s o = nextAt k i s o
 unfoldable pub answerAt : Call → Found → Session → Owed → List ℕ → Outcome Left
 answerAt k f s o reply =
     cond (isGuarded k && ltb (length reply) replyRoom) (outcome (leaves s o (Told.Refused 9) 0) reply) (leftBy (nextFor k f s o) reply)
-
--- the receiver with what a step leaves at a place
-abbrev pub takes : Receiver → ℕ → Left → Receiver
-takes r i l = record { framing = r .framing; table = record { sessions = set (r .table .sessions) i (l .session); owed = l .owed } }
-
-abbrev pub leftIn : Left → AnsweredInPlace
-leftIn l = record { told = l .told; «reply_len» = l .«reply_len» }

@@ -51,7 +51,7 @@ unheard f n =
       framing = f;
       consumed = 0;
       report = Report.Nothing;
-      quiet = true;
+      unread = true;
       told = Told.Refused n;
       command = noCommand;
       found = Found.Nowhere;
@@ -64,7 +64,7 @@ heardBy k x f =
       framing = k .framing;
       consumed = k .consumed;
       report = k .report;
-      quiet = not (x .«is_read»);
+      unread = not (x .«is_read»);
       told = x .told;
       command = x .command;
       found = f;
@@ -180,21 +180,3 @@ fedIn r f =
       command = f .command;
       «reply_len» = f .«reply_len»;
     }
-
--- where no command was read
-abbrev pub quietFed : Heard → FedInPlace
-quietFed h =
-    record { consumed = h .consumed; report = h .report; told = h .told; command = h .command; «reply_len» = 0 }
-
-abbrev pub leftFed : Heard → Left → FedInPlace
-leftFed h l =
-    record {
-      consumed = h .consumed;
-      report = h .report;
-      told = l .told;
-      command = h .command;
-      «reply_len» = l .«reply_len»;
-    }
-
-abbrev pub reframed : Receiver → Framing → Receiver
-reframed r f = record { framing = f; table = r .table }

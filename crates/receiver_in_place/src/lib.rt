@@ -97,7 +97,7 @@ pub fn feed<'r, 'p, 'b>(
     let owed = receiver.table.owed;
     let heard = hear(framing, owed, heads, piece, carry, scratch, reply.len());
     receiver.framing = heard.framing;
-    if heard.quiet {
+    if heard.unread {
         return FedInPlace {
             consumed: heard.consumed,
             report: heard.report,

@@ -74,7 +74,7 @@ w.note()
 LEFT = ("obs", "borrow", "r-token", "tokens", "carry-last", "scratch-last", "reply-last")
 
 
-def quiet():
+def unread():
     """no session is concerned: the answer is put together, the slices are kept, and what is had of them at exit is their last lists"""
     w.say("let fed-is = LL.owes F.the-type F′.the-laws f₁ (told₁ .1 .0, (told₁ .1 .1 .0, (told₁ .1 .1 .1 .1 .0, (told₁ .1 .1 .1 .1 .1 .0, ((refl, lit< tt), tt))))) in")
     w.assign(lawful("LL", "F", "f₁", "fed-is"))
@@ -83,12 +83,12 @@ def quiet():
     w.step([], "nothing ! $", ["end"])
     w.joined("p-token", "b-token", "end", into="tokens", op="join")
     left(w, "returns-within ! Post refl", "h₁", "(framed-is h was (d₁ .framing) (told₁ .0))", LEFT,
-         "h₁ f₁ (D₁ .carry) (D₁ .scratch) (yy .now) (in-place-quiet h (yp .now) (yy .now) (four h was) c₀ s₀ (is-true (d₁ .quiet) yes)) lc ls refl fed-is")
+         "h₁ f₁ (D₁ .carry) (D₁ .scratch) (yy .now) (in-place-unread h (yp .now) (yy .now) (four h was) c₀ s₀ (is-true (d₁ .unread) yes)) lc ls refl fed-is")
 
 
 w.assign(lawful("EL", "G", "(d₁ .framing)", "(told₁ .0)"))
 w.assign("(tt, tt)")
-w.early("yes", "no", quiet)
+w.early("yes", "no", unread)
 # the session at the place, and the three slices for `act`
 w.assign("(tt, record { fits = told₁ .1 .1 .1 .1 .1 .1 .1 .0 .1 })")
 copied(w)
@@ -121,7 +121,7 @@ put(w, "(d₁ .framing)")
 w.say("let fed-is = LL.owes F.the-type F′.the-laws f₂ (told₁ .1 .0, (told₁ .1 .1 .0, (told₂ .1 .1 .0, (told₁ .1 .1 .1 .1 .1 .0, (told₂ .1 .1 .1 .0, tt))))) in")
 w.assign(lawful("LL", "F", "f₂", "fed-is"))
 left(w, "returns !", "h′", "(anew h was (d₁ .framing) i₀ (d₂ .session) (d₂ .owed) (told₁ .0) (told₂ .0) (told₂ .1 .0))", LEFT,
-     "h′ f₂ (D₂ .carry) (D₂ .scratch) (D₂ .reply) (in-place-feed h (yp .now) (yy .now) (four h was) c₀ s₀ (is-false (d₁ .quiet) no)) mc ms my fed-is")
+     "h′ f₂ (D₂ .carry) (D₂ .scratch) (D₂ .reply) (in-place-feed h (yp .now) (yy .now) (four h was) c₀ s₀ (is-false (d₁ .unread) no)) mc ms my fed-is")
 
 U8 = "(plain (λ _. u8))"
 GHOST = "((κ, (κp, (κb, tt))), (q, (qp, (qb, tt))), tt, x, at)"
@@ -198,7 +198,7 @@ module _ {GIVEN} (W : Given 𝓤 H A) {RUN} (κ κp κb : Lft) (q qp qb : Share)
   h₁ = reframed h (d₁ .framing)
 
   abbrev f₁ : FedInPlace
-  f₁ = quietFed d₁
+  f₁ = unreadFed d₁
 
   abbrev h′ : Receiver
   h′ = takes h₁ i₀ d₂

@@ -68,7 +68,7 @@ use Rattle.protocol.proofs.Found as X
 use Rattle.protocol.proofs.Found.Laws as X′
 use Rattle.receiver_in_place.specs.Heads.{headsOf}
 use Rattle.receiver_in_place.specs.Steps.{aimed}
-use Rattle.receiver_in_place.specs.Calls.{answered, calledOf, concerned, answerAt, takes, leftIn}
+use Rattle.receiver_in_place.specs.Calls.{answered, calledOf, concerned, answerAt}
 use Rattle.receiver_in_place.specs.declared.heads.Heads.{Heads}
 use Rattle.receiver_in_place.specs.declared.steps.Aim.{Aim}
 use Rattle.receiver_in_place.specs.declared.steps.Left.{Left}
@@ -79,6 +79,7 @@ use Rattle.receiver_in_place.proofs.Places as Places
 use Rattle.receiver_in_place.proofs.Again.{LentAgain, lends-again, comes-back}
 use Rattle.receiver_in_place.proofs.Cells.{sessionSize, vals, gval, sval, oval, us, mach, us-with, framing-is, owed-is, four}
 use Rattle.receiver_in_place.proofs.Cells.{session-is, anew, count, place-in, value-at}
+use Rattle.receiver_in_place.proofs.Halves.{takes, leftIn}
 use Rattle.receiver_in_place.proofs.InPlace.{in-place-answer}
 use Rattle.receiver_in_place.proofs.heads.Heads as Hs
 use Rattle.receiver_in_place.proofs.heads.Heads.Laws as Hs′

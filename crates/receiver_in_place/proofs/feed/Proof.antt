@@ -72,8 +72,7 @@ use Rattle.protocol.proofs.Told.Laws as Y′
 use Rattle.frames.proofs.Report.Laws as P′
 use Rattle.command.proofs.Command.Laws as Z′
 use Rattle.receiver_in_place.specs.Heads.{headsOf}
-use Rattle.receiver_in_place.specs.Calls.{takes}
-use Rattle.receiver_in_place.specs.Feeds.{Hearing, Acting, hearing, hearOf, acting, actOf, fedIn, quietFed, leftFed, reframed}
+use Rattle.receiver_in_place.specs.Feeds.{Hearing, Acting, hearing, hearOf, acting, actOf, fedIn}
 use Rattle.receiver_in_place.specs.declared.heads.Heads.{Heads}
 use Rattle.receiver_in_place.specs.declared.steps.Left.{Left}
 use Rattle.receiver_in_place.specs.declared.feeds.Heard.{Heard}
@@ -84,7 +83,8 @@ use Rattle.receiver_in_place.proofs.Again.{LentAgain, lends-again, come
 use Rattle.receiver_in_place.proofs.Early.{early, is-true, is-false, last-of}
 use Rattle.receiver_in_place.proofs.Cells.{sessionSize, vals, gval, sval, oval, us, mach, us-with, framing-is, owed-is, four}
 use Rattle.receiver_in_place.proofs.Cells.{session-is, anew, framed-is, count, place-in, value-at}
-use Rattle.receiver_in_place.proofs.InPlace.{in-place-quiet, in-place-feed}
+use Rattle.receiver_in_place.proofs.Halves.{takes, unreadFed, leftFed, reframed}
+use Rattle.receiver_in_place.proofs.InPlace.{in-place-unread, in-place-feed}
 use Rattle.receiver_in_place.proofs.heads.Heads as Hs
 use Rattle.receiver_in_place.proofs.heads.Heads.Laws as Hs′
 use Rattle.receiver_in_place.proofs.steps.Left as L
@@ -212,7 +212,7 @@ module _ {M : Type 1} (𝓤 : URA M) (H : Heap 𝓤) (A : Atoms 𝓤) (W : Given
   h₁ = reframed h (d₁ .framing)
 
   abbrev f₁ : FedInPlace
-  f₁ = quietFed d₁
+  f₁ = unreadFed d₁
 
   abbrev h′ : Receiver
   h′ = takes h₁ i₀ d₂
@@ -555,8 +555,8 @@ module _ {M : Type 1} (𝓤 : URA M) (H : Heap 𝓤) (A : Atoms 𝓤) (W : Given
         free1 ! $ move ! (22 ∷ 23 ∷ []) $ free1 ! $ move ! (20 ∷ 21 ∷ []) $ free1 ! $ move ! (18 ∷ 19 ∷ []) $ free1 ! $ move ! (16
         ∷ 17 ∷ []) $ free1 ! $ move ! (14 ∷ 15 ∷ []) $ free1 ! $ move ! (12 ∷ 13 ∷ []) $ free1 ! $ move ! (10 ∷ 11 ∷ []) $ free1 !
         $ move ! (8 ∷ 9 ∷ []) $ free1 ! $ free0 ! $
-        keep ! (0 ∷ 1 ∷ 2 ∷ 3 ∷ 6 ∷ 5 ∷ 4 ∷ []) $ by ! (exits h₁ f₁ (D₁ .carry) (D₁ .scratch) (yy .now) (in-place-quiet h (yp .now) (yy
-        .now) (four h was) c₀ s₀ (is-true (d₁ .quiet) yes)) lc ls refl fed-is))
+        keep ! (0 ∷ 1 ∷ 2 ∷ 3 ∷ 6 ∷ 5 ∷ 4 ∷ []) $ by ! (exits h₁ f₁ (D₁ .carry) (D₁ .scratch) (yy .now) (in-place-unread h (yp .now)
+        (yy .now) (four h was) c₀ s₀ (is-true (d₁ .unread) yes)) lc ls refl fed-is))
         (λ no.
         assigns ! (of-opd ! (load ! (from ! (fld ! {τ = tyInt w64} {d = 280} refl (stop !))) (look-in ! 49 (sub ! 7 {τ = tyInt w64} {d
         = 280} refl (whole !))))) (from ! (stop !)) (init ! 47 refl (tt, record { fits = told₁ .1 .1 .1 .1 .1 .1 .1 .0 .1 })) $
@@ -703,7 +703,7 @@ module _ {M : Type 1} (𝓤 : URA M) (H : Heap 𝓤) (A : Atoms 𝓤) (W : Given
         ∷ 16 ∷ []) $ free1 ! $ move ! (13 ∷ 14 ∷ []) $ free1 ! $ move ! (11 ∷ 12 ∷ []) $ free1 ! $ move ! (9 ∷ 10 ∷ []) $ free1 ! $
         move ! (7 ∷ 8 ∷ []) $ free1 ! $ free0 ! $
         keep ! (0 ∷ 1 ∷ 2 ∷ 3 ∷ 6 ∷ 5 ∷ 4 ∷ []) $ by ! (exits h′ f₂ (D₂ .carry) (D₂ .scratch) (D₂ .reply) (in-place-feed h (yp .now)
-        (yy .now) (four h was) c₀ s₀ (is-false (d₁ .quiet) no)) mc ms my
+        (yy .now) (four h was) c₀ s₀ (is-false (d₁ .unread) no)) mc ms my
         fed-is)))))))))))))))))))))))))))))))))))))))))))))))))))))))))))
 
 module _ {M : Type 1} (𝓤 : URA M) (H : Heap 𝓤) (A : Atoms 𝓤) (W : Given 𝓤 H A) (at-mem : Memory → SProp 𝓤) (run : Routine → Fun 𝓤) where
