@@ -81,9 +81,7 @@ fn turn<'r, 'p, 'b>(
 
 // ---- What is decided and written.
 // What of a piece is left at a place.
-fn rest<'p>(piece: &'p [u8], at: usize) -> &'p [u8]
-    ensures { λ r. ⌜ length (now r) ≤ length (now (piece .entry)) ⌝ }
-{
+fn rest<'p>(piece: &'p [u8], at: usize) -> &'p [u8] {
     if at > piece.len() {
         return &piece[..0];
     }
@@ -141,7 +139,8 @@ fn finish<'b>(run: Run, n: usize, at: usize, used: usize, len: usize, reply: &'b
 }
 
 // After so many bytes used at a place: the next place, or the end where the run failed or nothing was
-// used.
+// used. More than is left is never used, as the feed's contract has it; to ask is less than to carry that
+// through the walk.
 fn moved(run: Run, at: usize, used: usize, len: usize) -> Onward
     ensures { λ o. ⌜ len - o .at ≤ (len - at) - 1 ⌝ }
 {
