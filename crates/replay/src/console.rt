@@ -1,36 +1,48 @@
 // The console of a replay: it allows a session that waits for the user, and answers done to whatever is
 // asked. The receiver lies in one place for a whole piece, and is lent to each call.
+//
+// The replies of a piece are collected and written together, since a write for each costs more than the
+// reply itself. The receiver stores a reply in the first Reply::ROOM bytes of the reply buffer; behind
+// them the replies of before wait, in their order.
+ghost use mathlib.Core.Path.{_≡_};
 ghost use Prim.Native.Nat.{_-_, _≤_};
 ghost use lib.ListN.{length};
+use octets::Stored;
 use protocol::Receiver;
+use protocol::Reply;
 use protocol::Told;
 use receiver_in_place::Call;
 use receiver_in_place::FedInPlace;
 use streams::Run;
 
-// The receiver after a piece, and how the run stands.
+// How long the reply buffer is: a reply, and room for those that wait. A piece of 64 KB holds about 90
+// commands with 512 bytes of data each; their replies are about 5 KB.
+pub(crate) const REPLIES: usize = Reply::ROOM + 8192;
+
+// The receiver after a piece, and how the piece ended.
 pub struct Taken {
     pub receiver: Receiver,
-    pub run: Run,
+    pub onward: Onward,
 }
 
-// Where a piece goes on, and how the run stands. Where something failed, it goes on at its end.
+// Where a piece goes on, how the run stands, and where the replies that wait end in the reply buffer.
+// Where something failed, the piece goes on at its end.
 pub struct Onward {
     pub at: usize,
     pub run: Run,
+    pub replies_end: usize,
 }
 
-// What follows a feed: how the run stands once its reply is written, and the call to answer with, or
-// where the piece goes on if nothing is to answer.
+// What follows a feed: the call to answer with, whether nothing is to answer, and where the piece goes
+// on then.
 pub struct Plan {
-    pub run: Run,
     pub call: Call,
     pub is_over: bool,
     pub onward: Onward,
 }
 
 // ---- What makes or passes on a `&mut Receiver` is proved by a walk, and decides nothing.
-// Feeds a piece until it is consumed or something fails.
+// Feeds a piece until it is consumed or something fails. Replies may still wait then.
 pub(crate) fn take<'p, 'b>(
     before: Receiver,
     run: Run,
@@ -40,13 +52,17 @@ pub(crate) fn take<'p, 'b>(
     reply: &'b mut [u8],
 ) -> Taken {
     let mut receiver = before;
-    let mut onward = Onward { at: 0, run: run };
+    let mut onward = Onward {
+        at: 0,
+        run: run,
+        replies_end: Reply::ROOM,
+    };
     while onward.at < piece.len() {
-        onward = turn(&mut receiver, piece, onward.at, carry, scratch, reply);
+        onward = turn(&mut receiver, piece, onward, carry, scratch, reply);
     }
     Taken {
         receiver: receiver,
-        run: onward.run,
+        onward: onward,
     }
 }
 
@@ -55,50 +71,44 @@ pub(crate) fn take<'p, 'b>(
 fn turn<'r, 'p, 'b>(
     receiver: &'r mut Receiver,
     piece: &'p [u8],
-    at: usize,
+    onward: Onward,
     carry: &'b mut [u8],
     scratch: &'b mut [u8],
     reply: &'b mut [u8],
 ) -> Onward
-    ensures { λ o. ⌜ length (now (piece .entry)) - o .at ≤ (length (now (piece .entry)) - at) - 1 ⌝ }
+    ensures { λ o. ⌜ length (now (piece .entry)) - o .at ≤ (length (now (piece .entry)) - onward .at) - 1 ⌝ }
 {
-    let left = rest(piece, at);
+    let left = rest(piece, onward.at);
     let fed = receiver_in_place::feed(receiver, left, carry, scratch, reply);
-    let plan = planned(fed, at, piece.len(), reply);
+    let plan = planned(fed, onward, piece.len(), reply);
     if plan.is_over {
         return plan.onward;
     }
     let answered = receiver_in_place::answer_for(receiver, plan.call, fed, left, carry, reply);
-    finish(
-        plan.run,
-        answered.reply_len,
-        at,
-        fed.consumed,
-        piece.len(),
-        reply,
-    )
+    finish(plan.onward, answered.reply_len, piece.len(), reply)
 }
 
 // ---- What is decided and written.
 // What of a piece is left at a place.
-fn rest<'p>(piece: &'p [u8], at: usize) -> &'p [u8] {
+fn rest<'p>(piece: &'p [u8], at: usize) -> &'p [u8]
+    ensures { λ r. ⌜ length (now r) ≤ length (now (piece .entry)) ⌝ }
+{
     if at > piece.len() {
         return &piece[..0];
     }
     &piece[at..]
 }
 
-// Writes the feed's reply, and plans what follows.
-fn planned<'b>(fed: FedInPlace, at: usize, len: usize, reply: &'b mut [u8]) -> Plan
-    ensures { λ p. ⌜ len - p .onward .at ≤ (len - at) - 1 ⌝ }
+// Sends the feed's reply, and plans what follows.
+fn planned<'b>(fed: FedInPlace, onward: Onward, len: usize, reply: &'b mut [u8]) -> Plan
+    ensures { λ p. ⌜ len - p .onward .at ≤ (len - onward .at) - 1 ⌝ }
 {
     let told = fed.told;
-    let run = send(Run::Well, reply, fed.reply_len);
+    let sent = send(onward, fed.reply_len, reply);
     Plan {
-        run: run,
         call: call_for(told),
         is_over: is_over(told),
-        onward: moved(run, at, fed.consumed, len),
+        onward: moved(sent, fed.consumed, len),
     }
 }
 
@@ -131,41 +141,76 @@ fn is_over(told: Told) -> bool {
     }
 }
 
-// Writes an answer's reply.
-fn finish<'b>(run: Run, n: usize, at: usize, used: usize, len: usize, reply: &'b mut [u8]) -> Onward
-    ensures { λ o. ⌜ len - o .at ≤ (len - at) - 1 ⌝ }
+// Sends an answer's reply.
+fn finish<'b>(onward: Onward, n: usize, len: usize, reply: &'b mut [u8]) -> Onward
+    ensures { λ o. ⌜ len - o .at ≤ len - onward .at ⌝ }
 {
-    moved(send(run, reply, n), at, used, len)
+    let sent = send(onward, n, reply);
+    let run = sent.run;
+    if run.is_well() {
+        return sent;
+    }
+    Onward { at: len, ..sent }
 }
 
 // After so many bytes used at a place: the next place, or the end where the run failed or nothing was
-// used. More than is left is never used, as the feed's contract has it; to ask is less than to carry that
-// through the walk.
-fn moved(run: Run, at: usize, used: usize, len: usize) -> Onward
-    ensures { λ o. ⌜ len - o .at ≤ (len - at) - 1 ⌝ }
+// used.
+fn moved(onward: Onward, used: usize, len: usize) -> Onward
+    ensures { λ o. ⌜ len - o .at ≤ (len - onward .at) - 1 ⌝ }
 {
+    let at = onward.at;
+    let run = onward.run;
     if !run.is_well() {
-        return Onward { at: len, run: run };
+        return Onward { at: len, ..onward };
     }
     if used == 0 {
         return Onward {
             at: len,
             run: Run::Stuck,
+            ..onward
         };
     }
     if at > len {
-        return Onward { at: len, run: run };
+        return Onward { at: len, ..onward };
     }
     if used > len - at {
-        return Onward { at: len, run: run };
+        return Onward { at: len, ..onward };
     }
     Onward {
         at: at + used,
-        run: run,
+        ..onward
     }
 }
 
-// Writes the first n bytes of the reply buffer.
-fn send(run: Run, reply: &[u8], n: usize) -> Run {
-    run.text(octets::part(reply, 0, n))
+// Puts a reply of n bytes behind those that wait. Where no room is left there, all are written.
+fn send<'b>(onward: Onward, n: usize, reply: &'b mut [u8]) -> Onward
+    ensures { λ o. ⌜ o .at ≡ onward .at ⌝ }
+{
+    let Stored::End(end) = put_by(reply, onward.replies_end, n) else {
+        let run = flush(onward, reply);
+        return Onward {
+            run: run.text(octets::part(reply, 0, n)),
+            replies_end: Reply::ROOM,
+            ..onward
+        };
+    };
+    Onward {
+        replies_end: end,
+        ..onward
+    }
+}
+
+// Copies the first n bytes of the reply buffer to a place of it, through a buffer of its own: two parts
+// of one buffer are not lent at once.
+fn put_by<'b>(reply: &'b mut [u8], at: usize, n: usize) -> Stored {
+    let mut last = [0u8; Reply::ROOM];
+    octets::copy_at(octets::part(reply, 0, n), &mut last, 0);
+    octets::copy_at(octets::part(&last, 0, n), reply, at)
+}
+
+// Writes the replies that wait.
+pub(crate) fn flush(onward: Onward, reply: &[u8]) -> Run {
+    let run = onward.run;
+    let n = octets::size::less(onward.replies_end, Reply::ROOM);
+    run.text(octets::part(reply, Reply::ROOM, n))
 }

@@ -1,11 +1,10 @@
 // Replays a recording: reads standard input to its end, allows every session at once, answers done
-// always, and writes only replies. It answers as it reads, since a client waits for its replies.
+// always, and writes only replies. It answers before it reads on, since a client waits for its replies.
 mod console;
 
 use command::Command;
 use frames::Framing;
 use protocol::Receiver;
-use protocol::Reply;
 use streams::Got;
 use streams::Run;
 
@@ -19,7 +18,7 @@ fn replay() -> Run {
     let mut piece = io::large_buffer();
     let mut carry = [0u8; Framing::TEXT_LIMIT];
     let mut scratch = [0u8; Command::SCRATCH_ROOM];
-    let mut reply = [0u8; Reply::ROOM];
+    let mut reply = [0u8; console::REPLIES];
     let mut receiver = Receiver::fresh();
     let mut turns = u64::MAX;
     while turns > 0 {
@@ -29,7 +28,7 @@ fn replay() -> Run {
         if n == 0 {
             break;
         }
-        let turn = console::take(
+        let taken = console::take(
             receiver,
             Run::Well,
             &piece[..n],
@@ -37,11 +36,11 @@ fn replay() -> Run {
             &mut scratch,
             &mut reply,
         );
-        let run = turn.run;
+        let run = console::flush(taken.onward, &reply);
         if !run.is_well() {
             return run;
         }
-        receiver = turn.receiver;
+        receiver = taken.receiver;
         turns -= 1;
     }
     Run::Well

@@ -68,7 +68,8 @@ def callee(short, module, crate):
     return f"use {at} as {short}\nuse {at}.Symbol as {short}-def\nuse {at}.Symbol.{{name as #{short}}}\nuse {at}.Met as {short}-thm\n"
 
 
-USES = f"""use Rattle.streams.specs.declared.Run.{{Run}}
+USES = f"""use Rattle.protocol.specs.Replies.{{replyRoom}}
+use Rattle.streams.specs.declared.Run.{{Run}}
 use Rattle.streams.proofs.Run as Rn
 use Rattle.streams.proofs.Run.Laws as Rn′
 use Rattle.replay.specs.declared.console.Taken.{{Taken}}
@@ -87,7 +88,6 @@ use Rattle.receiver_kept.proofs.Local.{{lend-local, local-back}}
 # what the walks of receiver_in_place do not use
 MORE = """use Prim.Native.Nat.{_-_, _≤_}
 use denote.Slice.{shr-slice-lawful}
-use denote.Plain.{uint-vals, uint-tells}
 use denote.Triple.Walked.{stay-slice, onExit, goes-slice}
 use mathlib.Core.WellFounded.{WellFounded, InvImage·wf}
 use lib.WfN.{Nat·lt-wfRel}

@@ -1,7 +1,7 @@
 """Prints the proof of take, a walk with a loop: `python3 crates/replay/tools/take.py`, at the top of the project; then `rt fmt`."""
-from lending import CALLED, Buffers, asked, back, number, save, spread
+from lending import CALLED, Buffers, asked, back, save, spread
 from printing import GIVEN, RUN, X, ending, owning, tup, typed
-from steps import SLICE, lawful, said
+from steps import SLICE, lawful, own, said
 from walk import NAMES, Walk
 
 REF = "RefT (List ℕ)"
@@ -30,14 +30,13 @@ w.drop("owned")
 REC = lambda g, known: lawful("LL", "T", g, known)
 w.enter("only (vals h) ∷ rval s ∷ tp ∷ tc ∷ ts ∷ ty ∷ []", [REC("h", "was"), lawful("EL", "Rn", "s", "s-is")] + [SLICE % f"room-{v}" for v in "pcsy"])
 w.assign(REC("h", "was"))
-w.say("let start-is = LL.owes On.the-type On′.the-laws start ((refl, lit< tt), (s-is, tt)) in")
+w.say("let start-is = LL.owes On.the-type On′.the-laws start ((refl, lit< tt), (s-is, ((refl, lit< tt), tt))) in")
 w.assign(lawful("LL", "On", "start", "start-is"))
 FRONT = [("p-token", "‵ (flft κp qp)"), ("b-token", "‵ (flft κb qb)"), ("piece", "‵ Piece")]
 FRONT += [(n, f"‵ (MutSlice (named 1) κb u8 .own (x{v} γ{v} {LISTS[n]}) (t{v} ∷ []))") for n, v in (("carry", "c"), ("scratch", "s"), ("reply", "y"))]
 VALUES = {1: "(only (vals h))", 2: "(rval s)", 3: "tp", 4: "tc", 5: "ts", 6: "ty", 7: f"(only (vals {G}))", 8: f"(onval {O})"}
 w.loop(FRONT, VALUES, "At", "Nearer Nearer-wf", "((h, (start, (c₀, (s₀, y₀)))), (refl, (refl, (refl, (was, start-is)))))")
 REST = "restOf (" * (before - len(w.after)) + "code.function .body" + ")" * (before - len(w.after))
-w.say(f"let on = LL.owed On.the-type On′.the-laws {O} _ {O_IS} in")
 w.assign("(tt, record { fits = room-p .0 })")
 w.assign()
 buffers.now, buffers.same = dict(LISTS), dict(SAME)
@@ -53,10 +52,10 @@ def turn():
     w.step([], "lft-new ! tt (λ μ₁.", ["μ₁"])
     w.step(["_7"], f"use1 W (later (some (λ (δ : GName). ‵ (MutRef (named 0) (ν ∷ []) T.the-row .own (lent l₇ δ {G}) (vptr l₇ 0 ∷ [])) ⊛ ‵ (flent (ν ∷ []) (Body (mem T.the-row) l₇ 0 δ))))) (lend-local 𝓤 H A W (ν ∷ []) l₇ (named 0) {G} {G_IS}) $ await ! tt $ pick ! (λ δ. split ! $", ["ref", "lender"])
     buffers.lend("μ₁", 2, "carry", "scratch", "reply")
-    number(w, f"({O} .at)", "(on .0)", "number")
-    A = f"{G} ({O} .at) " + " ".join(LISTS[n] for n in ("carry", "scratch", "reply"))
+    own(w, "LL", "On", O, O_IS, "onward")
+    A = f"{G} {O} " + " ".join(LISTS[n] for n in ("carry", "scratch", "reply"))
     ghost = f"ν μ₁ l₇ δ δc₁ δs₁ δy₁ {A}"
-    asked(w, "Turned", f"(to-turned {ghost})", f"(goes-turned {ghost})", ("ν", "p-token", "μ₁"), ("ref", "piece-lent", "number", "carry", "scratch", "reply"))
+    asked(w, "Turned", f"(to-turned {ghost})", f"(goes-turned {ghost})", ("ν", "p-token", "μ₁"), ("ref", "piece-lent", "onward", "carry", "scratch", "reply"))
     w.note()
     w.call(f"Turned {X}", "known-turned", f"to-turned {ghost}", "v₁")
     said(w, "₁", ("Onward", "On"), "‵ (flft (ν ∷ []) fullShare) ⊛ ‵ (flft κp qp) ⊛ ‵ (flft (μ₁ ∷ []) fullShare) ⊛ ‵ ftrue", "turned", f"(ν ∷ [], (κp, (μ₁ ∷ [], tt))) (turned-args l₇ δ δc₁ δs₁ δy₁ {A})",
@@ -84,9 +83,9 @@ def turn():
 
 
 w.test("held", "over", turn)
-DONE = f"(record {{ receiver = {G}; run = {O} .run }})"
+DONE = f"(record {{ receiver = {G}; onward = {O} }})"
 w.assign(REC(G, G_IS))
-w.say(f"let done-is = LL.owes Tn.the-type Tn′.the-laws {DONE} ({G_IS}, (on .1 .0, tt)) in")
+w.say(f"let done-is = LL.owes Tn.the-type Tn′.the-laws {DONE} ({G_IS}, ({O_IS}, tt)) in")
 w.assign(lawful("LL", "Tn", DONE, "done-is"))
 assert w.todo == ["return"], w.todo
 w.leave()
@@ -94,8 +93,8 @@ w.say("keep ! (" + "".join(f"{w.at(n)} ∷ " for n in ("p-token", "b-token", "ca
 w.close_loop()
 
 mut = lambda v, δ, l: f"MutSlice (named 2) (μ ∷ []) u8 .own (x{v} {δ} {l}) (t{v} ∷ [])"
-BOUND = "ℕ → ℕ → ℕ → GName → GName → GName → GName → Receiver → ℕ → List ℕ → List ℕ → List ℕ → "
-NAMES_ = "ν μ l δ δc δs δy g n zc zs zy"
+BOUND = "ℕ → ℕ → ℕ → GName → GName → GName → GName → Receiver → Onward → List ℕ → List ℕ → List ℕ → "
+NAMES_ = "ν μ l δ δc δs δy g d zc zs zy"
 OWNED = [f"MutSlice (named 1) κb u8 .own (x{v} γ{v} z{v}) (t{v} ∷ [])" for v in "csy"]
 LFTS = (("(ν ∷ [])", "fullShare"), ("κp", "qp"), ("(μ ∷ [])", "fullShare"))
 CALLEES = (("turned", "console.turn"),)
@@ -163,7 +162,7 @@ module _ {GIVEN} (W : Given 𝓤 H A) {RUN} (κp κb : Lft) (qp qb : Share) (h :
   Piece = ShrSlice (named 0) κp u8 .own yp (tp ∷ [])
 
   abbrev start : Onward
-  start = record {{ at = 0; run = s }}
+  start = record {{ at = 0; run = s; «replies_end» = replyRoom }}
 
   -- the loop's state: the receiver, where the piece goes on, and the buffers; and what is known of it
   abbrev State : Type 0
@@ -189,16 +188,16 @@ module _ {GIVEN} (W : Given 𝓤 H A) {RUN} (κp κb : Lft) (qp qb : Share) (h :
   lent l δ r = record {{ ptr = (l, 0); name = δ; now = r }}
 
   -- what the callee's triple binds outside, and what it asks
-  abbrev turned-args : ℕ → GName → GName → GName → GName → Receiver → ℕ → List ℕ → List ℕ → List ℕ → {typed('RefT Receiver', REF, 'ℕ', REF, REF, REF)}
-  turned-args l δ δc δs δy g n zc zs zy = {tup('lent l δ g', 'yp', 'n', 'xc δc zc', 'xs δs zs', 'xy δy zy')}
+  abbrev turned-args : ℕ → GName → GName → GName → GName → Receiver → Onward → List ℕ → List ℕ → List ℕ → {typed('RefT Receiver', REF, 'Onward', REF, REF, REF)}
+  turned-args l δ δc δs δy g d zc zs zy = {tup('lent l δ g', 'yp', 'd', 'xc δc zc', 'xs δs zs', 'xy δy zy')}
 
   abbrev to-turned : {BOUND}Turned {X} .Ghost
-  to-turned {NAMES_} = (({tup(*(k for k, _ in LFTS))}, {tup(*(q for _, q in LFTS))}, tt, turned-args l δ δc δs δy g n zc zs zy, {tup('vptr l 0 ∷ []', 'tp ∷ []', 'vint w64 n ∷ []', 'tc ∷ []', 'ts ∷ []', 'ty ∷ []')}), tt)
+  to-turned {NAMES_} = (({tup(*(k for k, _ in LFTS))}, {tup(*(q for _, q in LFTS))}, tt, turned-args l δ δc δs δy g d zc zs zy, {tup('vptr l 0 ∷ []', 'tp ∷ []', 'onval d ∷ []', 'tc ∷ []', 'ts ∷ []', 'ty ∷ []')}), tt)
 
   abbrev TurnedOwn : {BOUND}Fml
-  TurnedOwn {NAMES_} = {owning('MutRef (named 0) (ν ∷ []) T.the-row .own (lent l δ g) (vptr l 0 ∷ [])', 'Piece', 'usize .own n (vint w64 n ∷ [])', mut('c', 'δc', 'zc'), mut('s', 'δs', 'zs'), mut('y', 'δy', 'zy'))}
+  TurnedOwn {NAMES_} = {owning('MutRef (named 0) (ν ∷ []) T.the-row .own (lent l δ g) (vptr l 0 ∷ [])', 'Piece', 'On.the-row .own d (onval d ∷ [])', mut('c', 'δc', 'zc'), mut('s', 'δs', 'zs'), mut('y', 'δy', 'zy'))}
 
-  goes-turned : (ν μ l : ℕ) (δ δc δs δy : GName) (g : Receiver) (n : ℕ) (zc zs zy : List ℕ) → ent 𝓤 (sep 𝓤 (sep 𝓤 (A .lft (ν ∷ []) fullShare) (sep 𝓤 (A .lft κp qp) (sep 𝓤 (A .lft (μ ∷ []) fullShare) (sem 𝓤 H A ftrue)))) (sem 𝓤 H A (TurnedOwn {NAMES_}))) (Turned {X} .pre (to-turned {NAMES_}))
+  goes-turned : (ν μ l : ℕ) (δ δc δs δy : GName) (g : Receiver) (d : Onward) (zc zs zy : List ℕ) → ent 𝓤 (sep 𝓤 (sep 𝓤 (A .lft (ν ∷ []) fullShare) (sep 𝓤 (A .lft κp qp) (sep 𝓤 (A .lft (μ ∷ []) fullShare) (sem 𝓤 H A ftrue)))) (sem 𝓤 H A (TurnedOwn {NAMES_}))) (Turned {X} .pre (to-turned {NAMES_}))
   goes-turned {NAMES_} = qed W (((‵ (flft (ν ∷ []) fullShare) ⊛ ‵ (flft κp qp) ⊛ ‵ (flft (μ ∷ []) fullShare) ⊛ ‵ ftrue) ⊛ ‵ (TurnedOwn {NAMES_})) ∷ []) ∵ frame ! $ done !
 
   -- the walk's end: the buffers are still owned, and nothing is ensured

@@ -13,7 +13,7 @@ w = Walk("replay", "console::turn")
 w.names = {**NAMES, **CALLED}
 buffers = Buffers(w, 2)
 w.ctx = ["tokens", "owned"]
-rows = "MutRef (named 0) κ T.the-row ∷ ShrSlice (named 1) κp u8 ∷ usize ∷ " + "MutSlice (named 2) κb u8 ∷ " * 3 + "[]"
+rows = "MutRef (named 0) κ T.the-row ∷ ShrSlice (named 1) κp u8 ∷ On.the-row ∷ " + "MutSlice (named 2) κb u8 ∷ " * 3 + "[]"
 w.say(f"qed W ((‵ (flft κ q) ⊛ ‵ (flft κp qp) ⊛ ‵ (flft κb qb) ⊛ ‵ ftrue) ∷ ‵ (owns ({rows}) x at) ∷ []) ∵")
 spread(w, "tokens", "r-token", "p-token", "b-token")
 for n in ("ref", "piece"):
@@ -22,9 +22,10 @@ w.step(["owned"], "fsplit ! $ drop ! $", ["owned"])
 for n in ("carry", "scratch", "reply"):
     w.step(["owned"], "fsplit ! $", [n, "owned"])
 w.drop("owned")
-w.enter("vptr b o ∷ tp ∷ vint w64 n ∷ tc ∷ ts ∷ ty ∷ []", ["(tt, tt)", SLICE % "room-p", "(tt, record { fits = n-fits })"] + [SLICE % f"room-{s}" for s in "csy"])
+w.enter("vptr b o ∷ tp ∷ onval on ∷ tc ∷ ts ∷ ty ∷ []", ["(tt, tt)", SLICE % "room-p", lawful("LL", "On", "on", "on-is")] + [SLICE % f"room-{s}" for s in "csy"])
 # what of the piece is left
-number(w, "n", "(refl, n-fits)", "number")
+w.say("let known = LL.owed On.the-type On′.the-laws on _ on-is in")
+number(w, "(on .at)", "(known .0)", "number")
 asked(w, "Rest", "to-rest", "goes-rest", ("p-token",), ("piece", "number"))
 w.call(f"Rest {X}", "known-rest", "to-rest", "v₀")
 ROW = "(ShrSlice (named 0) κp u8)"
@@ -56,20 +57,20 @@ spread(w, "tokens", "ν₁", "p-token", "μ₁")
 lent(w, "ν₁", "δ₁", "h", "(zs₁ .0)")
 buffers.back("μ₁", 2, {"carry": ("(zs₁ .1 .1 .0)", "lc₁"), "scratch": ("(zs₁ .1 .1 .1 .0)", "ls₁"), "reply": ("(zs₁ .1 .1 .1 .1 .0)", "ly₁")}, "carry", "scratch", "reply")
 w.note()
-# its reply is written, and what follows is planned
+# its reply is sent, and what follows is planned
 w.assign("(tt, record { fits = room-p .0 })")
 buffers.borrowed("reply")
 w.step([], "lft-new ! tt (λ μ₂.", ["μ₂"])
 buffers.lend("μ₂", 0, "reply")
 number(w, LEN, "(refl, room-p .0)", "length")
-number(w, "n", "(refl, n-fits)", "number")
+own(w, "LL", "On", "on", "on-is", "onward")
 own(w, "LL", "F", "r₁", "(LL.owes F.the-type F′.the-laws r₁ told₁)", "fed")
 REPLY1 = "(zs₁ .1 .1 .1 .1 .0)"
 G = f"μ₂ δy₂ r₁ {REPLY1}"
-asked(w, "Planned", f"(to-planned {G})", f"(goes-planned {G})", ("μ₂",), ("fed", "number", "length", "reply"))
+asked(w, "Planned", f"(to-planned {G})", f"(goes-planned {G})", ("μ₂",), ("fed", "onward", "length", "reply"))
 w.note()
 w.call(f"Planned {X}", "known-planned", f"to-planned {G}", "v₂")
-said(w, "₂", ("Plan", "Pl"), "‵ (flft (μ₂ ∷ []) fullShare) ⊛ ‵ ftrue", "planned", f"(μ₂ ∷ [], tt) (planned-args δy₂ r₁ {REPLY1})", typed(*["Unit {0}"] * 3, "List ℕ"), f"{LEN} - {{r}} .onward .at ≤ ({LEN} - n) - 1")
+said(w, "₂", ("Plan", "Pl"), "‵ (flft (μ₂ ∷ []) fullShare) ⊛ ‵ ftrue", "planned", f"(μ₂ ∷ [], tt) (planned-args δy₂ r₁ {REPLY1})", typed(*["Unit {0}"] * 3, "List ℕ"), f"{LEN} - {{r}} .onward .at ≤ ({LEN} - on .at) - 1")
 back(w, "₂", 3, "reply")
 w.step(["answer"], "split ! $", ["tokens", "answer"])
 landed(w, "₂", "Pl", "r₂", 9)
@@ -87,9 +88,12 @@ def ended(how, g, r, v, e, known):
     w.say("keep ! (" + "".join(f"{w.at(n)} ∷ " for n in LEFT) + f"[]) $ by ! (exits {g} {r} {v} {lists} {e} {same} {known})")
 
 
+ONWARD_IS = "(told₂ .1 .1 .0)"
+
+
 def over():
-    w.assign(lawful("LL", "On", "(r₂ .onward)", "(told₂ .1 .1 .1 .0)"))
-    ended("returns-within ! Post refl", "(zs₁ .0)", "(r₂ .onward)", "(LL.val On.the-type On′.the-laws (r₂ .onward))", "e₂", "(told₂ .1 .1 .1 .0)")
+    w.assign(lawful("LL", "On", "(r₂ .onward)", ONWARD_IS))
+    ended("returns-within ! Post refl", "(zs₁ .0)", "(r₂ .onward)", "(LL.val On.the-type On′.the-laws (r₂ .onward))", "e₂", ONWARD_IS)
 
 
 w.assign("(tt, tt)")
@@ -101,7 +105,7 @@ lent(w, "ν₃", "δ₃", "(zs₁ .0)")
 w.step([], "lft-new ! tt (λ μ₃.", ["μ₃"])
 buffers.lend("μ₃", 2, "carry", "reply")
 own(w, "LL", "F", "r₁", "(LL.owes F.the-type F′.the-laws r₁ told₁)", "fed")
-own(w, "EL", "K", "(r₂ .call)", "(told₂ .1 .0)", "call")
+own(w, "EL", "K", "(r₂ .call)", "(told₂ .0)", "call")
 CARRY1, REPLY2 = "(zs₁ .1 .1 .0)", "(zs₂ .1 .1 .1 .0)"
 A = f"(zs₁ .0) (r₂ .call) r₁ r₀ {CARRY1} {REPLY2}"
 G = f"ν₃ μ₃ δ₃ δc₃ δy₃ v₀ {A}"
@@ -119,31 +123,30 @@ spread(w, "tokens", "ν₃", "p-token", "μ₃")
 lent(w, "ν₃", "δ₃", "(zs₁ .0)", "(zs₃ .0)")
 buffers.back("μ₃", 2, {"carry": ("(zs₃ .1 .1 .1 .1 .0)", "lc₃"), "reply": ("(zs₃ .1 .1 .1 .1 .1 .0)", "ly₃")}, "carry", "reply")
 w.note()
-# and its reply is written
+# and its reply is sent
 w.assign("(tt, record { fits = room-p .0 })")
 buffers.borrowed("reply")
 w.step([], "lft-new ! tt (λ μ₄.", ["μ₄"])
 buffers.lend("μ₄", 0, "reply")
 number(w, LEN, "(refl, room-p .0)", "length")
-number(w, "(r₁ .consumed)", "(told₁ .0)", "used")
-number(w, "n", "(refl, n-fits)", "number")
 number(w, "(r₃ .«reply_len»)", "(told₃ .1 .0)", "reply-len")
-own(w, "EL", "Rn", "(r₂ .run)", "(told₂ .0)", "run")
+own(w, "LL", "On", "(r₂ .onward)", ONWARD_IS, "onward")
 REPLY3 = "(zs₃ .1 .1 .1 .1 .1 .0)"
-A = f"(r₂ .run) (r₃ .«reply_len») (r₁ .consumed) {REPLY3}"
+A = f"(r₂ .onward) (r₃ .«reply_len») {REPLY3}"
 G = f"μ₄ δy₄ {A}"
-asked(w, "Finish", f"(to-finish {G})", f"(goes-finish {G})", ("μ₄",), ("run", "reply-len", "number", "used", "length", "reply"))
+asked(w, "Finish", f"(to-finish {G})", f"(goes-finish {G})", ("μ₄",), ("onward", "reply-len", "length", "reply"))
 w.note()
 w.call(f"Finish {X}", "known-finish", f"to-finish {G}", "v₄")
-said(w, "₄", ("Onward", "On"), "‵ (flft (μ₄ ∷ []) fullShare) ⊛ ‵ ftrue", "finish", f"(μ₄ ∷ [], tt) (finish-args δy₄ {A})", typed(*["Unit {0}"] * 5, "List ℕ"), f"{LEN} - {{r}} .at ≤ ({LEN} - n) - 1")
-back(w, "₄", 5, "reply")
+said(w, "₄", ("Onward", "On"), "‵ (flft (μ₄ ∷ []) fullShare) ⊛ ‵ ftrue", "finish", f"(μ₄ ∷ [], tt) (finish-args δy₄ {A})", typed(*["Unit {0}"] * 3, "List ℕ"), f"{LEN} - {{r}} .at ≤ {LEN} - r₂ .onward .at")
+back(w, "₄", 3, "reply")
 w.step(["answer"], "split ! $", ["tokens", "answer"])
 w.step(["answer"], "peeks ! On.the-row (Is On.the-row) (shows 𝓤 H A On.the-row) r₄ (v₄ ∷ []) (λ is₄. drop ! $", [])
 w.land(lawful("LL", "On", "r₄", "is₄"))
 spread(w, "tokens", "μ₄")
-buffers.back("μ₄", 0, {"reply": ("(zs₄ .1 .1 .1 .1 .1 .0)", "ly₄")}, "reply")
+buffers.back("μ₄", 0, {"reply": ("(zs₄ .1 .1 .1 .0)", "ly₄")}, "reply")
+w.say(f"let nearer : {LEN} - r₄ .at ≤ ({LEN} - on .at) - 1 = omega (arith, e₂, e₄) in")
 assert w.todo == ["return"], w.todo
-ended("returns !", "(zs₃ .0)", "r₄", "v₄", "e₄", "is₄")
+ended("returns !", "(zs₃ .0)", "r₄", "v₄", "nearer", "is₄")
 
 
 def contract(name, lower):
@@ -177,33 +180,33 @@ PIECE = ("κp", "qp")
 ref = lambda l, δ, g: f"MutRef (named 0) ({l} ∷ []) T.the-row .own (lent {δ} {g}) (vptr b o ∷ [])"
 mut = lambda named, μ, v, δ, l: f"MutSlice (named {named}) ({μ} ∷ []) u8 .own (x{v} {δ} {l}) (t{v} ∷ [])"
 num = lambda n: f"usize .own {n} (vint w64 {n} ∷ [])"
-ASKS = asks("Rest", "rest", "", "", (REF, "ℕ"), ("yp", "n"), ("", ""), [PIECE], ("tp", "vint w64 n"), ("ShrSlice (named 0) κp u8 .own yp (tp ∷ [])", num("n")))
+ASKS = asks("Rest", "rest", "", "", (REF, "ℕ"), ("yp", "on .at"), ("", ""), [PIECE], ("tp", "vint w64 (on .at)"), ("ShrSlice (named 0) κp u8 .own yp (tp ∷ [])", num("(on .at)")))
 ASKS += asks("Feed", "feed", f"ℕ → ℕ → GName → GName → GName → GName → {REF} → Val → ", " ν μ δ δc δs δy l v", ("RefT Receiver", REF, REF, REF, REF),
              ("lent δ h", "l", "xc δc c₀", "xs δs s₀", "xy δy y₀"), (f"GName → GName → GName → GName → {REF} → ", " δ δc δs δy l"), [FULL("ν"), PIECE, FULL("μ")], ("vptr b o", "v", "tc", "ts", "ty"),
              (ref("ν", "δ", "h"), "ShrSlice (named 1) κp u8 .own l (v ∷ [])", mut(2, "μ", "c", "δc", "c₀"), mut(2, "μ", "s", "δs", "s₀"), mut(2, "μ", "y", "δy", "y₀")))
-ASKS += asks("Planned", "planned", "ℕ → GName → FedInPlace → List ℕ → ", " μ δ r l", ("FedInPlace", "ℕ", "ℕ", REF), ("r", "n", LEN[1:-1], "xy δ l"), ("GName → FedInPlace → List ℕ → ", " δ r l"), [FULL("μ")],
-             ("fval r", "vint w64 n", f"vint w64 {LEN}", "ty"), ("F.the-row .own r (fval r ∷ [])", num("n"), num(LEN), mut(0, "μ", "y", "δ", "l")))
+ASKS += asks("Planned", "planned", "ℕ → GName → FedInPlace → List ℕ → ", " μ δ r l", ("FedInPlace", "Onward", "ℕ", REF), ("r", "on", LEN[1:-1], "xy δ l"), ("GName → FedInPlace → List ℕ → ", " δ r l"), [FULL("μ")],
+             ("fval r", "onval on", f"vint w64 {LEN}", "ty"), ("F.the-row .own r (fval r ∷ [])", "On.the-row .own on (onval on ∷ [])", num(LEN), mut(0, "μ", "y", "δ", "l")))
 ASKS += asks("Answer", "answer", f"ℕ → ℕ → GName → GName → GName → Val → Receiver → Call → FedInPlace → {REF} → List ℕ → List ℕ → ", " ν μ δ δc δy v g k r l zc zy", ("RefT Receiver", "Call", "FedInPlace", REF, REF, REF),
              ("lent δ g", "k", "r", "l", "xc δc zc", "xy δy zy"), (f"GName → GName → GName → Receiver → Call → FedInPlace → {REF} → List ℕ → List ℕ → ", " δ δc δy g k r l zc zy"),
              [FULL("ν"), PIECE, FULL("μ")], ("vptr b o", "kval k", "fval r", "v", "tc", "ty"),
              (ref("ν", "δ", "g"), "K.the-row .own k (kval k ∷ [])", "F.the-row .own r (fval r ∷ [])", "ShrSlice (named 1) κp u8 .own l (v ∷ [])", mut(2, "μ", "c", "δc", "zc"), mut(2, "μ", "y", "δy", "zy")))
-ASKS += asks("Finish", "finish", "ℕ → GName → Run → ℕ → ℕ → List ℕ → ", " μ δ s m u l", ("Run", "ℕ", "ℕ", "ℕ", "ℕ", REF), ("s", "m", "n", "u", LEN[1:-1], "xy δ l"), ("GName → Run → ℕ → ℕ → List ℕ → ", " δ s m u l"), [FULL("μ")],
-             ("rval s", "vint w64 m", "vint w64 n", "vint w64 u", f"vint w64 {LEN}", "ty"), ("Rn.the-row .own s (rval s ∷ [])", num("m"), num("n"), num("u"), num(LEN), mut(0, "μ", "y", "δ", "l")))
+ASKS += asks("Finish", "finish", "ℕ → GName → Onward → ℕ → List ℕ → ", " μ δ d m l", ("Onward", "ℕ", "ℕ", REF), ("d", "m", LEN[1:-1], "xy δ l"), ("GName → Onward → ℕ → List ℕ → ", " δ d m l"), [FULL("μ")],
+             ("onval d", "vint w64 m", f"vint w64 {LEN}", "ty"), ("On.the-row .own d (onval d ∷ [])", num("m"), num(LEN), mut(0, "μ", "y", "δ", "l")))
 OWNED = [f"MutSlice (named 2) κb u8 .own (x{v} γ{v} z{v}) (t{v} ∷ [])" for v in "csy"]
 CALLEES = (("rest", "console.rest"), ("feed", "feed"), ("planned", "console.planned"), ("answer", "answer_for"), ("finish", "console.finish"))
 KNOWN = "".join(f" (known-{s} : Triple 𝓤 (C #{s}) ({s.capitalize()} {X}))" for s, _ in CALLEES)
 HEAD = f"""abbrev PieceS : Slot 3
 PieceS = shrSliceOf (1 ∷ []) tt {U8}
 
-abbrev NumS : Slot 3
-NumS = plain (λ _. usize)
+abbrev OnS : Slot 3
+OnS = plain (λ _. On.the-row)
 
 abbrev stayed : Stays (f.ended .signature .params) (f.ended .kept)
-stayed = {tup('stay-ref (0 ∷ []) tt (plain (λ _. T.the-row))', 'stay-dropped PieceS yes', 'stay-dropped NumS yes', *[f'stay-slice (2 ∷ []) tt {U8}'] * 3)}
+stayed = {tup('stay-ref (0 ∷ []) tt (plain (λ _. T.the-row))', 'stay-dropped PieceS yes', 'stay-dropped OnS yes', *[f'stay-slice (2 ∷ []) tt {U8}'] * 3)}
 
 module _ {GIVEN} {RUN} where
   -- the contracts that the proof cites{''.join(contract(s.capitalize(), s) for s, _ in CALLEES)}
-module _ {GIVEN} (W : Given 𝓤 H A) {RUN} (κ κp κb : Lft) (q qp qb : Share) (b o : ℕ) (γ : GName) (h : Receiver) (yp : {REF}) (n : ℕ) (bc oc : ℕ) (γc : GName) (c₀ : List ℕ) (bs os : ℕ) (γs : GName) (s₀ : List ℕ) (by′ oy : ℕ) (γy : GName) (y₀ : List ℕ) where
+module _ {GIVEN} (W : Given 𝓤 H A) {RUN} (κ κp κb : Lft) (q qp qb : Share) (b o : ℕ) (γ : GName) (h : Receiver) (yp : {REF}) (on : Onward) (bc oc : ℕ) (γc : GName) (c₀ : List ℕ) (bs os : ℕ) (γs : GName) (s₀ : List ℕ) (by′ oy : ℕ) (γy : GName) (y₀ : List ℕ) where
   -- the receiver and the three buffers, under a name and at a value
   abbrev lent : GName → Receiver → RefT Receiver
   lent δ g = record {{ ptr = (b, o); name = δ; now = g }}
@@ -217,8 +220,8 @@ module _ {GIVEN} (W : Given 𝓤 H A) {RUN} (κ κp κb : Lft) (q qp qb : Share)
   abbrev xy : GName → List ℕ → {REF}
   xy δ l = record {{ ptr = (by′, oy); name = δ; now = l }}
 
-  abbrev x : {typed('RefT Receiver', REF, 'ℕ', REF, REF, REF)}
-  x = {tup('lent γ h', 'yp', 'n', 'xc γc c₀', 'xs γs s₀', 'xy γy y₀')}
+  abbrev x : {typed('RefT Receiver', REF, 'Onward', REF, REF, REF)}
+  x = {tup('lent γ h', 'yp', 'on', 'xc γc c₀', 'xs γs s₀', 'xy γy y₀')}
 
   -- machine values
   abbrev tp : Val
@@ -239,18 +242,18 @@ module _ {GIVEN} (W : Given 𝓤 H A) {RUN} (κ κp κb : Lft) (q qp qb : Share)
   abbrev kval : Call → Val
   kval k = EL.val K.the-type K′.the-laws k
 
-  abbrev rval : Run → Val
-  rval s = EL.val Rn.the-type Rn′.the-laws s
+  abbrev onval : Onward → Val
+  onval d = LL.val On.the-type On′.the-laws d
 
   abbrev at : {typed(*['List Val'] * 6)}
-  at = {tup('vptr b o ∷ []', 'tp ∷ []', 'vint w64 n ∷ []', 'tc ∷ []', 'ts ∷ []', 'ty ∷ []')}
+  at = {tup('vptr b o ∷ []', 'tp ∷ []', 'onval on ∷ []', 'tc ∷ []', 'ts ∷ []', 'ty ∷ []')}
 
   abbrev Post : Val → SProp 𝓤
   Post = walkOf 𝓤 H A f.ended stayed (f.clauses {X}) .post ({GHOST}, tt)
 
   -- what the callees' triples bind outside, and what they ask{ASKS}
   -- the walk's end: the receiver and the buffers are still owned
-  exits : (g : Receiver) (r : Onward) (v : Val) (zc zs zy : List ℕ) → {LEN} - r .at ≤ ({LEN} - n) - 1 → length zc ≡ length c₀ → length zs ≡ length s₀ → length zy ≡ length y₀ → Is On.the-row r (v ∷ [])
+  exits : (g : Receiver) (r : Onward) (v : Val) (zc zs zy : List ℕ) → {LEN} - r .at ≤ ({LEN} - on .at) - 1 → length zc ≡ length c₀ → length zs ≡ length s₀ → length zy ≡ length y₀ → Is On.the-row r (v ∷ [])
       → ent 𝓤 (sep 𝓤 (A .lft κ q) (sep 𝓤 (A .lft κp qp) (sep 𝓤 (A .lft κb qb) (sep 𝓤 (sem 𝓤 H A (MutRef (named 0) κ T.the-row .own (lent γ g) (vptr b o ∷ []))) (sep 𝓤 (sem 𝓤 H A ({OWNED[0]})) (sep 𝓤 (sem 𝓤 H A ({OWNED[1]})) (sem 𝓤 H A ({OWNED[2]})))))))) (Post v)
   exits g r v zc zs zy e lc ls ly is =
       qed W (‵ (flft κ q) ∷ ‵ (flft κp qp) ∷ ‵ (flft κb qb) ∷ ‵ (MutRef (named 0) κ T.the-row .own (lent γ g) (vptr b o ∷ [])) ∷ {''.join(f'‵ ({t}) ∷ ' for t in OWNED)}[]) ∵
@@ -261,15 +264,15 @@ module _ {GIVEN} (W : Given 𝓤 H A) {RUN} (κ κp κb : Lft) (q qp qb : Share)
       owned ! On.the-row (Is On.the-row) (LL.makes On.the-type On′.the-plain 𝓤 H A) r _ is $ move ! (1 ∷ 0 ∷ []) $ done !
 
   module _ (C : Calls 𝓤 H) (Λ : Loops 𝓤 H) (fm : FmC 𝓤 H (W .laws) C){KNOWN} where
-    walk : Room u8 {LEN} → n < 2 ^ 64 → Room u8 (length c₀) → Room u8 (length s₀) → Room u8 (length y₀) → ent 𝓤 (onEntry 𝓤 H A f.signature (κ, (κp, (κb, tt))) (q, (qp, (qb, tt))) x at) (WpFn 𝓤 H C Λ code.function (vptr b o ∷ tp ∷ vint w64 n ∷ tc ∷ ts ∷ ty ∷ []) Post)
-    walk room-p n-fits room-c room-s room-y =
+    walk : Room u8 {LEN} → Is On.the-row on (onval on ∷ []) → Room u8 (length c₀) → Room u8 (length s₀) → Room u8 (length y₀) → ent 𝓤 (onEntry 𝓤 H A f.signature (κ, (κp, (κb, tt))) (q, (qp, (qb, tt))) x at) (WpFn 𝓤 H C Λ code.function (vptr b o ∷ tp ∷ onval on ∷ tc ∷ ts ∷ ty ∷ []) Post)
+    walk room-p on-is room-c room-s room-y =
 """
-ROWS = [("ptr-vals", "mut-tells (named 0) (κs .0) T.the-row"), ("slice-vals", "shr-slice-tells (named 1) (κs .1 .0) u8"), ("uint-vals w64", "uint-tells w64")] + [("slice-vals", "mut-slice-tells (named 2) (κs .1 .1 .0) u8")] * 3
-GOES = ["goes-ref 𝓤 H A W 3 0 tt (plain (λ _. T.the-row))"] + [f"goes-dropped 𝓤 H A W 3 {s} yes (λ κs x f. refl)" for s in ("PieceS", "NumS")] + [f"goes-slice 𝓤 H A W 3 2 tt {U8}"] * 3
+ROWS = [("ptr-vals", "mut-tells (named 0) (κs .0) T.the-row"), ("slice-vals", "shr-slice-tells (named 1) (κs .1 .0) u8"), ("LL.vals On.the-type On′.the-laws", "LL.tells On.the-type On′.the-laws")] + [("slice-vals", "mut-slice-tells (named 2) (κs .1 .1 .0) u8")] * 3
+GOES = ["goes-ref 𝓤 H A W 3 0 tt (plain (λ _. T.the-row))"] + [f"goes-dropped 𝓤 H A W 3 {s} yes (λ κs x f. refl)" for s in ("PieceS", "OnS")] + [f"goes-slice 𝓤 H A W 3 2 tt {U8}"] * 3
 at = ["a" + " .1" * n + " .0" for n in range(6)]
 parts = lambda a: f"({a} .ptr .0) ({a} .ptr .1) ({a} .name) ({a} .now)"
 PASSED = f"{parts(at[0])} ({at[1]}) ({at[2]}) " + " ".join(parts(a) for a in at[3:])
-ARE = " ".join(["(are .1 .0 .0 .1)", "(are .1 .1 .0 .1)"] + [f"(are{' .1' * n} .0 .0 .1)" for n in (3, 4, 5)])
+ARE = " ".join(["(are .1 .0 .0 .1)", "(are .1 .1 .0)"] + [f"(are{' .1' * n} .0 .0 .1)" for n in (3, 4, 5)])
 WALK = f"walk 𝓤 H A W at-mem run (κs .0) (κs .1 .0) (κs .1 .1 .0) (qs .0) (qs .1 .0) (qs .1 .1 .0) {PASSED}\n      C Λ fm " + " ".join(f"known-{s}" for s, _ in CALLEES) + f" {ARE}"
 CRATES = {"rest": "replay", "planned": "replay", "finish": "replay"}
 ABOUT = "`turn` meets its contract: a walk of its MIR. The receiver and the buffers are lent to each call for a lifetime of its own, and come back."

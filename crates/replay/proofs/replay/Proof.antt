@@ -1,3 +1,4 @@
+use Prim.Native.Nat.{_+_}
 use mathlib.Core.Path.{_≡_}
 use lib.ListN.{length}
 use borrow.Author.Needs.{needs}
@@ -10,7 +11,7 @@ use Rattle.replay.proofs.replay.Tie as tie
 
 abbrev Inv-loop : tie.InvT-loop
 Inv-loop piece₀ carry₀ scratch₀ reply₀ receiver₀ turns₀ piece carry scratch reply receiver turns =
-    (65536 ≡ length piece) × (textLimit ≡ length carry) × (scratchRoom ≡ length scratch) × (replyRoom ≡ length reply)
+    (65536 ≡ length piece) × (textLimit ≡ length carry) × (scratchRoom ≡ length scratch) × (replyRoom + 8192 ≡ length reply)
 
 abbrev μ-loop : tie.MeasureT-loop
 μ-loop piece₀ carry₀ scratch₀ reply₀ receiver₀ turns₀ piece carry scratch reply receiver turns = turns
@@ -61,6 +62,12 @@ slice-aggregate-take-4 c = search needs
 take-requires : tie.Need-take-requires Inv-loop μ-loop
 take-requires c κs = search needs
 
+slice-aggregate-flush : tie.Need-slice-aggregate-flush Inv-loop μ-loop
+slice-aggregate-flush c = search needs
+
+flush-requires : tie.Need-flush-requires Inv-loop μ-loop
+flush-requires c κs = search needs
+
 is-well-requires : tie.Need-is-well-requires Inv-loop μ-loop
 is-well-requires c κs = search needs
 
@@ -102,6 +109,8 @@ replay-spec =
     slice-aggregate-take-3
     slice-aggregate-take-4
     take-requires
+    slice-aggregate-flush
+    flush-requires
     is-well-requires
     returns-2
     sub-turns

@@ -2,7 +2,8 @@
 -- back.
 -- Printed by tools/turn.py. Assumes nothing.
 use mathlib.Core.Path.{_≡_, refl, sym, _∙_, ap, subst}
-use Prim.Native.Nat.{ℕ, _<_, _^_}
+use Prim.Native.Nat.{ℕ}
+use native.Mathlib.Omega.{arith}
 use mathlib.Core.List.{[], _∷_, List}
 use lib.Dec.{T}
 use lib.ListN.{length}
@@ -58,17 +59,14 @@ use Rattle.receiver_in_place.specs.declared.AnsweredInPlace.{AnsweredInPlace}
 use Rattle.receiver_in_place.specs.declared.FedInPlace.{FedInPlace}
 use Rattle.receiver_in_place.proofs.Again.{LentAgain, lends-again, comes-back}
 use Rattle.receiver_in_place.proofs.Early.{early}
+use Rattle.receiver_in_place.proofs.Cells.{vals}
 use Rattle.receiver_in_place.proofs.Call as K
 use Rattle.receiver_in_place.proofs.Call.Laws as K′
 use Rattle.receiver_in_place.proofs.FedInPlace as F
 use Rattle.receiver_in_place.proofs.FedInPlace.Laws as F′
 use Prim.Native.Nat.{_-_, _≤_}
 use denote.Slice.{shr-slice-lawful}
-use denote.Plain.{uint-vals, uint-tells}
 use denote.Triple.Walked.{stay-slice, goes-slice}
-use Rattle.streams.specs.declared.Run.{Run}
-use Rattle.streams.proofs.Run as Rn
-use Rattle.streams.proofs.Run.Laws as Rn′
 use Rattle.replay.specs.declared.console.Onward.{Onward}
 use Rattle.replay.specs.declared.console.Plan.{Plan}
 use Rattle.replay.proofs.console.Onward as On
@@ -105,8 +103,8 @@ use Rattle.replay.proofs.console.turn.Code as code
 abbrev PieceS : Slot 3
 PieceS = shrSliceOf (1 ∷ []) tt (plain (λ _. u8))
 
-abbrev NumS : Slot 3
-NumS = plain (λ _. usize)
+abbrev OnS : Slot 3
+OnS = plain (λ _. On.the-row)
 
 abbrev stayed : Stays (f.ended .signature .params) (f.ended .kept)
 stayed = (
@@ -114,7 +112,7 @@ stayed = (
   (
     stay-dropped PieceS yes,
     (
-      stay-dropped NumS yes,
+      stay-dropped OnS yes,
       (
         stay-slice (2 ∷ []) tt
             (plain (λ _. u8)),
@@ -142,8 +140,8 @@ module _ {M : Type 1} (𝓤 : URA M) (H : Heap 𝓤) (A : Atoms 𝓤) (at-mem : 
   Finish = tripleOf 𝓤 H A finish.signature (finish.spec 𝓤 H A at-mem run)
 
 module _ {M : Type 1} (𝓤 : URA M) (H : Heap 𝓤) (A : Atoms 𝓤) (W : Given 𝓤 H A) (at-mem : Memory → SProp 𝓤) (run : Routine → Fun 𝓤) (κ
-    κp κb : Lft) (q qp qb : Share) (b o : ℕ) (γ : GName) (h : Receiver) (yp : RefT (List ℕ)) (n : ℕ) (bc oc : ℕ) (γc : GName) (c₀ :
-    List ℕ) (bs os : ℕ) (γs : GName) (s₀ : List ℕ) (by′ oy : ℕ) (γy : GName) (y₀ : List ℕ) where
+    κp κb : Lft) (q qp qb : Share) (b o : ℕ) (γ : GName) (h : Receiver) (yp : RefT (List ℕ)) (on : Onward) (bc oc : ℕ) (γc : GName) (c₀
+    : List ℕ) (bs os : ℕ) (γs : GName) (s₀ : List ℕ) (by′ oy : ℕ) (γy : GName) (y₀ : List ℕ) where
   -- the receiver and the three buffers, under a name and at a value
   abbrev lent : GName → Receiver → RefT Receiver
   lent δ g = record { ptr = (b, o); name = δ; now = g }
@@ -157,8 +155,8 @@ module _ {M : Type 1} (𝓤 : URA M) (H : Heap 𝓤) (A : Atoms 𝓤) (W : Given
   abbrev xy : GName → List ℕ → RefT (List ℕ)
   xy δ l = record { ptr = (by′, oy); name = δ; now = l }
 
-  abbrev x : RefT Receiver × (RefT (List ℕ) × (ℕ × (RefT (List ℕ) × (RefT (List ℕ) × (RefT (List ℕ) × Unit {0})))))
-  x = (lent γ h, (yp, (n, (xc γc c₀, (xs γs s₀, (xy γy y₀, tt))))))
+  abbrev x : RefT Receiver × (RefT (List ℕ) × (Onward × (RefT (List ℕ) × (RefT (List ℕ) × (RefT (List ℕ) × Unit {0})))))
+  x = (lent γ h, (yp, (on, (xc γc c₀, (xs γs s₀, (xy γy y₀, tt))))))
 
   -- machine values
   abbrev tp : Val
@@ -179,24 +177,24 @@ module _ {M : Type 1} (𝓤 : URA M) (H : Heap 𝓤) (A : Atoms 𝓤) (W : Given
   abbrev kval : Call → Val
   kval k = EL.val K.the-type K′.the-laws k
 
-  abbrev rval : Run → Val
-  rval s = EL.val Rn.the-type Rn′.the-laws s
+  abbrev onval : Onward → Val
+  onval d = LL.val On.the-type On′.the-laws d
 
   abbrev at : List Val × (List Val × (List Val × (List Val × (List Val × (List Val × Unit {0})))))
-  at = (vptr b o ∷ [], (tp ∷ [], (vint w64 n ∷ [], (tc ∷ [], (ts ∷ [], (ty ∷ [], tt))))))
+  at = (vptr b o ∷ [], (tp ∷ [], (onval on ∷ [], (tc ∷ [], (ts ∷ [], (ty ∷ [], tt))))))
 
   abbrev Post : Val → SProp 𝓤
   Post = walkOf 𝓤 H A f.ended stayed (f.clauses 𝓤 H A at-mem run) .post (((κ, (κp, (κb, tt))), (q, (qp, (qb, tt))), tt, x, at), tt)
 
   -- what the callees' triples bind outside, and what they ask
   abbrev rest-args : RefT (List ℕ) × (ℕ × Unit {0})
-  rest-args = (yp, (n, tt))
+  rest-args = (yp, (on .at, tt))
 
   abbrev to-rest : Rest 𝓤 H A at-mem run .Ghost
-  to-rest = (((κp, tt), (qp, tt), tt, rest-args, (tp ∷ [], (vint w64 n ∷ [], tt))), tt)
+  to-rest = (((κp, tt), (qp, tt), tt, rest-args, (tp ∷ [], (vint w64 (on .at) ∷ [], tt))), tt)
 
   abbrev RestOwn : Fml
-  RestOwn = fsep (ShrSlice (named 0) κp u8 .own yp (tp ∷ [])) (fsep (usize .own n (vint w64 n ∷ [])) ftrue)
+  RestOwn = fsep (ShrSlice (named 0) κp u8 .own yp (tp ∷ [])) (fsep (usize .own (on .at) (vint w64 (on .at) ∷ [])) ftrue)
 
   goes-rest : ent 𝓤 (sep 𝓤 (sep 𝓤 (A .lft κp qp) (sem 𝓤 H A ftrue)) (sem 𝓤 H A RestOwn)) (Rest 𝓤 H A at-mem run .pre to-rest)
   goes-rest = qed W (((‵ (flft κp qp) ⊛ ‵ ftrue) ⊛ ‵ RestOwn) ∷ []) ∵ frame ! $ done !
@@ -228,8 +226,8 @@ module _ {M : Type 1} (𝓤 : URA M) (H : Heap 𝓤) (A : Atoms 𝓤) (W : Given
   goes-feed ν μ δ δc δs δy l v = qed W (((‵ (flft (ν ∷ []) fullShare) ⊛ ‵ (flft κp qp) ⊛ ‵ (flft (μ ∷ []) fullShare) ⊛ ‵ ftrue) ⊛ ‵
       (FeedOwn ν μ δ δc δs δy l v)) ∷ []) ∵ frame ! $ done !
 
-  abbrev planned-args : GName → FedInPlace → List ℕ → FedInPlace × (ℕ × (ℕ × (RefT (List ℕ) × Unit {0})))
-  planned-args δ r l = (r, (n, (length (yp .now), (xy δ l, tt))))
+  abbrev planned-args : GName → FedInPlace → List ℕ → FedInPlace × (Onward × (ℕ × (RefT (List ℕ) × Unit {0})))
+  planned-args δ r l = (r, (on, (length (yp .now), (xy δ l, tt))))
 
   abbrev to-planned : ℕ → GName → FedInPlace → List ℕ → Planned 𝓤 H A at-mem run .Ghost
   to-planned μ δ r l = (
@@ -241,7 +239,7 @@ module _ {M : Type 1} (𝓤 : URA M) (H : Heap 𝓤) (A : Atoms 𝓤) (W : Given
       (
         fval r ∷ [],
         (
-          vint w64 n ∷ [],
+          onval on ∷ [],
           (
             vint w64 (length (yp
                 .now)) ∷ [],
@@ -254,7 +252,7 @@ module _ {M : Type 1} (𝓤 : URA M) (H : Heap 𝓤) (A : Atoms 𝓤) (W : Given
   )
 
   abbrev PlannedOwn : ℕ → GName → FedInPlace → List ℕ → Fml
-  PlannedOwn μ δ r l = fsep (F.the-row .own r (fval r ∷ [])) (fsep (usize .own n (vint w64 n ∷ [])) (fsep (usize .own (length (yp
+  PlannedOwn μ δ r l = fsep (F.the-row .own r (fval r ∷ [])) (fsep (On.the-row .own on (onval on ∷ [])) (fsep (usize .own (length (yp
       .now)) (vint w64 (length (yp .now)) ∷ [])) (fsep (MutSlice (named 0) (μ ∷ []) u8 .own (xy δ l) (ty ∷ [])) ftrue)))
 
   goes-planned : (μ : ℕ) (δ : GName) (r : FedInPlace) (l : List ℕ) → ent 𝓤 (sep 𝓤 (sep 𝓤 (A .lft (μ ∷ []) fullShare) (sem 𝓤 H A ftrue))
@@ -291,24 +289,24 @@ module _ {M : Type 1} (𝓤 : URA M) (H : Heap 𝓤) (A : Atoms 𝓤) (W : Given
   goes-answer ν μ δ δc δy v g k r l zc zy = qed W (((‵ (flft (ν ∷ []) fullShare) ⊛ ‵ (flft κp qp) ⊛ ‵ (flft (μ ∷ []) fullShare) ⊛ ‵
       ftrue) ⊛ ‵ (AnswerOwn ν μ δ δc δy v g k r l zc zy)) ∷ []) ∵ frame ! $ done !
 
-  abbrev finish-args : GName → Run → ℕ → ℕ → List ℕ → Run × (ℕ × (ℕ × (ℕ × (ℕ × (RefT (List ℕ) × Unit {0})))))
-  finish-args δ s m u l = (s, (m, (n, (u, (length (yp .now), (xy δ l, tt))))))
+  abbrev finish-args : GName → Onward → ℕ → List ℕ → Onward × (ℕ × (ℕ × (RefT (List ℕ) × Unit {0})))
+  finish-args δ d m l = (d, (m, (length (yp .now), (xy δ l, tt))))
 
-  abbrev to-finish : ℕ → GName → Run → ℕ → ℕ → List ℕ → Finish 𝓤 H A at-mem run .Ghost
-  to-finish μ δ s m u l = (
+  abbrev to-finish : ℕ → GName → Onward → ℕ → List ℕ → Finish 𝓤 H A at-mem run .Ghost
+  to-finish μ δ d m l = (
     (
       ((μ ∷ []), tt),
       (fullShare, tt),
       tt,
-      finish-args δ s m u l,
+      finish-args δ d m l,
       (
-        rval s ∷ [],
+        onval d ∷ [],
         (
           vint w64 m ∷ [],
           (
-            vint w64 n ∷
-                [],
-            (vint w64 u ∷ [], (vint w64 (length (yp .now)) ∷ [], (ty ∷ [], tt))),
+            vint w64 (length
+                (yp .now)) ∷ [],
+            (ty ∷ [], tt),
           ),
         ),
       ),
@@ -316,17 +314,16 @@ module _ {M : Type 1} (𝓤 : URA M) (H : Heap 𝓤) (A : Atoms 𝓤) (W : Given
     tt,
   )
 
-  abbrev FinishOwn : ℕ → GName → Run → ℕ → ℕ → List ℕ → Fml
-  FinishOwn μ δ s m u l = fsep (Rn.the-row .own s (rval s ∷ [])) (fsep (usize .own m (vint w64 m ∷ [])) (fsep (usize .own n (vint w64 n
-      ∷ [])) (fsep (usize .own u (vint w64 u ∷ [])) (fsep (usize .own (length (yp .now)) (vint w64 (length (yp .now)) ∷ [])) (fsep
-      (MutSlice (named 0) (μ ∷ []) u8 .own (xy δ l) (ty ∷ [])) ftrue)))))
+  abbrev FinishOwn : ℕ → GName → Onward → ℕ → List ℕ → Fml
+  FinishOwn μ δ d m l = fsep (On.the-row .own d (onval d ∷ [])) (fsep (usize .own m (vint w64 m ∷ [])) (fsep (usize .own (length (yp
+      .now)) (vint w64 (length (yp .now)) ∷ [])) (fsep (MutSlice (named 0) (μ ∷ []) u8 .own (xy δ l) (ty ∷ [])) ftrue)))
 
-  goes-finish : (μ : ℕ) (δ : GName) (s : Run) (m : ℕ) (u : ℕ) (l : List ℕ) → ent 𝓤 (sep 𝓤 (sep 𝓤 (A .lft (μ ∷ []) fullShare) (sem 𝓤 H A
-      ftrue)) (sem 𝓤 H A (FinishOwn μ δ s m u l))) (Finish 𝓤 H A at-mem run .pre (to-finish μ δ s m u l))
-  goes-finish μ δ s m u l = qed W (((‵ (flft (μ ∷ []) fullShare) ⊛ ‵ ftrue) ⊛ ‵ (FinishOwn μ δ s m u l)) ∷ []) ∵ frame ! $ done !
+  goes-finish : (μ : ℕ) (δ : GName) (d : Onward) (m : ℕ) (l : List ℕ) → ent 𝓤 (sep 𝓤 (sep 𝓤 (A .lft (μ ∷ []) fullShare) (sem 𝓤 H A
+      ftrue)) (sem 𝓤 H A (FinishOwn μ δ d m l))) (Finish 𝓤 H A at-mem run .pre (to-finish μ δ d m l))
+  goes-finish μ δ d m l = qed W (((‵ (flft (μ ∷ []) fullShare) ⊛ ‵ ftrue) ⊛ ‵ (FinishOwn μ δ d m l)) ∷ []) ∵ frame ! $ done !
 
   -- the walk's end: the receiver and the buffers are still owned
-  exits : (g : Receiver) (r : Onward) (v : Val) (zc zs zy : List ℕ) → (length (yp .now)) - r .at ≤ ((length (yp .now)) - n) - 1 →
+  exits : (g : Receiver) (r : Onward) (v : Val) (zc zs zy : List ℕ) → (length (yp .now)) - r .at ≤ ((length (yp .now)) - on .at) - 1 →
       length zc ≡ length c₀ → length zs ≡ length s₀ → length zy ≡ length y₀ → Is On.the-row r (v ∷ [])
       → ent 𝓤 (sep 𝓤 (A .lft κ q) (sep 𝓤 (A .lft κp qp) (sep 𝓤 (A .lft κb qb) (sep 𝓤 (sem 𝓤 H A (MutRef (named 0) κ T.the-row .own
       (lent γ g) (vptr b o ∷ []))) (sep 𝓤 (sem 𝓤 H A (MutSlice (named 2) κb u8 .own (xc γc zc) (tc ∷ []))) (sep 𝓤 (sem 𝓤 H A
@@ -350,12 +347,12 @@ module _ {M : Type 1} (𝓤 : URA M) (H : Heap 𝓤) (A : Atoms 𝓤) (W : Given
       (known-feed : Triple 𝓤 (C #feed) (Feed 𝓤 H A at-mem run)) (known-planned : Triple 𝓤 (C #planned) (Planned 𝓤 H A at-mem run))
       (known-answer : Triple 𝓤 (C #answer) (Answer 𝓤 H A at-mem run)) (known-finish : Triple 𝓤 (C #finish) (Finish 𝓤 H A at-mem run))
     where
-      walk : Room u8 (length (yp .now)) → n < 2 ^ 64 → Room u8 (length c₀) → Room u8 (length s₀) → Room u8 (length y₀) → ent 𝓤 (onEntry 𝓤
-          H A f.signature (κ, (κp, (κb, tt))) (q, (qp, (qb, tt))) x at) (WpFn 𝓤 H C Λ code.function (vptr b o ∷ tp ∷ vint w64 n ∷ tc ∷ ts
-          ∷ ty ∷ []) Post)
-      walk room-p n-fits room-c room-s room-y =
+      walk : Room u8 (length (yp .now)) → Is On.the-row on (onval on ∷ []) → Room u8 (length c₀) → Room u8 (length s₀) → Room u8 (length
+          y₀) → ent 𝓤 (onEntry 𝓤 H A f.signature (κ, (κp, (κb, tt))) (q, (qp, (qb, tt))) x at) (WpFn 𝓤 H C Λ code.function (vptr b o ∷ tp
+          ∷ onval on ∷ tc ∷ ts ∷ ty ∷ []) Post)
+      walk room-p on-is room-c room-s room-y =
           qed W ((‵ (flft κ q) ⊛ ‵ (flft κp qp) ⊛ ‵ (flft κb qb) ⊛ ‵ ftrue) ∷ ‵ (owns (MutRef (named 0) κ T.the-row ∷ ShrSlice (named 1)
-          κp u8 ∷ usize ∷ MutSlice (named 2) κb u8 ∷ MutSlice (named 2) κb u8 ∷ MutSlice (named 2) κb u8 ∷ []) x at) ∷ []) ∵
+          κp u8 ∷ On.the-row ∷ MutSlice (named 2) κb u8 ∷ MutSlice (named 2) κb u8 ∷ MutSlice (named 2) κb u8 ∷ []) x at) ∷ []) ∵
           split ! $
           move ! (1 ∷ []) $ split ! $
           move ! (1 ∷ []) $ split ! $
@@ -367,27 +364,25 @@ module _ {M : Type 1} (𝓤 : URA M) (H : Heap 𝓤) (A : Atoms 𝓤) (W : Given
           move ! (1 ∷ []) $ fsplit ! $
           move ! (1 ∷ []) $ fsplit ! $
           move ! (1 ∷ []) $ drop ! $
-          enter ! C Λ code.function (vptr b o ∷ tp ∷ vint w64 n ∷ tc ∷ ts ∷ ty ∷ []) _ $
+          enter ! C Λ code.function (vptr b o ∷ tp ∷ onval on ∷ tc ∷ ts ∷ ty ∷ []) _ $
           alloc1 ! (λ l₀. alloc1 ! (λ l₁. alloc1 ! (λ l₂. alloc1 ! (λ l₃. alloc1 ! (λ l₄. alloc1 ! (λ l₅. alloc1 ! (λ l₆. alloc1 ! (λ l₇.
           alloc1 ! (λ l₈. alloc1 ! (λ l₉. alloc1 ! (λ l₁₀. alloc1 ! (λ l₁₁. alloc1 ! (λ l₁₂. alloc1 ! (λ l₁₃. alloc1 ! (λ l₁₄. alloc1
           ! (λ l₁₅. alloc1 ! (λ l₁₆. alloc1 ! (λ l₁₇. alloc1 ! (λ l₁₈. alloc1 ! (λ l₁₉. alloc1 ! (λ l₂₀. alloc1 ! (λ l₂₁. alloc1 ! (λ
           l₂₂. alloc1 ! (λ l₂₃. alloc1 ! (λ l₂₄. alloc1 ! (λ l₂₅. alloc1 ! (λ l₂₆. alloc1 ! (λ l₂₇. alloc1 ! (λ l₂₈. alloc0 ! $
           params1 ! $ pass1 ! (init ! 54 refl (tt, tt)) $ pass1 ! (init ! 52 refl (tt, (tt, (record { fits = room-p .0 }, tt)))) $
-          pass1 ! (init ! 50 {τ = tyInt w64} refl (tt, record { fits = n-fits })) $ pass1 ! (init ! 48 refl (
+          pass1 ! (init ! 50 {τ = On′.mir} refl (LL.lawful On.the-type On′.the-laws 𝓤 H A W .typed on _ on-is .0)) $ pass1 ! (init !
+          48 refl (tt, (tt, (record { fits = room-c .0 }, tt)))) $ pass1 ! (init ! 46 refl (
             tt,
             (
               tt,
               (
-                record {
-                  fits
-                      = room-c .0;
-                },
+                record { fits = room-s .0 },
                 tt,
               ),
             ),
-          )) $ pass1 ! (init ! 46 refl (tt, (tt, (record { fits = room-s .0 }, tt)))) $ pass1 ! (init ! 44 refl
-          (tt, (tt, (record { fits = room-y .0 }, tt)))) $ pass0 ! $
-          owned ! usize (Is usize) (uint-makes 𝓤 H A W w64) n _ (refl, n-fits) $
+          )) $ pass1 ! (init ! 44 refl (tt, (tt, (record { fits = room-y .0 }, tt)))) $ pass0 ! $
+          let known = LL.owed On.the-type On′.the-laws on _ on-is in
+          owned ! usize (Is usize) (uint-makes 𝓤 H A W w64) (on .at) _ (known .0) $
           nothing ! $
           move ! (1 ∷ 0 ∷ []) $ fjoin ! $
           move ! (62 ∷ 0 ∷ []) $ fjoin ! $
@@ -395,7 +390,8 @@ module _ {M : Type 1} (𝓤 : URA M) (H : Heap 𝓤) (A : Atoms 𝓤) (W : Given
           move ! (65 ∷ 0 ∷ []) $ join ! $
           join ! $ use1 W (raw (Rest 𝓤 H A at-mem run .pre to-rest)) goes-rest $
           calls-at ! fm (Rest 𝓤 H A at-mem run) known-rest (to-rest) (and-then ! (load ! (from ! (stop !)) (look ! 53 refl)) (and-then !
-          (load ! (from ! (stop !)) (look ! 51 refl)) (no-more !))) (λ v₀.
+          (load ! (from ! (fld ! {τ = tyInt w64} {d = 0} refl (stop !))) (look-in ! 51 (sub ! 0 {τ = tyInt w64} {d = 0} refl (whole
+          !)))) (no-more !))) (λ v₀.
           use1 W (later (some (λ (r : RefT (List ℕ)). ((‵ (flft κp qp) ⊛ ‵ ftrue) ⊛ ‵ ((ShrSlice (named 0) κp u8) .own r (v₀ ∷ []))) ⊛
           raw (ensured 𝓤 H A rest.ended (rest.clauses 𝓤 H A at-mem run) (κp, tt) rest-args tt r)))) (id⊢ 𝓤 _) $ await ! tt $ pick !
           (λ r₀. split ! $
@@ -532,7 +528,7 @@ module _ {M : Type 1} (𝓤 : URA M) (H : Heap 𝓤) (A : Atoms 𝓤) (W : Given
           rewrite ! 0 (λ (m : ℕ). ‵ (MutSlice (named 0) (μ₂ ∷ []) u8 .own (xy δy₂ (zs₁ .1 .1 .1 .1 .0)) (sliceVal (by′, oy) m ∷ []))) ly₁
           refl $
           owned ! usize (Is usize) (uint-makes 𝓤 H A W w64) (length (yp .now)) _ (refl, room-p .0) $
-          owned ! usize (Is usize) (uint-makes 𝓤 H A W w64) n _ (refl, n-fits) $
+          owned ! On.the-row (Is On.the-row) (LL.makes On.the-type On′.the-plain 𝓤 H A) on _ on-is $
           owned ! F.the-row (Is F.the-row) (LL.makes F.the-type F′.the-plain 𝓤 H A) r₁ _ (LL.owes F.the-type F′.the-laws r₁ told₁) $
           nothing ! $
           move ! (4 ∷ 0 ∷ []) $ fjoin ! $
@@ -545,8 +541,8 @@ module _ {M : Type 1} (𝓤 : URA M) (H : Heap 𝓤) (A : Atoms 𝓤) (W : Given
           .1 .1 .1 .1 .0)) $
           -- [asked; reply-kept; scratch; carry; ref; r-token; p-token; left-again] and the locals
           calls-at ! fm (Planned 𝓤 H A at-mem run) known-planned (to-planned μ₂ δy₂ r₁ (zs₁ .1 .1 .1 .1 .0)) (and-then ! (load ! (from !
-          (stop !)) (look ! 48 {τ = F′.mir} refl)) (and-then ! (load ! (from ! (stop !)) (look ! 58 refl)) (and-then ! (load ! (from
-          ! (stop !)) (look ! 28 refl)) (and-then ! (load ! (from ! (stop !)) (look ! 24 refl)) (no-more !))))) (λ v₂.
+          (stop !)) (look ! 48 {τ = F′.mir} refl)) (and-then ! (load ! (from ! (stop !)) (look ! 58 {τ = On′.mir} refl)) (and-then !
+          (load ! (from ! (stop !)) (look ! 28 refl)) (and-then ! (load ! (from ! (stop !)) (look ! 24 refl)) (no-more !))))) (λ v₂.
           use1 W (later (some (λ (r : Plan). ((‵ (flft (μ₂ ∷ []) fullShare) ⊛ ‵ ftrue) ⊛ ‵ (Pl.the-row .own r (v₂ ∷ []))) ⊛ raw (ensured
           𝓤 H A planned.ended (planned.clauses 𝓤 H A at-mem run) (μ₂ ∷ [], tt) (planned-args δy₂ r₁ (zs₁ .1 .1 .1 .1 .0)) tt r))))
           (id⊢ 𝓤 _) $ await ! tt $ pick ! (λ r₂. split ! $
@@ -555,8 +551,8 @@ module _ {M : Type 1} (𝓤 : URA M) (H : Heap 𝓤) (A : Atoms 𝓤) (W : Given
                 [],
             tt,
           ) (planned-args δy₂ r₁ (zs₁ .1 .1 .1 .1 .0)) zs) ⊛ raw (fact 𝓤 ((length (yp .now)) - r₂ .onward .at ≤ ((length (yp
-          .now)) - n) - 1)))) (id⊢ 𝓤 _) $ pick ! (λ zs₂. split ! $
-          move ! (1 ∷ []) $ heard ! ((length (yp .now)) - r₂ .onward .at ≤ ((length (yp .now)) - n) - 1) (λ e₂.
+          .now)) - on .at) - 1)))) (id⊢ 𝓤 _) $ pick ! (λ zs₂. split ! $
+          move ! (1 ∷ []) $ heard ! ((length (yp .now)) - r₂ .onward .at ≤ ((length (yp .now)) - on .at) - 1) (λ e₂.
           fsplit ! $ drop ! $
           fsplit ! $ drop ! $
           fsplit ! $ drop ! $
@@ -576,17 +572,17 @@ module _ {M : Type 1} (𝓤 : URA M) (H : Heap 𝓤) (A : Atoms 𝓤) (W : Given
           .1 .1 .1 .1 .0) δy₂ (zs₂ .1 .1 .1 .0) (subst (Room u8) (sym ly₁) room-y) ly₂) $ await ! tt $ split ! $
           rewrite ! 0 (λ (m : ℕ). ‵ (MutSlice (named 2) κb u8 .own (xy γy (zs₂ .1 .1 .1 .0)) (sliceVal (by′, oy) m ∷ []))) ly₁ refl $
           -- [reply; b-token; scratch; carry; ref; r-token; p-token; left-again] and the locals
-          assigns ! (of-opd ! (load ! (from ! (fld ! {τ = tyBool} {d = 3} refl (stop !))) (look-in ! 46 {τ = tyBool} (sub ! 2 {τ =
-          tyBool} {d = 3} refl (whole !))))) (from ! (stop !)) (init ! 22 {τ = tyBool} refl (tt, tt)) $
+          assigns ! (of-opd ! (load ! (from ! (fld ! {τ = tyBool} {d = 2} refl (stop !))) (look-in ! 46 {τ = tyBool} (sub ! 1 {τ =
+          tyBool} {d = 2} refl (whole !))))) (from ! (stop !)) (init ! 22 {τ = tyBool} refl (tt, tt)) $
           early ! (load ! (from ! (stop !)) (look ! 22 {τ = tyBool} refl)) (λ yes.
-          assigns ! (of-opd ! (load ! (from ! (fld ! {τ = On′.mir} {d = 8} refl (stop !))) (look-in ! 46 {τ = On′.mir} (sub ! 3 {τ =
+          assigns ! (of-opd ! (load ! (from ! (fld ! {τ = On′.mir} {d = 8} refl (stop !))) (look-in ! 46 {τ = On′.mir} (sub ! 2 {τ =
           On′.mir} {d = 8} refl (whole !))))) (from ! (stop !)) (init ! 64 {τ = On′.mir} refl (LL.lawful On.the-type On′.the-laws 𝓤 H
-          A W .typed (r₂ .onward) _ (told₂ .1 .1 .1 .0) .0)) $
+          A W .typed (r₂ .onward) _ (told₂ .1 .1 .0) .0)) $
           returns-within ! Post refl (look ! 64 {τ = On′.mir} refl) $ forget ! 22 {τ = tyBool} refl $ forget ! 24 refl $ forget ! 26 refl
           $ forget ! 28 refl $ forget ! 30 refl $ forget ! 32 refl $ forget ! 34 refl $ forget ! 36 refl $ forget ! 38 refl $ forget
           ! 40 refl $ forget ! 42 refl $ forget ! 46 {τ = Pl′.mir} refl $ forget ! 48 {τ = F′.mir} refl $ forget ! 50 refl $ forget !
-          52 refl $ forget ! 54 refl $ forget ! 56 refl $ forget ! 58 refl $ forget ! 60 refl $ forget ! 62 refl $ forget ! 64 {τ =
-          On′.mir} refl $
+          52 refl $ forget ! 54 refl $ forget ! 56 refl $ forget ! 58 {τ = On′.mir} refl $ forget ! 60 refl $ forget ! 62 refl $
+          forget ! 64 {τ = On′.mir} refl $
           move ! (64 ∷ 65 ∷ []) $ free1 ! $ move ! (62 ∷ 63 ∷ []) $ free1 ! $ move ! (60 ∷ 61 ∷ []) $ free1 ! $ move ! (58 ∷ 59 ∷ []) $
           free1 ! $ move ! (56 ∷ 57 ∷ []) $ free1 ! $ move ! (54 ∷ 55 ∷ []) $ free1 ! $ move ! (52 ∷ 53 ∷ []) $ free1 ! $ move ! (50
           ∷ 51 ∷ []) $ free1 ! $ move ! (48 ∷ 49 ∷ []) $ free1 ! $ move ! (46 ∷ 47 ∷ []) $ free1 ! $ move ! (44 ∷ 45 ∷ []) $ free1 !
@@ -597,7 +593,7 @@ module _ {M : Type 1} (𝓤 : URA M) (H : Heap 𝓤) (A : Atoms 𝓤) (W : Given
           ∷ 15 ∷ []) $ free1 ! $ move ! (12 ∷ 13 ∷ []) $ free1 ! $ move ! (10 ∷ 11 ∷ []) $ free1 ! $ move ! (8 ∷ 9 ∷ []) $ free1 ! $
           free0 ! $
           keep ! (5 ∷ 6 ∷ 1 ∷ 4 ∷ 3 ∷ 2 ∷ 0 ∷ []) $ by ! (exits (zs₁ .0) (r₂ .onward) (LL.val On.the-type On′.the-laws (r₂ .onward)) (zs₁
-          .1 .1 .0) (zs₁ .1 .1 .1 .0) (zs₂ .1 .1 .1 .0) e₂ lc₁ ls₁ (ly₂ ∙ ly₁) (told₂ .1 .1 .1 .0)))
+          .1 .1 .0) (zs₁ .1 .1 .1 .0) (zs₂ .1 .1 .1 .0) e₂ lc₁ ls₁ (ly₂ ∙ ly₁) (told₂ .1 .1 .0)))
           (λ no.
           assigns ! (addr ! (from ! (hop ! {τ = T′.mir} (look ! 62 refl) (stop !)))) (from ! (stop !)) (init ! 20 refl (tt, tt)) $
           assigns ! (addr ! (from ! (fld ! {d = 0} refl (hop ! {τ = tyInt w8} (look-in ! 56 (sub ! 0 {d = 0} refl (whole !))) (stop
@@ -632,7 +628,7 @@ module _ {M : Type 1} (𝓤 : URA M) (H : Heap 𝓤) (A : Atoms 𝓤) (W : Given
           rewrite ! 0 (λ (m : ℕ). ‵ (MutSlice (named 2) (μ₃ ∷ []) u8 .own (xy δy₃ (zs₂ .1 .1 .1 .0)) (sliceVal (by′, oy) m ∷ []))) (ly₂ ∙
           ly₁) refl $
           owned ! F.the-row (Is F.the-row) (LL.makes F.the-type F′.the-plain 𝓤 H A) r₁ _ (LL.owes F.the-type F′.the-laws r₁ told₁) $
-          owned ! K.the-row (Is K.the-row) (EL.makes K.the-type K′.the-plain 𝓤 H A) (r₂ .call) _ (told₂ .1 .0) $
+          owned ! K.the-row (Is K.the-row) (EL.makes K.the-type K′.the-plain 𝓤 H A) (r₂ .call) _ (told₂ .0) $
           nothing ! $
           move ! (3 ∷ 0 ∷ []) $ fjoin ! $
           move ! (4 ∷ 0 ∷ []) $ fjoin ! $
@@ -649,7 +645,7 @@ module _ {M : Type 1} (𝓤 : URA M) (H : Heap 𝓤) (A : Atoms 𝓤) (W : Given
           -- [asked; reply-kept; carry-kept; receiver-kept; scratch] and the locals
           calls-at ! fm (Answer 𝓤 H A at-mem run) known-answer (to-answer ν₃ μ₃ δ₃ δc₃ δy₃ v₀ (zs₁ .0) (r₂ .call) r₁ r₀ (zs₁ .1 .1 .0)
           (zs₂ .1 .1 .1 .0)) (and-then ! (load ! (from ! (stop !)) (look ! 17 refl)) (and-then ! (load ! (from ! (fld ! {τ = K′.mir}
-          {d = 1} refl (stop !))) (look-in ! 43 {τ = K′.mir} (sub ! 1 {τ = K′.mir} {d = 1} refl (whole !)))) (and-then ! (load !
+          {d = 0} refl (stop !))) (look-in ! 43 {τ = K′.mir} (sub ! 0 {τ = K′.mir} {d = 0} refl (whole !)))) (and-then ! (load !
           (from ! (stop !)) (look ! 45 {τ = F′.mir} refl)) (and-then ! (load ! (from ! (stop !)) (look ! 47 refl)) (and-then ! (load
           ! (from ! (stop !)) (look ! 13 refl)) (and-then ! (load ! (from ! (stop !)) (look ! 9 refl)) (no-more !))))))) (λ v₃.
           use1 W (later (some (λ (r : AnsweredInPlace). ((‵ (flft (ν₃ ∷ []) fullShare) ⊛ ‵ (flft κp qp) ⊛ ‵ (flft (μ₃ ∷ []) fullShare) ⊛
@@ -717,38 +713,33 @@ module _ {M : Type 1} (𝓤 : URA M) (H : Heap 𝓤) (A : Atoms 𝓤) (W : Given
           rewrite ! 0 (λ (m : ℕ). ‵ (MutSlice (named 0) (μ₄ ∷ []) u8 .own (xy δy₄ (zs₃ .1 .1 .1 .1 .1 .0)) (sliceVal (by′, oy) m ∷ [])))
           (ly₃ ∙ (ly₂ ∙ ly₁)) refl $
           owned ! usize (Is usize) (uint-makes 𝓤 H A W w64) (length (yp .now)) _ (refl, room-p .0) $
-          owned ! usize (Is usize) (uint-makes 𝓤 H A W w64) (r₁ .consumed) _ (told₁ .0) $
-          owned ! usize (Is usize) (uint-makes 𝓤 H A W w64) n _ (refl, n-fits) $
           owned ! usize (Is usize) (uint-makes 𝓤 H A W w64) (r₃ .«reply_len») _ (told₃ .1 .0) $
-          owned ! Rn.the-row (Is Rn.the-row) (EL.makes Rn.the-type Rn′.the-plain 𝓤 H A) (r₂ .run) _ (told₂ .0) $
+          owned ! On.the-row (Is On.the-row) (LL.makes On.the-type On′.the-plain 𝓤 H A) (r₂ .onward) _ (told₂ .1 .1 .0) $
           nothing ! $
-          move ! (6 ∷ 0 ∷ []) $ fjoin ! $
-          move ! (5 ∷ 0 ∷ []) $ fjoin ! $
           move ! (4 ∷ 0 ∷ []) $ fjoin ! $
           move ! (3 ∷ 0 ∷ []) $ fjoin ! $
           move ! (2 ∷ 0 ∷ []) $ fjoin ! $
           move ! (1 ∷ 0 ∷ []) $ fjoin ! $
           nothing ! $
           move ! (3 ∷ 0 ∷ []) $ join ! $
-          join ! $ use1 W (raw (Finish 𝓤 H A at-mem run .pre (to-finish μ₄ δy₄ (r₂ .run) (r₃ .«reply_len») (r₁ .consumed) (zs₃ .1 .1 .1
-          .1 .1 .0)))) (goes-finish μ₄ δy₄ (r₂ .run) (r₃ .«reply_len») (r₁ .consumed) (zs₃ .1 .1 .1 .1 .1 .0)) $
+          join ! $ use1 W (raw (Finish 𝓤 H A at-mem run .pre (to-finish μ₄ δy₄ (r₂ .onward) (r₃ .«reply_len») (zs₃ .1 .1 .1 .1 .1 .0))))
+          (goes-finish μ₄ δy₄ (r₂ .onward) (r₃ .«reply_len») (zs₃ .1 .1 .1 .1 .1 .0)) $
           -- [asked; reply-kept; carry; ref; r-token; p-token; scratch] and the locals
-          calls-at ! fm (Finish 𝓤 H A at-mem run) known-finish (to-finish μ₄ δy₄ (r₂ .run) (r₃ .«reply_len») (r₁ .consumed) (zs₃ .1 .1 .1
-          .1 .1 .0)) (and-then ! (load ! (from ! (fld ! {τ = Rn′.mir} {d = 0} refl (stop !))) (look-in ! 45 {τ = Rn′.mir} (sub ! 0 {τ
-          = Rn′.mir} {d = 0} refl (whole !)))) (and-then ! (load ! (from ! (fld ! {τ = tyInt w64} {d = 32} refl (stop !))) (look-in !
-          43 (sub ! 1 {τ = tyInt w64} {d = 32} refl (whole !)))) (and-then ! (load ! (from ! (stop !)) (look ! 57 refl)) (and-then !
-          (load ! (from ! (fld ! {τ = tyInt w64} {d = 0} refl (stop !))) (look-in ! 47 (sub ! 0 {τ = tyInt w64} {d = 0} refl (whole
-          !)))) (and-then ! (load ! (from ! (stop !)) (look ! 27 refl)) (and-then ! (load ! (from ! (stop !)) (look ! 7 refl))
-          (no-more !))))))) (λ v₄.
+          calls-at ! fm (Finish 𝓤 H A at-mem run) known-finish (to-finish μ₄ δy₄ (r₂ .onward) (r₃ .«reply_len») (zs₃ .1 .1 .1 .1 .1 .0))
+          (and-then ! (load ! (from ! (fld ! {τ = On′.mir} {d = 8} refl (stop !))) (look-in ! 45 {τ = On′.mir} (sub ! 2 {τ = On′.mir}
+          {d = 8} refl (whole !)))) (and-then ! (load ! (from ! (fld ! {τ = tyInt w64} {d = 32} refl (stop !))) (look-in ! 43 (sub !
+          1 {τ = tyInt w64} {d = 32} refl (whole !)))) (and-then ! (load ! (from ! (stop !)) (look ! 27 refl)) (and-then ! (load !
+          (from ! (stop !)) (look ! 7 refl)) (no-more !))))) (λ v₄.
           use1 W (later (some (λ (r : Onward). ((‵ (flft (μ₄ ∷ []) fullShare) ⊛ ‵ ftrue) ⊛ ‵ (On.the-row .own r (v₄ ∷ []))) ⊛ raw
-          (ensured 𝓤 H A finish.ended (finish.clauses 𝓤 H A at-mem run) (μ₄ ∷ [], tt) (finish-args δy₄ (r₂ .run) (r₃ .«reply_len»)
-          (r₁ .consumed) (zs₃ .1 .1 .1 .1 .1 .0)) tt r)))) (id⊢ 𝓤 _) $ await ! tt $ pick ! (λ r₄. split ! $
-          move ! (1 ∷ []) $ use1 W (some (λ (zs : Unit {0} × (Unit {0} × (Unit {0} × (Unit {0} × (Unit {0} × (List ℕ × Unit {0})))))). ‵
-          (lasts finish.ended (μ₄ ∷ [], tt) (finish-args δy₄ (r₂ .run) (r₃ .«reply_len») (r₁ .consumed) (zs₃ .1 .1 .1 .1 .1 .0)) zs)
-          ⊛ raw (fact 𝓤 ((length (yp .now)) - r₄ .at ≤ ((length (yp .now)) - n) - 1)))) (id⊢ 𝓤 _) $ pick ! (λ zs₄. split ! $
-          move ! (1 ∷ []) $ heard ! ((length (yp .now)) - r₄ .at ≤ ((length (yp .now)) - n) - 1) (λ e₄.
-          fsplit ! $ drop ! $
-          fsplit ! $ drop ! $
+          (ensured 𝓤 H A finish.ended (finish.clauses 𝓤 H A at-mem run) (μ₄ ∷ [], tt) (finish-args δy₄ (r₂ .onward) (r₃ .«reply_len»)
+          (zs₃ .1 .1 .1 .1 .1 .0)) tt r)))) (id⊢ 𝓤 _) $ await ! tt $ pick ! (λ r₄. split ! $
+          move ! (1 ∷ []) $ use1 W (some (λ (zs : Unit {0} × (Unit {0} × (Unit {0} × (List ℕ × Unit {0})))). ‵ (lasts finish.ended (
+            μ₄ ∷
+                [],
+            tt,
+          ) (finish-args δy₄ (r₂ .onward) (r₃ .«reply_len») (zs₃ .1 .1 .1 .1 .1 .0)) zs) ⊛ raw (fact 𝓤 ((length (yp .now)) - r₄
+          .at ≤ (length (yp .now)) - r₂ .onward .at)))) (id⊢ 𝓤 _) $ pick ! (λ zs₄. split ! $
+          move ! (1 ∷ []) $ heard ! ((length (yp .now)) - r₄ .at ≤ (length (yp .now)) - r₂ .onward .at) (λ e₄.
           fsplit ! $ drop ! $
           fsplit ! $ drop ! $
           fsplit ! $ drop ! $
@@ -761,18 +752,19 @@ module _ {M : Type 1} (𝓤 : URA M) (H : Heap 𝓤) (A : Atoms 𝓤) (W : Given
           split ! $
           move ! (1 ∷ []) $ drop ! $
           lft-end ! tt $
-          move ! (0 ∷ 2 ∷ 1 ∷ []) $ use3 W (later (‵ (MutSlice (named 2) κb u8 .own (xy γy (zs₄ .1 .1 .1 .1 .1 .0)) (sliceVal (by′, oy)
-          (length (zs₃ .1 .1 .1 .1 .1 .0)) ∷ [])) ⊛ ‵ (flft κb qb))) (comes-back u8 κb (μ₄ ∷ []) qb γy by′ oy 𝓤 H A W (named 2)
-          (named 0) (zs₃ .1 .1 .1 .1 .1 .0) δy₄ (zs₄ .1 .1 .1 .1 .1 .0) (subst (Room u8) (sym (ly₃ ∙ (ly₂ ∙ ly₁))) room-y) ly₄) $
-          await ! tt $ split ! $
-          rewrite ! 0 (λ (m : ℕ). ‵ (MutSlice (named 2) κb u8 .own (xy γy (zs₄ .1 .1 .1 .1 .1 .0)) (sliceVal (by′, oy) m ∷ []))) (ly₃ ∙
-          (ly₂ ∙ ly₁)) refl $
+          move ! (0 ∷ 2 ∷ 1 ∷ []) $ use3 W (later (‵ (MutSlice (named 2) κb u8 .own (xy γy (zs₄ .1 .1 .1 .0)) (sliceVal (by′, oy) (length
+          (zs₃ .1 .1 .1 .1 .1 .0)) ∷ [])) ⊛ ‵ (flft κb qb))) (comes-back u8 κb (μ₄ ∷ []) qb γy by′ oy 𝓤 H A W (named 2) (named 0)
+          (zs₃ .1 .1 .1 .1 .1 .0) δy₄ (zs₄ .1 .1 .1 .0) (subst (Room u8) (sym (ly₃ ∙ (ly₂ ∙ ly₁))) room-y) ly₄) $ await ! tt $ split
+          ! $
+          rewrite ! 0 (λ (m : ℕ). ‵ (MutSlice (named 2) κb u8 .own (xy γy (zs₄ .1 .1 .1 .0)) (sliceVal (by′, oy) m ∷ []))) (ly₃ ∙ (ly₂ ∙
+          ly₁)) refl $
+          let nearer : (length (yp .now)) - r₄ .at ≤ ((length (yp .now)) - on .at) - 1 = omega (arith, e₂, e₄) in
           returns ! (look ! 63 {τ = On′.mir} refl) $ forget ! 7 refl $ forget ! 9 refl $ forget ! 11 refl $ forget ! 13 refl $ forget !
           15 refl $ forget ! 17 refl $ forget ! 19 refl $ forget ! 21 {τ = tyBool} refl $ forget ! 23 refl $ forget ! 25 refl $
           forget ! 27 refl $ forget ! 29 refl $ forget ! 31 refl $ forget ! 33 refl $ forget ! 35 refl $ forget ! 37 refl $ forget !
           39 refl $ forget ! 41 refl $ forget ! 43 {τ = An′.mir} refl $ forget ! 45 {τ = Pl′.mir} refl $ forget ! 47 {τ = F′.mir}
-          refl $ forget ! 49 refl $ forget ! 51 refl $ forget ! 53 refl $ forget ! 55 refl $ forget ! 57 refl $ forget ! 59 refl $
-          forget ! 61 refl $ forget ! 63 {τ = On′.mir} refl $
+          refl $ forget ! 49 refl $ forget ! 51 refl $ forget ! 53 refl $ forget ! 55 refl $ forget ! 57 {τ = On′.mir} refl $ forget
+          ! 59 refl $ forget ! 61 refl $ forget ! 63 {τ = On′.mir} refl $
           move ! (63 ∷ 64 ∷ []) $ free1 ! $ move ! (61 ∷ 62 ∷ []) $ free1 ! $ move ! (59 ∷ 60 ∷ []) $ free1 ! $ move ! (57 ∷ 58 ∷ []) $
           free1 ! $ move ! (55 ∷ 56 ∷ []) $ free1 ! $ move ! (53 ∷ 54 ∷ []) $ free1 ! $ move ! (51 ∷ 52 ∷ []) $ free1 ! $ move ! (49
           ∷ 50 ∷ []) $ free1 ! $ move ! (47 ∷ 48 ∷ []) $ free1 ! $ move ! (45 ∷ 46 ∷ []) $ free1 ! $ move ! (43 ∷ 44 ∷ []) $ free1 !
@@ -782,8 +774,8 @@ module _ {M : Type 1} (𝓤 : URA M) (H : Heap 𝓤) (A : Atoms 𝓤) (W : Given
           free1 ! $ move ! (19 ∷ 20 ∷ []) $ free1 ! $ move ! (17 ∷ 18 ∷ []) $ free1 ! $ move ! (15 ∷ 16 ∷ []) $ free1 ! $ move ! (13
           ∷ 14 ∷ []) $ free1 ! $ move ! (11 ∷ 12 ∷ []) $ free1 ! $ move ! (9 ∷ 10 ∷ []) $ free1 ! $ move ! (7 ∷ 8 ∷ []) $ free1 ! $
           free0 ! $
-          keep ! (4 ∷ 5 ∷ 1 ∷ 3 ∷ 2 ∷ 6 ∷ 0 ∷ []) $ by ! (exits (zs₃ .0) r₄ v₄ (zs₃ .1 .1 .1 .1 .0) (zs₁ .1 .1 .1 .0) (zs₄ .1 .1 .1 .1 .1
-          .0) e₄ (lc₃ ∙ lc₁) ls₁ (ly₄ ∙ (ly₃ ∙ (ly₂ ∙ ly₁)))
+          keep ! (4 ∷ 5 ∷ 1 ∷ 3 ∷ 2 ∷ 6 ∷ 0 ∷ []) $ by ! (exits (zs₃ .0) r₄ v₄ (zs₃ .1 .1 .1 .1 .0) (zs₁ .1 .1 .1 .0) (zs₄ .1 .1 .1 .0)
+          nearer (lc₃ ∙ lc₁) ls₁ (ly₄ ∙ (ly₃ ∙ (ly₂ ∙ ly₁)))
           is₄))))))))))))))))))))))))))))))))))))))))))))))))))))))))))))))))))))))))))))
 
 module _ {M : Type 1} (𝓤 : URA M) (H : Heap 𝓤) (A : Atoms 𝓤) (W : Given 𝓤 H A) (at-mem : Memory → SProp 𝓤) (run : Routine → Fun 𝓤) where
@@ -792,17 +784,38 @@ module _ {M : Type 1} (𝓤 : URA M) (H : Heap 𝓤) (A : Atoms 𝓤) (W : Given
       Triple 𝓤 (C #finish) (Finish 𝓤 H A at-mem run) → Walks 𝓤 H A f.ended stayed (WpFn 𝓤 H C Λ code.function) (f.clauses 𝓤 H A at-mem
       run)
   f-walks C Λ fm known-rest known-feed known-planned known-answer known-finish = walked 𝓤 H A f.ended stayed (f.clauses 𝓤 H A at-mem
-      run) (WpFn 𝓤 H C Λ code.function) (λ κs. (ptr-vals, (slice-vals, (uint-vals w64, (slice-vals, (slice-vals, (slice-vals, tt)))))))
+      run) (WpFn 𝓤 H C Λ code.function) (λ κs. (
+        ptr-vals,
+        (
+          slice-vals,
+          (
+            LL.vals On.the-type On′.the-laws,
+            (
+              slice-vals,
+              (
+                slice-vals,
+                (slice-vals, tt),
+              ),
+            ),
+          ),
+        ),
+      ))
       (λ κs. (
         mut-tells (named 0) (κs .0) T.the-row,
         (
           shr-slice-tells (named 1) (κs .1 .0) u8,
           (
-            uint-tells w64,
+            LL.tells On.the-type On′.the-laws,
             (
-              mut-slice-tells (named
-                  2) (κs .1 .1 .0) u8,
-              (mut-slice-tells (named 2) (κs .1 .1 .0) u8, (mut-slice-tells (named 2) (κs .1 .1 .0) u8, tt)),
+              mut-slice-tells (named 2) (κs .1 .1 .0) u8,
+              (
+                mut-slice-tells (named 2) (κs .1 .1 .0) u8,
+                (
+                  mut-slice-tells (named 2) (κs .1
+                      .1 .0) u8,
+                  tt,
+                ),
+              ),
             ),
           ),
         ),
@@ -812,7 +825,7 @@ module _ {M : Type 1} (𝓤 : URA M) (H : Heap 𝓤) (A : Atoms 𝓤) (W : Given
       .1 .0 .ptr .1) (a .1 .1 .1 .0 .name) (a .1 .1 .1 .0 .now) (a .1 .1 .1 .1 .0 .ptr .0) (a .1 .1 .1 .1 .0 .ptr .1) (a .1 .1 .1
       .1 .0 .name) (a .1 .1 .1 .1 .0 .now) (a .1 .1 .1 .1 .1 .0 .ptr .0) (a .1 .1 .1 .1 .1 .0 .ptr .1) (a .1 .1 .1 .1 .1 .0 .name)
       (a .1 .1 .1 .1 .1 .0 .now)
-      C Λ fm known-rest known-feed known-planned known-answer known-finish (are .1 .0 .0 .1) (are .1 .1 .0 .1) (are .1 .1 .1 .0 .0 .1)
+      C Λ fm known-rest known-feed known-planned known-answer known-finish (are .1 .0 .0 .1) (are .1 .1 .0) (are .1 .1 .1 .0 .0 .1)
       (are .1 .1 .1 .1 .0 .0 .1) (are .1 .1 .1 .1 .1 .0 .0 .1)))
 
 f-meets : {M : Type 1} (𝓤 : URA M) (H : Heap 𝓤) (A : Atoms 𝓤) → Given 𝓤 H A → (at-mem : Memory → SProp 𝓤) (run : Routine → Fun 𝓤) (𝓣 :
@@ -826,7 +839,7 @@ f-meets 𝓤 H A W at-mem run 𝓣 known-rest known-feed known-planned known-ans
         goes-dropped 𝓤 H A W 3 PieceS yes (λ κs x f.
             refl),
         (
-          goes-dropped 𝓤 H A W 3 NumS yes (λ κs x f. refl),
+          goes-dropped 𝓤 H A W 3 OnS yes (λ κs x f. refl),
           (
             goes-slice 𝓤 H A W 3 2 tt (plain (λ _. u8)),
             (
