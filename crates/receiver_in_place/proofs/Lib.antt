@@ -1,9 +1,5 @@
 pub mod Again
-pub mod ArrayLaws
 pub mod Cells
 pub mod Early
 pub mod Elements
-pub mod Halves
-pub mod InPlace
 pub mod Places
-pub mod StepLaws

@@ -2,54 +2,24 @@
 // others. Answers, the receiver afterwards and every lent byte are those of the calls by value, for any
 // receiver and any buffers. A call copies one session out and back, and nothing else of the table.
 //
-// Not here: what a call gives (`protocol`), the step of one session (`session_rule`, `sessions`).
-mod calls;
-mod feeds;
-mod heads;
-mod steps;
-
+// Not here: what a call gives (`protocol`), what it does with the one session (`session_in_place`).
 ghost use mathlib.Core.Path.{_≡_};
 ghost use Rattle.octets.specs.Outcome.{outcome};
 ghost use Rattle.protocol.specs.Calls.{feeding, feedOf};
-ghost use Rattle.receiver_in_place.specs.Calls.{answered, calledOf, fedId};
-ghost use Rattle.receiver_in_place.specs.Feeds.{fedIn};
-ghost use Rattle.receiver_in_place.specs.Heads.{headsOf};
-use calls::aim_for;
-use calls::aim_of;
-use calls::answer_at;
-use command::Command;
-use feeds::act;
-use feeds::hear;
-use frames::Report;
-use heads::Head;
-use heads::Heads;
-use protocol::Failure;
+ghost use Rattle.session_in_place.specs.Calls.{answered, calledOf, fedId};
+ghost use Rattle.session_in_place.specs.Feeds.{fedIn};
+ghost use Rattle.session_in_place.specs.Heads.{headsOf};
 use protocol::Receiver;
-use protocol::Told;
-
-// The console's calls but feed.
-pub enum Call {
-    Allow,
-    Deny,
-    Drop,
-    Done,
-    Failed(Failure),
-}
-
-// What a feed answers: `Fed` without the receiver.
-pub struct FedInPlace {
-    pub consumed: usize,
-    pub report: Report,
-    pub told: Told,
-    pub command: Command,
-    pub reply_len: usize,
-}
-
-// What another call answers: `Answered` without the receiver.
-pub struct AnsweredInPlace {
-    pub told: Told,
-    pub reply_len: usize,
-}
+pub use session_in_place::AnsweredInPlace;
+pub use session_in_place::Call;
+pub use session_in_place::FedInPlace;
+use session_in_place::calls::aim_for;
+use session_in_place::calls::aim_of;
+use session_in_place::calls::answer_at;
+use session_in_place::feeds::act;
+use session_in_place::feeds::hear;
+use session_in_place::heads::Head;
+use session_in_place::heads::Heads;
 
 // ---- The calls. Each is straight on, but for the return of a feed in which no command was read: what
 // is decided, the functions that they call decide.

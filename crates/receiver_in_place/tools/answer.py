@@ -11,7 +11,7 @@ GHOST = "((κ, (κi, (κb, tt))), (q, (qi, (qb, tt))), tt, x, at)"
 def walk(by_fed):
     """by_fed: the id lies in what a feed reported of its piece and of the carry, and not in a slice of its own"""
     w = Walk("receiver_in_place", "answer_for" if by_fed else "answer")
-    w.names = {**NAMES, "receiver_in_place::FedInPlace": "Fd"}
+    w.names = {**NAMES, "session_in_place::FedInPlace": "Fd"}
     more = 2 if by_fed else 0
     read = ("id", "carry") if by_fed else ("id",)
     w.ctx = ["tokens", "owned"]
@@ -249,6 +249,7 @@ module _ {GIVEN} (W : Given 𝓤 H A) {RUN} (κ κi κb : Lft) (q qi qb : Share)
     walk k-is {'d-is ' * by_fed}room-i {'room-c ' * by_fed}room-y =
 """
     callees = (("look", "heads_of"), ("place", "calls.aim_for" if by_fed else "calls.aim_of"), ("step", "calls.answer_at"))
+    crates = {"place": "session-in-place", "step": "session-in-place"}
     mut = ("slice-vals", "mut-slice-tells (named 2) (κs .1 .1 .0) u8")
     rows = [("ptr-vals", "mut-tells (named 0) (κs .0) T.the-row"), ("EL.vals K.the-type K′.the-laws", "EL.tells K.the-type K′.the-laws")]
     rows += [("LL.vals Fd.the-type Fd′.the-laws", "LL.tells Fd.the-type Fd′.the-laws")] * by_fed + [("slice-vals", "shr-slice-tells (named 1) (κs .1 .0) u8")] + [mut] * (1 + by_fed)
@@ -259,7 +260,7 @@ module _ {GIVEN} (W : Given 𝓤 H A) {RUN} (κ κi κb : Lft) (q qi qb : Share)
     run = ("walk 𝓤 H A W at-mem run (κs .0) (κs .1 .0) (κs .1 .1 .0) (qs .0) (qs .1 .0) (qs .1 .1 .0) (a .0 .ptr .0) (a .0 .ptr .1) (a .0 .name) (a .0 .now) " + " ".join(f"(a {a})" for a in at) + "\n"
            "      C Λ fm known-look known-place known-step " + " ".join(f"(are {a})" for a in known))
     about = f"`{function}` meets its contract: a walk of its MIR. The receiver is lent to `heads_of` and comes back; its borrow is opened and stays open; the session at the place is copied out, stepped and stored."
-    save(function, about, head + w.text() + "\n" + ending(function, 3, rows, goes, run, callees), callees, "answer")
+    save(function, about, head + w.text() + "\n" + ending(function, 3, rows, goes, run, callees, crates), callees, "answer", crates)
 
 
 printed(False)

@@ -263,6 +263,7 @@ module _ {GIVEN} (W : Given 𝓤 H A) {RUN} (κ κp κb : Lft) (q qp qb : Share)
     walk room-p room-c room-s room-y =
 """
 CALLEES = (("look", "heads_of"), ("hear", "feeds.hear"), ("act", "feeds.act"))
+CRATES = {"hear": "session-in-place", "act": "session-in-place"}
 MUT = "mut-slice-tells (named 2) (κs .1 .1 .0) u8"
 ROWS = [("ptr-vals", "mut-tells (named 0) (κs .0) T.the-row"), ("slice-vals", "shr-slice-tells (named 1) (κs .1 .0) u8")] + [("slice-vals", MUT)] * 3
 GOES = ["goes-ref 𝓤 H A W 3 0 tt (plain (λ _. T.the-row))", "goes-dropped 𝓤 H A W 3 PieceS yes (λ κs x f. refl)"] + [f"goes-gave-slice 𝓤 H A W 3 2 tt {U8}"] * 3
@@ -270,4 +271,4 @@ WALK = ("walk 𝓤 H A W at-mem run (κs .0) (κs .1 .0) (κs .1 .1 .0) (qs .0) 
         "      (a .1 .1 .1 .0 .ptr .0) (a .1 .1 .1 .0 .ptr .1) (a .1 .1 .1 .0 .name) (a .1 .1 .1 .0 .now) (a .1 .1 .1 .1 .0) C Λ fm known-look known-hear known-act (are .1 .0 .0 .1) (are .1 .1 .0 .0 .1) (are .1 .1 .1 .0 .0 .1) (are .1 .1 .1 .1 .0 .0 .1)")
 save("feed", "`feed` meets its contract: a walk of its MIR. The receiver is lent to `heads_of` and comes back; its borrow is opened and stays open; carry and scratch are lent again to `hear`, and come back at what it left.\n"
      "-- Where no session is concerned, the walk ends there; else the session at the place is copied out, all four slices are given to `act` for good, and what is left is stored.",
-     HEAD + w.text() + "\n" + ending("feed", 3, ROWS, GOES, WALK, CALLEES), CALLEES)
+     HEAD + w.text() + "\n" + ending("feed", 3, ROWS, GOES, WALK, CALLEES, CRATES), CALLEES, crates=CRATES)

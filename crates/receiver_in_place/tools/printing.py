@@ -52,9 +52,9 @@ def needed(text, uses):
     return "\n".join(out) + "\n"
 
 
-def callee(short, module):
-    """the `use` lines of a function that the walk calls"""
-    at = f"{OWN}.{module}"
+def callee(short, module, crate=None):
+    """the `use` lines of a function that the walk calls, of another crate where one is named"""
+    at = f"Rattle.{crate.replace('-', '_')}.proofs.{module}" if crate else f"{OWN}.{module}"
     return (f"use {at} as {short}\nuse {at}.Symbol as {short}-def\nuse {at}.Symbol.{{name as #{short}}}\nuse {at}.Met as {short}-thm\n")
 
 
@@ -109,11 +109,11 @@ def split_use(line):
     return out + [f"use {m.group(1)}.{{{', '.join(now)}}}"]
 
 
-def save(function, about, body, callees=(), script=None):
+def save(function, about, body, callees=(), script=None, crates={}):
     uses = open(os.path.join(HERE, "uses.txt")).read()
     if function == "feed":
         uses = uses.replace("AnsweredInPlace as F", "FedInPlace as F").replace("AnsweredInPlace.Laws as F", "FedInPlace.Laws as F")
-    own = "".join(callee(s, m) for s, m in callees)
+    own = "".join(callee(s, m, crates.get(s)) for s, m in callees)
     own += f"use {OWN}.{function}.Key.{{name as #f}}\nuse {OWN}.{function} as f\nuse {OWN}.{function}.Statement as stated\nuse {OWN}.{function}.Code as code\n"
     text = f"-- {about}\n-- Printed by tools/{script or function}.py. Assumes nothing.\n" + needed(body, uses) + own + "\n" + body
     path = os.path.join(ROOT, "crates", CRATE, "proofs", function)

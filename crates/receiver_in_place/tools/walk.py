@@ -21,14 +21,14 @@ NAMES = {
     "protocol::Told": "Y",
     "command::Command": "Z",
     "frames::Report": "P",
-    "receiver_in_place::heads::Head": "D",
-    "receiver_in_place::heads::Heads": "Hs",
-    "receiver_in_place::steps::Aim": "Q",
-    "receiver_in_place::steps::Left": "L",
-    "receiver_in_place::feeds::Heard": "E",
-    "receiver_in_place::Call": "K",
-    "receiver_in_place::AnsweredInPlace": "F",
-    "receiver_in_place::FedInPlace": "F",
+    "session_in_place::heads::Head": "D",
+    "session_in_place::heads::Heads": "Hs",
+    "session_in_place::steps::Aim": "Q",
+    "session_in_place::steps::Left": "L",
+    "session_in_place::feeds::Heard": "E",
+    "session_in_place::Call": "K",
+    "session_in_place::AnsweredInPlace": "F",
+    "session_in_place::FedInPlace": "F",
 }
 
 

@@ -200,7 +200,7 @@ module _ {GIVEN} (W : Given 𝓤 H A) {RUN} (κp κb : Lft) (qp qb : Share) (h :
     ares = " ".join(["(are .0)"] + ["(are .1 .0)"] * bool(k.call) + [f"(are{' .1' * i} .0 .0 .1)" for i in range(first, count)])
     tail = printing.ending(k.function, 2, rows2, goes, f"walk 𝓤 H A W at-mem run (κs .0) (κs .1 .0) (qs .0) (qs .1 .0) {passed} C Λ fm known-under {ares}", (("under", k.function),))
     body = head + w.text() + "\n" + tail
-    uses = open(os.path.join(ROOT, "crates", "receiver_in_place", "tools", "uses.txt")).read().replace("Rattle.receiver_in_place.specs", "Rattle.receiver_in_place.specs").replace("Rattle.receiver_in_place.proofs", "Rattle.receiver_in_place.proofs")
+    uses = open(os.path.join(ROOT, "crates", "receiver_in_place", "tools", "uses.txt")).read().replace("Rattle.receiver_in_place.proofs", "Rattle.receiver_in_place.proofs")
     if k.function == "feed":
         uses = uses.replace("AnsweredInPlace as F", "FedInPlace as F").replace("AnsweredInPlace.Laws as F", "FedInPlace.Laws as F")
     uses += f"use Rattle.protocol.specs.declared.Fed.{{Fed}}\nuse Rattle.protocol.specs.declared.Answered.{{Answered}}\nuse {OWN}.Local.{{lend-local, local-back}}\nuse Rattle.protocol.proofs.{k.whole} as R\nuse Rattle.protocol.proofs.{k.whole}.Laws as R′\n"

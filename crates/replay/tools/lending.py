@@ -10,7 +10,7 @@ from steps import SLICE
 OWN = "Rattle.replay.proofs"
 # the short names of the types that the walks of receiver_in_place do not name, or name alike
 CALLED = {
-    "receiver_in_place::AnsweredInPlace": "An",
+    "session_in_place::AnsweredInPlace": "An",
     "replay::console::Taken": "Tn",
     "replay::console::Onward": "On",
     "replay::console::Plan": "Pl",
@@ -81,8 +81,8 @@ use {OWN}.console.Onward as On
 use {OWN}.console.Onward.Laws as On′
 use {OWN}.console.Plan as Pl
 use {OWN}.console.Plan.Laws as Pl′
-use Rattle.receiver_in_place.proofs.AnsweredInPlace as An
-use Rattle.receiver_in_place.proofs.AnsweredInPlace.Laws as An′
+use Rattle.session_in_place.proofs.AnsweredInPlace as An
+use Rattle.session_in_place.proofs.AnsweredInPlace.Laws as An′
 use Rattle.receiver_kept.proofs.Local.{{lend-local, local-back}}
 """
 # what the walks of receiver_in_place do not use
@@ -105,7 +105,7 @@ use Rattle.replay.proofs.Loops.{turns-or, tyAt, envOf, restOf}
 
 def save(function, about, body, callees, crates):
     uses = open(os.path.join(ROOT, "crates", "receiver_in_place", "tools", "uses.txt")).read()
-    uses = uses.replace("Rattle.receiver_in_place.specs", "Rattle.receiver_in_place.specs").replace("Rattle.receiver_in_place.proofs", "Rattle.receiver_in_place.proofs")
+    uses = uses.replace("Rattle.receiver_in_place.proofs", "Rattle.receiver_in_place.proofs")
     uses = uses.replace("AnsweredInPlace as F\n", "FedInPlace as F\n").replace("AnsweredInPlace.Laws as F′\n", "FedInPlace.Laws as F′\n") + MORE + USES
     own = "".join(callee(s, m, crates.get(s)) for s, m in callees)
     at = f"{OWN}.console.{function}"

@@ -71,40 +71,40 @@ use Rattle.protocol.proofs.Owed.Laws as O′
 use Rattle.protocol.proofs.Told.Laws as Y′
 use Rattle.frames.proofs.Report.Laws as P′
 use Rattle.command.proofs.Command.Laws as Z′
-use Rattle.receiver_in_place.specs.Heads.{headsOf}
-use Rattle.receiver_in_place.specs.Feeds.{Hearing, Acting, hearing, hearOf, acting, actOf, fedIn}
-use Rattle.receiver_in_place.specs.declared.heads.Heads.{Heads}
-use Rattle.receiver_in_place.specs.declared.steps.Left.{Left}
-use Rattle.receiver_in_place.specs.declared.feeds.Heard.{Heard}
-use Rattle.receiver_in_place.specs.declared.FedInPlace.{FedInPlace}
+use Rattle.session_in_place.specs.Heads.{headsOf}
+use Rattle.session_in_place.specs.Feeds.{Hearing, Acting, hearing, hearOf, acting, actOf, fedIn}
+use Rattle.session_in_place.specs.declared.heads.Heads.{Heads}
+use Rattle.session_in_place.specs.declared.steps.Left.{Left}
+use Rattle.session_in_place.specs.declared.feeds.Heard.{Heard}
+use Rattle.session_in_place.specs.declared.FedInPlace.{FedInPlace}
 use Rattle.receiver_in_place.proofs.Places.{elem}
 use Rattle.receiver_in_place.proofs.Places as Places
 use Rattle.receiver_in_place.proofs.Again.{LentAgain, lends-again, comes-back}
 use Rattle.receiver_in_place.proofs.Early.{early, is-true, is-false, last-of}
 use Rattle.receiver_in_place.proofs.Cells.{sessionSize, vals, gval, sval, oval, us, mach, us-with, framing-is, owed-is, four}
 use Rattle.receiver_in_place.proofs.Cells.{session-is, anew, framed-is, count, place-in, value-at}
-use Rattle.receiver_in_place.proofs.Halves.{takes, unreadFed, leftFed, reframed}
-use Rattle.receiver_in_place.proofs.InPlace.{in-place-unread, in-place-feed}
-use Rattle.receiver_in_place.proofs.heads.Heads as Hs
-use Rattle.receiver_in_place.proofs.heads.Heads.Laws as Hs′
-use Rattle.receiver_in_place.proofs.steps.Left as L
-use Rattle.receiver_in_place.proofs.steps.Left.Laws as L′
-use Rattle.receiver_in_place.proofs.feeds.Heard as E
-use Rattle.receiver_in_place.proofs.feeds.Heard.Laws as E′
-use Rattle.receiver_in_place.proofs.FedInPlace as F
-use Rattle.receiver_in_place.proofs.FedInPlace.Laws as F′
+use Rattle.session_in_place.proofs.Halves.{takes, unreadFed, leftFed, reframed}
+use Rattle.session_in_place.proofs.InPlace.{in-place-unread, in-place-feed}
+use Rattle.session_in_place.proofs.heads.Heads as Hs
+use Rattle.session_in_place.proofs.heads.Heads.Laws as Hs′
+use Rattle.session_in_place.proofs.steps.Left as L
+use Rattle.session_in_place.proofs.steps.Left.Laws as L′
+use Rattle.session_in_place.proofs.feeds.Heard as E
+use Rattle.session_in_place.proofs.feeds.Heard.Laws as E′
+use Rattle.session_in_place.proofs.FedInPlace as F
+use Rattle.session_in_place.proofs.FedInPlace.Laws as F′
 use Rattle.receiver_in_place.proofs.heads_of as look
 use Rattle.receiver_in_place.proofs.heads_of.Symbol as look-def
 use Rattle.receiver_in_place.proofs.heads_of.Symbol.{name as #look}
 use Rattle.receiver_in_place.proofs.heads_of.Met as look-thm
-use Rattle.receiver_in_place.proofs.feeds.hear as hear
-use Rattle.receiver_in_place.proofs.feeds.hear.Symbol as hear-def
-use Rattle.receiver_in_place.proofs.feeds.hear.Symbol.{name as #hear}
-use Rattle.receiver_in_place.proofs.feeds.hear.Met as hear-thm
-use Rattle.receiver_in_place.proofs.feeds.act as act
-use Rattle.receiver_in_place.proofs.feeds.act.Symbol as act-def
-use Rattle.receiver_in_place.proofs.feeds.act.Symbol.{name as #act}
-use Rattle.receiver_in_place.proofs.feeds.act.Met as act-thm
+use Rattle.session_in_place.proofs.feeds.hear as hear
+use Rattle.session_in_place.proofs.feeds.hear.Symbol as hear-def
+use Rattle.session_in_place.proofs.feeds.hear.Symbol.{name as #hear}
+use Rattle.session_in_place.proofs.feeds.hear.Met as hear-thm
+use Rattle.session_in_place.proofs.feeds.act as act
+use Rattle.session_in_place.proofs.feeds.act.Symbol as act-def
+use Rattle.session_in_place.proofs.feeds.act.Symbol.{name as #act}
+use Rattle.session_in_place.proofs.feeds.act.Met as act-thm
 use Rattle.receiver_in_place.proofs.feed.Key.{name as #f}
 use Rattle.receiver_in_place.proofs.feed as f
 use Rattle.receiver_in_place.proofs.feed.Statement as stated
@@ -762,7 +762,7 @@ feed-spec 𝓤 H 𝓜 𝓖 𝓡 =
     (f-meets 𝓤 H (𝓖 .A) (givenOf 𝓤 H 𝓜 𝓖) (𝓜 .mem) (𝓡 .run) (tablesOf 𝓤 H 𝓜 (tables 𝓤 H 𝓜 𝓡 code.env))
     (cited 𝓤 H (Look 𝓤 H (𝓖 .A) (𝓜 .mem) (𝓡 .run)) 𝓜 𝓡 code.env #look look-def.routine code.calls-receiver-in-place·heads-of
     (look-thm.met 𝓤 H 𝓜 𝓖 𝓡))
-    (cited 𝓤 H (Hear 𝓤 H (𝓖 .A) (𝓜 .mem) (𝓡 .run)) 𝓜 𝓡 code.env #hear hear-def.routine code.calls-receiver-in-place·feeds·hear
+    (cited 𝓤 H (Hear 𝓤 H (𝓖 .A) (𝓜 .mem) (𝓡 .run)) 𝓜 𝓡 code.env #hear hear-def.routine code.calls-session-in-place·feeds·hear
     (hear-thm.met 𝓤 H 𝓜 𝓖 𝓡))
-    (cited 𝓤 H (Act 𝓤 H (𝓖 .A) (𝓜 .mem) (𝓡 .run)) 𝓜 𝓡 code.env #act act-def.routine code.calls-receiver-in-place·feeds·act (act-thm.met
+    (cited 𝓤 H (Act 𝓤 H (𝓖 .A) (𝓜 .mem) (𝓡 .run)) 𝓜 𝓡 code.env #act act-def.routine code.calls-session-in-place·feeds·act (act-thm.met
     𝓤 H 𝓜 𝓖 𝓡)))

@@ -53,15 +53,15 @@ use Rattle.protocol.proofs.Session as S
 use Rattle.protocol.proofs.Session.Laws as S′
 use Rattle.protocol.proofs.SessionState as N
 use Rattle.protocol.proofs.SessionState.Laws as N′
-use Rattle.receiver_in_place.specs.Heads.{headOf, headsOf}
-use Rattle.receiver_in_place.specs.declared.heads.Heads.{Heads}
+use Rattle.session_in_place.specs.Heads.{headOf, headsOf}
+use Rattle.session_in_place.specs.declared.heads.Heads.{Heads}
 use Rattle.receiver_in_place.proofs.Places.{elem}
 use Rattle.receiver_in_place.proofs.Places as Places
 use Rattle.receiver_in_place.proofs.Cells.{vals, us, session-is, count, place-in, value-at}
-use Rattle.receiver_in_place.proofs.heads.Head as D
-use Rattle.receiver_in_place.proofs.heads.Head.Laws as D′
-use Rattle.receiver_in_place.proofs.heads.Heads as Hs
-use Rattle.receiver_in_place.proofs.heads.Heads.Laws as Hs′
+use Rattle.session_in_place.proofs.heads.Head as D
+use Rattle.session_in_place.proofs.heads.Head.Laws as D′
+use Rattle.session_in_place.proofs.heads.Heads as Hs
+use Rattle.session_in_place.proofs.heads.Heads.Laws as Hs′
 use Rattle.receiver_in_place.proofs.heads_of.Key.{name as #f}
 use Rattle.receiver_in_place.proofs.heads_of as f
 use Rattle.receiver_in_place.proofs.heads_of.Statement as stated

@@ -51,14 +51,14 @@ use Rattle.protocol.specs.declared.Receiver.{Receiver}
 use Rattle.protocol.proofs.Receiver as T
 use Rattle.protocol.proofs.Receiver.Laws as T′
 use Rattle.protocol.proofs.Told.Laws as Y′
-use Rattle.receiver_in_place.specs.Calls.{answered, calledOf}
-use Rattle.receiver_in_place.specs.declared.Call.{Call}
-use Rattle.receiver_in_place.specs.declared.AnsweredInPlace.{AnsweredInPlace}
+use Rattle.session_in_place.specs.Calls.{answered, calledOf}
+use Rattle.session_in_place.specs.declared.Call.{Call}
+use Rattle.session_in_place.specs.declared.AnsweredInPlace.{AnsweredInPlace}
 use Rattle.receiver_in_place.proofs.Cells.{vals}
-use Rattle.receiver_in_place.proofs.Call as K
-use Rattle.receiver_in_place.proofs.Call.Laws as K′
-use Rattle.receiver_in_place.proofs.AnsweredInPlace as F
-use Rattle.receiver_in_place.proofs.AnsweredInPlace.Laws as F′
+use Rattle.session_in_place.proofs.Call as K
+use Rattle.session_in_place.proofs.Call.Laws as K′
+use Rattle.session_in_place.proofs.AnsweredInPlace as F
+use Rattle.session_in_place.proofs.AnsweredInPlace.Laws as F′
 use Rattle.protocol.specs.declared.Answered.{Answered}
 use Rattle.receiver_kept.proofs.Local.{lend-local, local-back}
 use Rattle.protocol.proofs.Answered as R

@@ -52,11 +52,11 @@ use Rattle.protocol.proofs.Receiver.Laws as T′
 use Rattle.protocol.proofs.Told.Laws as Y′
 use Rattle.frames.proofs.Report.Laws as P′
 use Rattle.command.proofs.Command.Laws as Z′
-use Rattle.receiver_in_place.specs.Feeds.{fedIn}
-use Rattle.receiver_in_place.specs.declared.FedInPlace.{FedInPlace}
+use Rattle.session_in_place.specs.Feeds.{fedIn}
+use Rattle.session_in_place.specs.declared.FedInPlace.{FedInPlace}
 use Rattle.receiver_in_place.proofs.Cells.{vals}
-use Rattle.receiver_in_place.proofs.FedInPlace as F
-use Rattle.receiver_in_place.proofs.FedInPlace.Laws as F′
+use Rattle.session_in_place.proofs.FedInPlace as F
+use Rattle.session_in_place.proofs.FedInPlace.Laws as F′
 use Rattle.protocol.specs.declared.Fed.{Fed}
 use Rattle.receiver_kept.proofs.Local.{lend-local, local-back}
 use Rattle.protocol.proofs.Fed as R

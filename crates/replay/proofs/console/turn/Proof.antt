@@ -52,18 +52,18 @@ use Rattle.protocol.specs.Calls.{feeding, feedOf}
 use Rattle.protocol.specs.declared.Receiver.{Receiver}
 use Rattle.protocol.proofs.Receiver as T
 use Rattle.protocol.proofs.Receiver.Laws as T′
-use Rattle.receiver_in_place.specs.Calls.{answered, calledOf, fedId}
-use Rattle.receiver_in_place.specs.Feeds.{fedIn}
-use Rattle.receiver_in_place.specs.declared.Call.{Call}
-use Rattle.receiver_in_place.specs.declared.AnsweredInPlace.{AnsweredInPlace}
-use Rattle.receiver_in_place.specs.declared.FedInPlace.{FedInPlace}
+use Rattle.session_in_place.specs.Calls.{answered, calledOf, fedId}
+use Rattle.session_in_place.specs.Feeds.{fedIn}
+use Rattle.session_in_place.specs.declared.Call.{Call}
+use Rattle.session_in_place.specs.declared.AnsweredInPlace.{AnsweredInPlace}
+use Rattle.session_in_place.specs.declared.FedInPlace.{FedInPlace}
 use Rattle.receiver_in_place.proofs.Again.{LentAgain, lends-again, comes-back}
 use Rattle.receiver_in_place.proofs.Early.{early}
 use Rattle.receiver_in_place.proofs.Cells.{vals}
-use Rattle.receiver_in_place.proofs.Call as K
-use Rattle.receiver_in_place.proofs.Call.Laws as K′
-use Rattle.receiver_in_place.proofs.FedInPlace as F
-use Rattle.receiver_in_place.proofs.FedInPlace.Laws as F′
+use Rattle.session_in_place.proofs.Call as K
+use Rattle.session_in_place.proofs.Call.Laws as K′
+use Rattle.session_in_place.proofs.FedInPlace as F
+use Rattle.session_in_place.proofs.FedInPlace.Laws as F′
 use Prim.Native.Nat.{_-_, _≤_}
 use denote.Slice.{shr-slice-lawful}
 use denote.Triple.Walked.{stay-slice, goes-slice}
@@ -73,8 +73,8 @@ use Rattle.replay.proofs.console.Onward as On
 use Rattle.replay.proofs.console.Onward.Laws as On′
 use Rattle.replay.proofs.console.Plan as Pl
 use Rattle.replay.proofs.console.Plan.Laws as Pl′
-use Rattle.receiver_in_place.proofs.AnsweredInPlace as An
-use Rattle.receiver_in_place.proofs.AnsweredInPlace.Laws as An′
+use Rattle.session_in_place.proofs.AnsweredInPlace as An
+use Rattle.session_in_place.proofs.AnsweredInPlace.Laws as An′
 use Rattle.replay.proofs.console.rest as rest
 use Rattle.replay.proofs.console.rest.Symbol as rest-def
 use Rattle.replay.proofs.console.rest.Symbol.{name as #rest}

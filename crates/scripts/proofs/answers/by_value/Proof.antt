@@ -1,4 +1,4 @@
-use Rattle.receiver_in_place.specs.Calls.{calledOf}
+use Rattle.session_in_place.specs.Calls.{calledOf}
 use borrow.Author.Needs.{needs}
 use Rattle.scripts.proofs.answers.by_value.Statement.{statement}
 use Rattle.scripts.proofs.answers.by_value.Tie as tie

@@ -1,0 +1,4 @@
+pub mod ArrayLaws
+pub mod Halves
+pub mod InPlace
+pub mod StepLaws
