@@ -1,5 +1,6 @@
 pub mod Every
 mod Ranges
+pub mod Runs
 pub mod Calm
 pub mod Table
 pub mod WrittenValues

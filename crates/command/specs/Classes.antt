@@ -1,6 +1,7 @@
 -- The classes of bytes that the code tells apart.
-use Prim.Native.Nat.{ℕ}
+use Prim.Native.Nat.{ℕ, suc}
 use mathlib.Core.Bool.{Bool, true, false, cond}
+use mathlib.Core.List.{List, [], _∷_}
 use lib.Dec.{leb, eqb}
 use Rattle.command.specs.Letters.{textByte, keyByte, safeByte}
 use Rattle.command.specs.declared.letters.Class.{Class}
@@ -18,3 +19,8 @@ inRanges low high capital c =
     cond (leb 97 c) (leb c 122)
     (cond (leb capital c) (cond (leb c 90) true (eqb c 95))
     (cond (leb low c) (leb c high) false))
+
+-- how many bytes pass a test before one does not
+unfoldable pub run : (ℕ → Bool) → List ℕ → ℕ
+run f [] = 0
+run f (x ∷ xs) = cond (f x) (suc (run f xs)) 0

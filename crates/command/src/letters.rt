@@ -1,8 +1,10 @@
 // Which bytes may stand where.
+ghost use Prim.Native.Nat.{_+_};
 ghost use mathlib.Core.Path.{_≡_};
+ghost use lib.ListN.{drop};
 ghost use Rattle.octets.specs.Members.{every};
 ghost use Rattle.command.specs.Letters.{textByte};
-ghost use Rattle.command.specs.Classes.{byteOf, inRanges};
+ghost use Rattle.command.specs.Classes.{byteOf, inRanges, run};
 
 // The bytes of a text, of a key, and of a safe string.
 pub enum Class {
@@ -22,6 +24,21 @@ pub fn all(class: Class, s: &[u8]) -> bool
         i += 1;
     }
     all
+}
+
+// The first place at or after `from` where a byte of s is not of the class; where there is none, the end
+// of s, or `from` where it lies past that.
+pub fn pass(class: Class, s: &[u8], from: usize) -> usize
+    ensures { λ r. ⌜ r ≡ from + run (byteOf class) (drop from (now (s .entry))) ⌝ }
+{
+    let mut i = from;
+    while i < s.len() {
+        if !is(class, s[i]) {
+            return i;
+        }
+        i += 1;
+    }
+    i
 }
 
 // Whether c is of the class. What safe strings have besides keys' bytes stands beside these: `-`, `.`

@@ -1,13 +1,12 @@
 -- The scratch always has room for a decoded value: three bytes for each four characters of a text of at most 8,192.
 use Prim.Native.Nat.{ℕ, _+_, _*_, _≤_}
-use mathlib.Core.Bool.{Bool, true, false, cond, _&&_}
+use mathlib.Core.Bool.{Bool, true, false, cond}
 use mathlib.Core.List.{List}
 use native.Mathlib.Omega.{arith}
-use lib.ListN.{length, getD, length-drop}
-use lib.Dec.{ltb}
-use Rattle.command.specs.Keys.{Kind, keys, numberOf, kindAt}
+use lib.ListN.{length, getD}
+use Rattle.command.specs.Keys.{Kind, keys, kindAt}
 use Rattle.command.specs.Values.{Got, valueRead}
-use Rattle.command.specs.Fields.{Turn, isKey, equalsSign, keyOf, valueOf, fieldRead}
+use Rattle.command.specs.Fields.{Turn}
 use Rattle.command.specs.Slots.{free}
 use Rattle.command.specs.Read.{Reader, keptBy, kept}
 use Rattle.command.proofs.ReadValues.{Reads, reads, stored-room}
@@ -31,23 +30,3 @@ module _ (n at : ℕ) (v : List ℕ) (s : Reader) where
           Within (4 * s .used + 3 * length v) (cond b (Turn.off 5 s) t)
       go true = tt
       go false = value-within (kindAt keys n) (valueRead (kindAt keys n) v) (reads (kindAt keys n) v)
-
--- a field read
-pub field-within : (at : ℕ) (f : List ℕ) (s : Reader) → Within (4 * s .used + 3 * length f) (fieldRead kept at f s)
-unfolding fieldRead
-field-within at f s = go (ltb (equalsSign f) (length f) && isKey (keyOf f)) (ltb (numberOf keys (keyOf f)) (length keys))
-  where
-    m : ℕ
-    m = 4 * s .used + 3 * length f
-
-    longer : (t : Turn Reader) → Within (4 * s .used + 3 * length (valueOf f)) t → Within m t
-    longer (Turn.on r) h = omega (arith, length-drop (equalsSign f + 1) f)
-    longer (Turn.off r q) h = tt
-
-    t : Turn Reader
-    t = kept (numberOf keys (keyOf f)) (at + (equalsSign f + 1)) (valueOf f) s
-
-    go : (a b : Bool) → Within m (cond a (cond b t (Turn.on s)) (Turn.off 4 s))
-    go true true = longer t (known-within (numberOf keys (keyOf f)) (at + (equalsSign f + 1)) (valueOf f) s)
-    go true false = omega arith
-    go false b = tt

@@ -1,19 +1,121 @@
--- A field read, and the fields from one on, as the code takes them.
-use Prim.Native.Nat.{ℕ, _+_, _-_, _≤_, _<_}
-use mathlib.Core.Path.{_≡_, sym}
-use mathlib.Core.Bool.{true, false, _&&_}
-use mathlib.Core.List.{List, _∷_}
+-- The field at a place of a text: its key, found in one pass over the key's bytes, and its value.
+use Prim.Native.Nat.{ℕ, zero, suc, _+_, _-_, _≤_, _<_}
+use mathlib.Core.Path.{_≡_, refl, sym, _∙_, ap}
+use mathlib.Core.Bool.{Bool, true, false, cond, not, _&&_}
+use mathlib.Core.List.{List, [], _∷_}
 use native.Mathlib.Omega.{arith}
-use lib.ListN.{length, take, drop}
-use lib.Dec.{ltb}
-use borrow.Author.Tests.{lt-ltb, le-ltb}
-use Rattle.bytes.specs.Bytes.{indexOf}
+use native.Mathlib.Decide.{decLt}
+use native.Mathlib.Nat.{zero-sub, sub-zero, suc-sub-suc}
+use lib.ListN.{length, getD, take, drop, length-take, length-drop}
+use lib.Seq.{take-nil, take-take, drop-drop, getD-drop}
+use lib.Dec.{ltb, eqb}
+use borrow.Author.Tests.{lt-ltb, le-ltb, le-leb, lt-leb, ne-eqb, eqb-false, eqb-true, ltb-true, ltb-false, not-true}
+use Rattle.bytes.specs.Bytes.{indexOf, indexAfter}
 use Rattle.octets.specs.Ascii.{ascii}
+use Rattle.octets.specs.Members.{every}
 use Rattle.octets.specs.Split.{onto, split}
-use Rattle.octets.proofs.Lists.{part-rest}
+use Rattle.octets.proofs.Below.{both-test}
+use Rattle.octets.proofs.Cuts.{cut-within, cut-length, cut-last, cut-more}
+use Rattle.command.specs.Classes.{run}
 use Rattle.command.specs.Keys.{keys, placeIn, numberOf}
-use Rattle.command.specs.Fields.{Turn, Step, andThen, isKey, fieldRead, fieldsRead}
+use Rattle.command.specs.Letters.{keyByte, textByte}
+use Rattle.command.specs.Fields.{Turn, andThen, isKey, known, fieldRead, fieldsRead}
 use Rattle.command.specs.Read.{Reader, kept}
+use Rattle.command.proofs.Calm.{calm, plain, key-plain}
+use Rattle.command_reader.specs.States.{left}
+
+-- ---- a field, cut off what is left of a text
+-- a key's byte is neither `;` nor `=`
+key-apart : (x : ℕ) → keyByte x ≡ true → (eqb x 59 ≡ false) × (eqb x 61 ≡ false)
+unfolding plain calm
+key-apart x e =
+    let p = both-test (calm x) _ (key-plain x e) in
+    (not-true (eqb x 59) (both-test (textByte x) (not (eqb x 59)) (p .0) .1), not-true (eqb x 61) (p .1))
+
+abbrev fieldIn : List ℕ → List ℕ
+fieldIn l = take (indexOf 59 l) l
+
+-- where the bytes of a key end at a `=`
+pub record Signed (l : List ℕ) (k : ℕ) : Type 0 where
+  pub ends : indexOf 59 l ≡ suc (k + indexOf 59 (drop (suc k) l))
+  pub sign : indexOf 61 (fieldIn l) ≡ k
+  pub letters : every keyByte (take k l) ≡ true
+
+pub signed : (l : List ℕ) → run keyByte l < length l → getD l (run keyByte l) 0 ≡ 61 → Signed l (run keyByte l)
+unfolding run indexOf indexAfter every
+signed [] h e = absurd (omega arith)
+signed (x ∷ r) h e = go (keyByte x) refl h e (signed r)
+  where
+    go : (b : Bool) → keyByte x ≡ b → let k = cond b (suc (run keyByte r)) 0 in
+        k < suc (length r) → getD (x ∷ r) k 0 ≡ 61
+        → (run keyByte r < length r → getD r (run keyByte r) 0 ≡ 61 → Signed r (run keyByte r)) → Signed (x ∷ r) k
+    go true q l s ih =
+        let n = key-apart x q in
+        let i = ih (omega arith) s in
+        record {
+          ends = rw (n .0) (omega (arith, i .ends));
+          sign = rw (n .0, n .1) (ap suc (i .sign));
+          letters = rw q (i .letters);
+        }
+    go false q l s ih = rw s (record { ends = omega arith; sign = refl; letters = refl })
+
+-- where they do not, the field has no key before a `=`
+abbrev keyed : List ℕ → Bool
+keyed f = ltb (indexOf 61 f) (length f) && every keyByte (take (indexOf 61 f) f)
+
+ltb-suc : (a b : ℕ) → ltb (suc a) (suc b) ≡ ltb a b
+ltb-suc a b = go (ltb a b) refl
+  where
+    go : (t : Bool) → ltb a b ≡ t → ltb (suc a) (suc b) ≡ t
+    go true e = lt-ltb (suc a) (suc b) (omega (arith, ltb-true a b e))
+    go false e = le-ltb (suc a) (suc b) (omega (arith, ltb-false a b e))
+
+and-false : (a : Bool) → (a && false) ≡ false
+and-false true = refl
+and-false false = refl
+
+abbrev Unsigned : List ℕ → Type 0
+Unsigned l = (run keyByte l < length l → getD l (run keyByte l) 0 ≡ 61 → ⊥) → keyed (fieldIn l) ≡ false
+
+unsigned : (l : List ℕ) → Unsigned l
+unfolding indexOf indexAfter run every
+unsigned [] n = refl
+unsigned (x ∷ r) n = at (eqb x 59) refl (unsigned r)
+  where
+    letter : (b : Bool) → keyByte x ≡ b → Unsigned r
+        → (ltb (suc (indexOf 61 (fieldIn r))) (suc (length (fieldIn r))) && (b && every keyByte (take (indexOf 61 (fieldIn r)) (fieldIn r)))) ≡ false
+    letter true q ih = rw (ltb-suc (indexOf 61 (fieldIn r)) (length (fieldIn r))) (ih (λ h e. rw q at n (omega arith) e))
+    letter false q ih = and-false (ltb (suc (indexOf 61 (fieldIn r))) (suc (length (fieldIn r))))
+
+    sign : (b : Bool) → eqb x 61 ≡ b → Unsigned r → let f = x ∷ fieldIn r in
+        (ltb (indexAfter b (indexOf 61 (fieldIn r))) (length f) && every keyByte (take (indexAfter b (indexOf 61 (fieldIn r))) f)) ≡ false
+    sign true q ih = let e = eqb-true x 61 q in absurd (unfold keyByte in rw e at n (omega arith) refl)
+    sign false q ih = letter (keyByte x) refl ih
+
+    at : (b : Bool) → eqb x 59 ≡ b → Unsigned r → keyed (take (indexAfter b (indexOf 59 r)) (x ∷ r)) ≡ false
+    at true q ih = refl
+    at false q ih = sign (eqb x 61) refl ih
+
+-- ---- the text from a place on: its first field, and then the others
+module _ (t : List ℕ) (at end : ℕ) (h : at ≤ length t) (e : end ≡ at + indexOf 59 (drop at t)) where
+  left-next : (s : Reader) → left at t s ≡ andThen (fieldRead kept at (fieldIn (drop at t)) s) (λ (s′ : Reader). left (end + 1) t s′)
+  unfolding left fieldsRead
+  left-next s = rw (le-leb at (length t) h) (go (decLt end (length t)))
+    where
+      f : List ℕ
+      f = take (end - at) (drop at t)
+
+      same : f ≡ fieldIn (drop at t)
+      same = let n : end - at ≡ indexOf 59 (drop at t) = omega arith in rw n
+
+      next : at + length f + 1 ≡ end + 1
+      next = omega (arith, cut-length 59 t at end h e)
+
+      go : Dec (end < length t) → fieldsRead kept at (split 59 (drop at t)) s
+          ≡ andThen (fieldRead kept at (fieldIn (drop at t)) s) (λ (s′ : Reader). left (end + 1) t s′)
+      go (yes l) = rw (cut-more 59 t at end h e (λ (q : end ≡ length t). omega arith), next, same, le-leb (end + 1) (length t) (omega arith))
+      go (no l) =
+          rw (cut-last 59 t at end h e (omega (arith, cut-within 59 t at end h e)), same, lt-leb (end + 1) (length t) (omega arith))
 
 -- the code's list of the keys, by which it numbers them
 abbrev listed : List ℕ
@@ -23,27 +125,85 @@ number-of : (n : ℕ) (w : List ℕ) → n ≡ placeIn (split 32 listed) w → n
 unfolding split onto
 number-of n w e = sym e
 
--- a field, whose first `=` stands at e
-module _ (at : ℕ) (f : List ℕ) (s : Reader) (e : ℕ) (q : e ≡ 0 + indexOf 61 f) where
-  sign : indexOf 61 f ≡ e
-  sign = omega arith
+drop-take : (k n : ℕ) (l : List ℕ) → drop k (take n l) ≡ take (n - k) (drop k l)
+drop-take zero n l = rw (sub-zero n)
+drop-take (suc k) zero l = rw (zero-sub (suc k))
+drop-take (suc k) (suc n) [] = sym (take-nil (suc n - suc k))
+drop-take (suc k) (suc n) (x ∷ l) = rw (suc-sub-suc n k) (drop-take k n l)
 
-  pub field-bad : (ltb e (length f) && isKey (take e f)) ≡ false → fieldRead kept at f s ≡ Turn.off 4 s
+-- the bytes of a key from `at` on end at `sign`
+module _ (t : List ℕ) (at sign : ℕ) (h : at ≤ length t) (q : sign ≡ at + run keyByte (drop at t)) where
+  abbrev l : List ℕ
+  l = drop at t
+
+  -- no key, or no `=` after it
+  none : (ltb (indexOf 61 (fieldIn l)) (length (fieldIn l)) && isKey (take (indexOf 61 (fieldIn l)) (fieldIn l))) ≡ false
+      → (s : Reader) → left at t s ≡ Turn.off 4 s
   unfolding fieldRead
-  field-bad h = rw (sign, h)
+  none e s = left-next t at (at + indexOf 59 l) h refl s ∙ rw e
 
-  module _ (h : (ltb e (length f) && isKey (take e f)) ≡ true) (n : ℕ) (m : n ≡ placeIn (split 32 listed) (take e f)) where
-    pub field-unknown : 15 ≤ n → fieldRead kept at f s ≡ Turn.on s
-    unfolding fieldRead
-    field-unknown k = rw (sign, h, number-of n (take e f) m, le-ltb n 15 k)
+  bad : (a b c : Bool) → (a && c) ≡ false → (a && (b && c)) ≡ false
+  bad true true c e = e
+  bad true false c e = refl
+  bad false b c e = refl
 
-    pub field-known : n < 15 → fieldRead kept at f s ≡ kept n (at + (e + 1)) (take (length f - (e + 1)) (drop (e + 1) f)) s
-    unfolding fieldRead
-    field-known k = rw (sign, h, number-of n (take e f) m, lt-ltb n 15 k, part-rest f (e + 1))
+  pub unsigned-left : (sign < length t → getD t sign 0 ≡ 61 → ⊥) → (s : Reader) → left at t s ≡ Turn.off 4 s
+  unfolding isKey
+  unsigned-left n =
+      let f = fieldIn l in
+      none (bad (ltb (indexOf 61 f) (length f)) (ltb 0 (length (take (indexOf 61 f) f))) (every keyByte (take (indexOf 61 f) f)) (unsigned l (λ i e. n (omega (arith, length-drop at t)) (rw q (sym (getD-drop at t (run keyByte l) 0) ∙ e)))))
 
--- the first field decides how the fields go on
-pub fields-next : {S : Type 0} (step : Step S) (at : ℕ) (s : S) {fs more : List (List ℕ)} {f : List ℕ} {t : Turn S}
-    → fs ≡ f ∷ more → t ≡ fieldRead step at f s
-    → fieldsRead step at fs s ≡ andThen t (λ (s′ : S). fieldsRead step (at + length f + 1) more s′)
-unfolding fieldsRead
-fields-next step at s e q = rw (e, q)
+  module _ (i : sign < length t) (e : getD t sign 0 ≡ 61) where
+    s61 : Signed l (run keyByte l)
+    s61 = signed l (omega (arith, length-drop at t)) (getD-drop at t (run keyByte l) 0 ∙ rw (← q) e)
+
+    pub empty-left : sign ≡ at → (s : Reader) → left at t s ≡ Turn.off 4 s
+    unfolding isKey
+    empty-left z = let k : run keyByte l ≡ 0 = omega arith in none (rw (s61 .sign, k) (and-false (ltb 0 (length (fieldIn l)))))
+
+    module _ (some : at < sign) (end : ℕ) (g : end ≡ (sign + 1) + indexOf 59 (drop (sign + 1) t)) where
+      rest : drop (suc (run keyByte l)) l ≡ drop (sign + 1) t
+      rest = let n : at + suc (run keyByte l) ≡ sign + 1 = omega arith in rw (drop-drop (suc (run keyByte l)) at t, n)
+
+      ends : end ≡ at + indexOf 59 l
+      ends = omega (arith, rw rest at (s61 .ends))
+
+      pub end-within : end ≤ length t
+      end-within = cut-within 59 t (sign + 1) end (omega arith) g
+
+      -- the key by which the field is known, and its value
+      name : take (run keyByte l) (fieldIn l) ≡ take (sign - at) l
+      name = let n : run keyByte l ≡ sign - at = omega arith in rw (take-take (run keyByte l) (indexOf 59 l) l (omega (arith, s61 .ends)), n)
+
+      value : drop (run keyByte l + 1) (fieldIn l) ≡ take (end - (sign + 1)) (drop (sign + 1) t)
+      value =
+          let o : at + (run keyByte l + 1) ≡ sign + 1 = omega arith in
+          let n : indexOf 59 l - (run keyByte l + 1) ≡ end - (sign + 1) = omega (arith, ends) in
+          drop-take (run keyByte l + 1) (indexOf 59 l) l ∙ rw (drop-drop (run keyByte l + 1) at t, o, n)
+
+      here : (s : Reader) → fieldRead kept at (fieldIn l) s
+          ≡ known kept 15 (numberOf keys (take (sign - at) l)) (sign + 1) (take (end - (sign + 1)) (drop (sign + 1) t)) s
+      unfolding fieldRead isKey
+      here s =
+          let o : at + (run keyByte l + 1) ≡ sign + 1 = omega arith in
+          let f : run keyByte l < length (fieldIn l) = omega (arith, ends, end-within, length-take (indexOf 59 l) l, length-drop at t) in
+          let z : 0 < length (take (sign - at) l) = omega (arith, length-take (sign - at) l, length-drop at t) in
+          let k : every keyByte (take (sign - at) l) ≡ true =
+          (let d : run keyByte l ≡ sign - at = omega arith in rw d at (s61 .letters)) in
+          rw (
+            s61 .sign,
+            lt-ltb (run keyByte l) (length (fieldIn l)) f,
+            name,
+            lt-ltb 0 (length (take (sign - at) l)) z,
+            k,
+            o,
+            value,
+          )
+
+      module _ (n : ℕ) (m : n ≡ placeIn (split 32 listed) (take (sign - at) l)) where
+        pub unknown-left : 15 ≤ n → (s : Reader) → left at t s ≡ left (end + 1) t s
+        unknown-left k s = left-next t at end h ends s ∙ rw (here s, number-of n (take (sign - at) l) m, le-ltb n 15 k)
+
+        pub known-left : n < 15 → (s : Reader)
+            → left at t s ≡ andThen (kept n (sign + 1) (take (end - (sign + 1)) (drop (sign + 1) t)) s) (λ (s′ : Reader). left (end + 1) t s′)
+        known-left k s = left-next t at end h ends s ∙ rw (here s, number-of n (take (sign - at) l) m, lt-ltb n 15 k)

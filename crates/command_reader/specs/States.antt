@@ -1,23 +1,24 @@
--- The code's state and turns as the definitions' reader and turns.
-use Prim.Native.Nat.{ℕ}
+-- What is left to read of a text at a place, and what a field is by its key.
+use Prim.Native.Nat.{ℕ, _+_, _-_, _≤_, _<_}
+use mathlib.Core.Path.{_≡_}
+use mathlib.Core.Bool.{cond}
 use mathlib.Core.List.{List}
-use Rattle.command.specs.Fields as Fields
-use Rattle.command.specs.Refusals.{refusalNumber}
-use Rattle.command.specs.Read.{Reader}
-use Rattle.command_reader.specs.declared.fields.State.{State}
-use Rattle.command_reader.specs.declared.fields.Fault.{Fault}
-use Rattle.command_reader.specs.declared.fields.Fault.the-variants as Fault
-use Rattle.command_reader.specs.declared.fields.Turn.{Turn}
+use lib.ListN.{length, take, drop}
+use lib.Dec.{leb}
+use Rattle.octets.specs.Split.{split}
+use Rattle.command.specs.Fields.{Turn, andThen, fieldsRead}
+use Rattle.command.specs.Read.{Reader, kept}
+use Rattle.command_reader.specs.declared.fields.Named.{Named}
+use Rattle.command_reader.specs.declared.fields.Named.the-variants as Named
 
--- a state with the scratch l
-abbrev pub readerOf : State → List ℕ → Reader
-readerOf s l = record { slots = s .slots; scratch = l; used = s .used }
+-- the fields from a place on; past the end of the text there is none
+unfoldable pub left : ℕ → List ℕ → Reader → Turn Reader
+left at t s = cond (leb at (length t)) (fieldsRead kept at (split 59 (drop at t)) s) (Turn.on s)
 
--- a turn that goes on, or one with a refusal
-abbrev pub turnedBy : Fault → Reader → Fields.Turn Reader
-turnedBy Fault.None s = Fields.on s
-turnedBy (Fault.Refused r) s = Fields.off (refusalNumber r) s
-
--- a turn with the scratch l
-abbrev pub turned : Turn → List ℕ → Fields.Turn Reader
-turned t l = turnedBy (t .fault) (readerOf (t .state) l)
+-- the field at a place is as the code tells it
+abbrev pub Names : Named → List ℕ → ℕ → Type 0
+Names Named.Bad t at = (s : Reader) → left at t s ≡ Turn.off 4 s
+Names (Named.Unknown end) t at = (at < end) × (end ≤ length t) × ((s : Reader) → left at t s ≡ left (end + 1) t s)
+Names (Named.Key n from end) t at =
+    (n < 15) × (at < from) × (from ≤ end) × (end ≤ length t)
+    × ((s : Reader) → left at t s ≡ andThen (kept n from (take (end - from) (drop from t)) s) (λ s′. left (end + 1) t s′))

@@ -1,16 +1,13 @@
 // The fields of a text, left to right.
-ghost use mathlib.Core.Bool.{_&&_};
 ghost use mathlib.Core.Path.{_≡_};
-ghost use Prim.Native.Nat.{ℕ, _+_, _-_, _*_, _≤_, _<_};
-ghost use mathlib.Core.List.{List};
-ghost use lib.Dec.{ltb};
-ghost use lib.ListN.{length, take, drop};
+ghost use Prim.Native.Nat.{_≤_};
+ghost use lib.ListN.{length, drop};
 ghost use Rattle.octets.specs.Outcome.{outcome};
 ghost use Rattle.octets.specs.Split.{split};
 ghost use Rattle.frames.specs.Stream.{textLimit};
-ghost use Rattle.command.specs.Fields.{isKey, fieldRead, fieldsRead};
+ghost use Rattle.command.specs.Fields.{fieldsRead};
 ghost use Rattle.command.specs.Read.{answered, begun, finished, kept, scratchRoom};
-ghost use Rattle.command_reader.specs.States.{readerOf, turned};
+ghost use Rattle.command_reader.specs.States.{Names};
 use crate::slots::complete;
 use crate::values;
 use crate::values::Kept;
@@ -23,137 +20,82 @@ use command::letters;
 use command::letters::Class;
 use decimal::Number;
 
-// The slots so far, and how many bytes of the scratch are used.
-pub struct State {
-    pub slots: [Slot; 15],
-    pub used: usize,
+// What a field names: nothing, where no key stands before a `=`; an unknown key, and where the field ends;
+// or the number of a key, where its value starts, and where it ends.
+pub enum Named {
+    Bad,
+    Unknown(usize),
+    Key(usize, usize, usize),
 }
 
-// Whether a field was refused.
-pub enum Fault {
-    None,
-    Refused(Refusal),
-}
-
-// The state after a field, or a refusal with the state before it.
-pub struct Turn {
-    pub fault: Fault,
-    pub state: State,
-}
-
-// Reads the fields of a text that starts `5113;`, and puts the command together.
+// Reads the fields of a text that starts `5113;`, and puts the command together. The slots and how many
+// bytes of the scratch are used stay here: to hand them on would copy them.
 pub(crate) fn read_fields(text: &[u8], scratch: &mut [u8]) -> Reading
     requires { ⌜ (5 ≤ length (now text)) × (length (now text) ≤ textLimit) × (scratchRoom ≤ length (now scratch)) ⌝ }
     ensures { λ r. ⌜ outcome (answered r) (now (scratch .exit))
         ≡ finished (fieldsRead kept 5 (split 59 (drop 5 (now (text .entry)))) (begun (now (scratch .entry)))) ⌝ }
 {
-    let mut state = fresh();
+    let mut slots = [FREE; 15];
+    let mut used = 0;
     let mut at = 5;
-    loop {
-        let end = octets::find(text, at, b';');
-        let turn = field(state, text, at, end, scratch);
-        let fault = turn.fault;
-        match fault {
-            Fault::Refused(r) => return Reading::Refused(r),
-            Fault::None => {
-                let next = turn.state;
-                if end == text.len() {
-                    let slots = next.slots;
-                    return complete(slots);
-                }
-                state = next;
+    while at <= text.len() {
+        match next_field(text, at) {
+            Named::Bad => return Reading::Refused(Refusal::BadField),
+            Named::Unknown(end) => {
                 at = end + 1;
             }
-        }
-    }
-}
-
-// No key has stood, and nothing is used.
-fn fresh() -> State
-    ensures { λ r. ⌜ ((l : List ℕ) → readerOf r l ≡ begun l) ⌝ }
-{
-    let free = Slot {
-        stood: false,
-        number: Number {
-            negative: false,
-            magnitude: 0,
-        },
-        place: Place::NOWHERE,
-    };
-    State {
-        slots: [free; 15],
-        used: 0,
-    }
-}
-
-// Reads the field from place `at` up to `end`. An unknown key is ignored.
-fn field(state: State, text: &[u8], at: usize, end: usize, scratch: &mut [u8]) -> Turn
-    requires { ⌜ (at ≤ end) × (end ≤ length (now text)) × (length (now text) ≤ textLimit)
-        × (scratchRoom ≤ length (now scratch)) × (4 * state .used ≤ 3 * at) ⌝ }
-    ensures { λ r. ⌜ turned r (now (scratch .exit))
-        ≡ fieldRead kept at (take (end - at) (drop at (now (text .entry)))) (readerOf state (now (scratch .entry))) ⌝ }
-{
-    let f = &text[at..end];
-    let e = octets::find(f, 0, b'=');
-    if !has_key(f, e) {
-        return Turn {
-            fault: Fault::Refused(Refusal::BadField),
-            state: state,
-        };
-    }
-    let n = place_in(b"ac zip ft tt id fid pw q mod prm sz n st pr d", &f[..e]);
-    if n >= 15 {
-        return Turn {
-            fault: Fault::None,
-            state: state,
-        };
-    }
-    let from = e + 1;
-    known(state, n, at + from, &f[from..], scratch)
-}
-
-// Whether the bytes of f up to place e, which is within f, are a key.
-fn has_key(f: &[u8], e: usize) -> bool
-    ensures { λ r. ⌜ r ≡ (ltb e (length (now (f .entry))) && isKey (take e (now (f .entry)))) ⌝ }
-{
-    if e >= f.len() {
-        return false;
-    }
-    if e == 0 {
-        return false;
-    }
-    letters::all(Class::Key, &f[..e])
-}
-
-// Keeps the value v of the key with number n, which may stand once.
-fn known(state: State, n: usize, at: usize, v: &[u8], scratch: &mut [u8]) -> Turn
-    requires { ⌜ (n < 15) × (4 * (state .used) + 3 * length (now v) ≤ 4 * length (now scratch)) ⌝ }
-    ensures { λ r. ⌜ turned r (now (scratch .exit)) ≡ kept n at (now (v .entry)) (readerOf state (now (scratch .entry))) ⌝ }
-{
-    let slot = state.slots[n];
-    if slot.stood {
-        return Turn {
-            fault: Fault::Refused(Refusal::Repeated),
-            state: state,
-        };
-    }
-    let used = state.used;
-    match values::keep(values::kind_of(n), at, v, scratch, used) {
-        Kept::Slot(filled, stored) => {
-            let mut slots = state.slots;
-            slots[n] = filled;
-            let total = used + stored;
-            Turn {
-                fault: Fault::None,
-                state: State {
-                    slots: slots,
-                    used: total,
-                },
+            Named::Key(n, from, end) => {
+                let slot = slots[n];
+                if slot.stood {
+                    return Reading::Refused(Refusal::Repeated);
+                }
+                match values::keep(values::kind_of(n), from, &text[from..end], scratch, used) {
+                    Kept::Slot(filled, stored) => {
+                        slots[n] = filled;
+                        used += stored;
+                        at = end + 1;
+                    }
+                    Kept::Refused(r) => return Reading::Refused(r),
+                }
             }
         }
-        Kept::Refused(r) => Turn {
-            fault: Fault::Refused(r),
-            state: state,
-        },
     }
+    complete(slots)
+}
+
+// The slot of a key that has not stood.
+const FREE: Slot = Slot {
+    stood: false,
+    number: Number {
+        negative: false,
+        magnitude: 0,
+    },
+    place: Place::NOWHERE,
+};
+
+// What the field at place `at` names. The bytes of its key are passed, and then its value.
+fn next_field(text: &[u8], at: usize) -> Named
+    requires { ⌜ (at ≤ length (now text)) × (length (now text) ≤ textLimit) ⌝ }
+    ensures { λ r. ⌜ Names r (now (text .entry)) at ⌝ }
+{
+    let sign = letters::pass(Class::Key, text, at);
+    if sign == text.len() {
+        return Named::Bad;
+    }
+    if text[sign] != b'=' {
+        return Named::Bad;
+    }
+    if sign == at {
+        return Named::Bad;
+    }
+    let from = sign + 1;
+    let end = octets::find(text, from, b';');
+    let n = place_in(
+        b"ac zip ft tt id fid pw q mod prm sz n st pr d",
+        &text[at..sign],
+    );
+    if n >= 15 {
+        return Named::Unknown(end);
+    }
+    Named::Key(n, from, end)
 }

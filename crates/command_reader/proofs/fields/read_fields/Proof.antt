@@ -1,124 +1,224 @@
-use Prim.Native.Nat.{ℕ, _+_, _-_, _*_, _≤_}
+use Prim.Native.Nat.{ℕ, _+_, _-_, _*_, _≤_, _<_}
 use mathlib.Core.Path.{_≡_, refl, sym, _∙_, ap}
-use mathlib.Core.List.{List, [], _∷_}
+use mathlib.Core.List.{List}
 use native.Mathlib.Omega.{arith}
-use lib.ListN.{length, take, drop}
+use lib.ListN.{length, take, drop, length-take}
 use borrow.Author.Needs.{needs}
+use borrow.Author.Tests.{le-leb, lt-leb}
 use Rattle.octets.specs.Split.{split}
-use Rattle.octets.proofs.Cuts.{cut-within, cut-length, cut-last, cut-more, cut-first}
 use Rattle.command.specs.Fields.{andThen, fieldsRead}
 use Rattle.command.specs.Read.{Reader, begun, kept}
-use Rattle.command_reader.specs.States.{readerOf, turned}
-use Rattle.command_reader.proofs.Room.{field-within}
-use Rattle.command_reader.proofs.Turns.{fields-next}
+use Rattle.command.specs.declared.Slot.{Slot}
+use Rattle.command_reader.specs.declared.fields.Named.{Named}
+use Rattle.command_reader.specs.Keeping.{keptIn}
+use Rattle.command_reader.specs.States.{left, Names}
+use Rattle.command_reader.proofs.Room.{Within, known-within}
 use Rattle.command_reader.proofs.fields.read_fields.Statement.{statement}
 use Rattle.command_reader.proofs.fields.read_fields.Tie as tie
 
+abbrev reader : List Slot → List ℕ → ℕ → Reader
+reader slots scratch used = record { slots = slots; scratch = scratch; used = used }
+
 abbrev Inv-loop : tie.InvT-loop
-Inv-loop text scratch₀ state₀ at₀ scratch state at =
-    (at ≤ length text) × (length scratch ≡ length scratch₀) × (4 * state .used ≤ 3 * at)
-    × (fieldsRead kept at (split 59 (drop at text)) (readerOf state scratch) ≡ fieldsRead kept 5 (split 59 (drop 5 text)) (begun scratch₀))
+Inv-loop text scratch₀ slots₀ used₀ at₀ scratch slots used at =
+    (at ≤ length text + 1) × (length scratch ≡ length scratch₀) × (4 * used ≤ 3 * at)
+    × (left at text (reader slots scratch used) ≡ fieldsRead kept 5 (split 59 (drop 5 text)) (begun scratch₀))
 
 abbrev μ-loop : tie.MeasureT-loop
-μ-loop text scratch₀ state₀ at₀ scratch state at = length text - at
+μ-loop text scratch₀ slots₀ used₀ at₀ scratch slots used at = length text + 1 - at
 
--- the field of a turn
-abbrev text : tie.After-find Inv-loop μ-loop → List ℕ
+-- the text, the reader before a field, and what the field names
+abbrev text : tie.After-next-field Inv-loop μ-loop → List ℕ
 text c = c .before .before .before .before .before .args .text .now
 
-abbrev scratch : tie.After-find Inv-loop μ-loop → List ℕ
-scratch c = c .before .before .before .before .before .args .scratch .now
+abbrev so-far : tie.After-next-field Inv-loop μ-loop → Reader
+so-far c = let l = c .before .before .loop in reader (l .slots) (l .scratch) (l .used)
 
-abbrev part : tie.After-find Inv-loop μ-loop → List ℕ
-part c = take (c .find .result - c .before .loop .at) (drop (c .before .loop .at) (text c))
+named : (c : tie.After-next-field Inv-loop μ-loop) {d : Named} → c .next-field .result ≡ d → Names d (text c) (c .before .before .loop .at)
+named c e = rw e at (c .next-field .ensures)
 
-within : (c : tie.After-find Inv-loop μ-loop) → c .find .result ≤ length (text c)
-within c = cut-within 59 (text c) (c .before .loop .at) (c .find .result) (c .before .loop .inv .0) (c .find .ensures)
+-- what is kept of a value is what `keep` answered
+told : (c : tie.After-keep Inv-loop μ-loop) → let key = c .before .before .before .before .before .before .before in
+    let field = key .before .before in let n = key .n .given .0 .0 in let from = key .n .given .0 .1 .0 in let end = key .n .given .0 .1 .1 .0 in
+    keptIn n (so-far field) (c .keep .last .1 .1 .1 .0) (c .keep .result) ≡ kept n from (take (end - from) (drop from (text field))) (so-far field)
+unfolding kept
+told c =
+    let kind = c .before .before .before in
+    let key = kind .before .before .before .before in
+    rw (kind .before .if1 .left, ← kind .kind-of .ensures) (c .keep .ensures (key .n .given .0 .0) (so-far (key .before .before) .slots))
 
-first : (c : tie.After-find Inv-loop μ-loop) → (more : List (List ℕ)) × (split 59 (drop (c .before .loop .at) (text c)) ≡ part c ∷ more)
-first c = cut-first 59 (text c) (c .before .loop .at) (c .find .result) (c .before .loop .inv .0) (c .find .ensures)
+room : (c : tie.After-keep Inv-loop μ-loop) → let key = c .before .before .before .before .before .before .before in
+    let field = key .before .before in let n = key .n .given .0 .0 in let from = key .n .given .0 .1 .0 in let end = key .n .given .0 .1 .1 .0 in
+    Within (4 * so-far field .used + 3 * length (take (end - from) (drop from (text field))))
+    (keptIn n (so-far field) (c .keep .last .1 .1 .1 .0) (c .keep .result))
+room c =
+    let key = c .before .before .before .before .before .before .before in
+    let field = key .before .before in
+    let from = key .n .given .0 .1 .0 in
+    rw (told c) (known-within (key .n .given .0 .0) from (take (key .n .given .0 .1 .1 .0 - from) (drop from (text field))) (so-far field))
 
-last : (c : tie.After-find Inv-loop μ-loop) → c .find .result ≡ length (text c)
-    → split 59 (drop (c .before .loop .at) (text c)) ≡ part c ∷ []
-last c e = cut-last 59 (text c) (c .before .loop .at) (c .find .result) (c .before .loop .inv .0) (c .find .ensures) e
-
--- what it does to the whole
-turn : (c : tie.After-field Inv-loop μ-loop) (more : List (List ℕ))
-    → let find = c .before .before in let l = find .before .loop in let next = l .at + length (part find) + 1 in
-    split 59 (drop (l .at) (text find)) ≡ part find ∷ more
-    → fieldsRead kept 5 (split 59 (drop 5 (text find))) (begun (scratch find))
-    ≡ andThen (turned (c .field .result) (c .field .last .1 .1 .1 .1 .0)) (λ (s : Reader). fieldsRead kept next more s)
-turn c more e =
-    let l = c .before .before .before .loop in
-    sym (l .inv .3) ∙ fields-next kept (l .at) (readerOf (l .state) (l .scratch)) e (c .field .ensures)
-
-fresh-requires : tie.Need-fresh-requires Inv-loop μ-loop
-fresh-requires c κs = search needs
+-- a value is shorter than its field
+size : (c : tie.After-keep Inv-loop μ-loop) → let key = c .before .before .before .before .before .before .before in
+    let field = key .before .before in let from = key .n .given .0 .1 .0 in let end = key .n .given .0 .1 .1 .0 in
+    length (take (end - from) (drop from (text field))) + field .before .before .loop .at + 1 ≤ end
+size c =
+    let key = c .before .before .before .before .before .before .before in
+    let field = key .before .before in
+    let from = key .n .given .0 .1 .0 in
+    let k = named field (key .n .given .1) in
+    omega (arith, k .1, k .2, length-take (key .n .given .0 .1 .1 .0 - from) (drop from (text field)))
 
 loop-holds : tie.Need-loop-holds Inv-loop μ-loop
+unfolding left
 loop-holds c =
-    let a = c .before .before .before .args in
-    let e = c .fresh .ensures (a .scratch .now) in
-    let all = split 59 (drop 5 (a .text .now)) in
-    (omega arith, refl, omega (arith, ap (λ (r : Reader). r .used) e), ap (fieldsRead kept 5 all) e)
+    let a = c .before .before .args in
+    (omega arith, refl, omega arith, rw (le-leb 5 (length (a .text .now)) (omega arith)))
 
-find-requires : tie.Need-find-requires Inv-loop μ-loop
-find-requires c κs = search needs
+next-field-requires : tie.Need-next-field-requires Inv-loop μ-loop
+next-field-requires c κs = omega arith
 
-field-requires : tie.Need-field-requires Inv-loop μ-loop
-field-requires c κs = omega (arith, within (c .before))
-
-enum-known-fault : tie.Need-enum-known-fault Inv-loop μ-loop
-enum-known-fault c = search needs
+enum-told : tie.Need-enum-told Inv-loop μ-loop
+enum-told c = search needs
 
 same-length : tie.Need-same-length Inv-loop μ-loop
 same-length c = search needs
 
 returns : tie.Need-returns Inv-loop μ-loop
 returns c =
-    let fault = c .before in
-    let field = fault .before .before .before .before in
-    rw (turn field _ (first (field .before .before) .1), fault .fault .given .1)
+    let field = c .before .before in
+    rw (← field .before .before .loop .inv .3, named field (c .enum-told .given .1) (so-far field))
 
-enum-told : tie.Need-enum-told Inv-loop μ-loop
-enum-told c = search needs
+enum-known-end : tie.Need-enum-known-end Inv-loop μ-loop
+enum-known-end c = search needs
 
-complete-requires : tie.Need-complete-requires Inv-loop μ-loop
-complete-requires c κs = search needs
+add-at : tie.Need-add-at Inv-loop μ-loop
+add-at c = let end = c .before in omega (arith, named (end .before .before) (end .end .given .1) .1)
+
+loop-less : tie.Need-loop-less Inv-loop μ-loop
+loop-less c = let end = c .before in let k = named (end .before .before) (end .end .given .1) in omega (arith, k .0, k .1)
+
+loop-again : tie.Need-loop-again Inv-loop μ-loop
+loop-again c =
+    let end = c .before in
+    let field = end .before .before in
+    let l = field .before .before .loop in
+    let k = named field (end .end .given .1) in
+    (omega (arith, k .1), l .inv .1, omega (arith, k .0), sym (k .2 (so-far field)) ∙ l .inv .3)
+
+enum-known-n : tie.Need-enum-known-n Inv-loop μ-loop
+enum-known-n c = search needs
+
+mul-slot : tie.Need-mul-slot Inv-loop μ-loop
+mul-slot c =
+    let key = c .before in
+    let i : key .n .given .0 .0 < 15 = named (key .before .before) (key .n .given .1) .0 in search needs
+
+array-copy-out-slot : tie.Need-array-copy-out-slot Inv-loop μ-loop
+array-copy-out-slot c = let key = c .before in named (key .before .before) (key .n .given .1) .0
 
 same-length-2 : tie.Need-same-length-2 Inv-loop μ-loop
 same-length-2 c = search needs
 
 returns-2 : tie.Need-returns-2 Inv-loop μ-loop
-unfolding fieldsRead
+unfolding kept
 returns-2 c =
-    let end = c .before .before in
-    let on = end .before .before in
-    let field = on .before .before .before .before in
-    rw (turn field [] (last (field .before .before) (end .if1 .taken)), on .enum-told .given .1, c .complete .ensures)
+    let key = c .before .before .before in
+    let field = key .before .before in
+    rw (← field .before .before .loop .inv .3, named field (key .n .given .1) .4 (so-far field), c .if1 .taken)
 
-add-at : tie.Need-add-at Inv-loop μ-loop
-add-at c = let field = c .before .before .before .before .before .before in omega (arith, within (field .before .before))
+kind-of-requires : tie.Need-kind-of-requires Inv-loop μ-loop
+kind-of-requires c κs = let key = c .before .before .before in named (key .before .before) (key .n .given .1) .0
 
-loop-less : tie.Need-loop-less Inv-loop μ-loop
-loop-less c = let field = c .before .before .before .before .before .before in omega (arith, within (field .before .before))
+sub-keep : tie.Need-sub-keep Inv-loop μ-loop
+sub-keep c = let key = c .before .before .before .before in omega (arith, named (key .before .before) (key .n .given .1) .2)
 
-loop-again : tie.Need-loop-again Inv-loop μ-loop
-loop-again c =
-    let on = c .before .before in
-    let field = on .before .before .before .before in
-    let find = field .before .before in
-    let l = find .before .loop in
-    let g = find .find in
-    let e = on .enum-told .given .1 in
-    let size = cut-length 59 (text find) (l .at) (g .result) (l .inv .0) (g .ensures) in
-    let more = cut-more 59 (text find) (l .at) (g .result) (l .inv .0) (g .ensures) (c .if1 .left) in
-    let next : l .at + length (part find) + 1 ≡ g .result + 1 = omega (arith, g .ensures) in (
-      omega (arith, within find),
+part-keep-start : tie.Need-part-keep-start Inv-loop μ-loop
+part-keep-start c = let key = c .before .before .before .before in omega (arith, named (key .before .before) (key .n .given .1) .2)
+
+part-keep-end : tie.Need-part-keep-end Inv-loop μ-loop
+part-keep-end c = let key = c .before .before .before .before in omega (arith, named (key .before .before) (key .n .given .1) .3)
+
+keep-requires : tie.Need-keep-requires Inv-loop μ-loop
+keep-requires c κs =
+    let key = c .before .before .before .before .before .before in
+    let field = key .before .before in
+    let k = named field (key .n .given .1) in
+    let from = key .n .given .0 .1 .0 in
+    omega (arith, k .1, k .3, field .before .before .loop .inv, length-take (key .n .given .0 .1 .1 .0 - from) (drop from (text field)))
+
+enum-known-filled : tie.Need-enum-known-filled Inv-loop μ-loop
+enum-known-filled c = search needs
+
+mul-slots : tie.Need-mul-slots Inv-loop μ-loop
+mul-slots c =
+    let key = c .before .before .before .before .before .before .before .before .before .before .before .before in
+    let i : key .n .given .0 .0 < 15 = named (key .before .before) (key .n .given .1) .0 in search needs
+
+array-set-from-slots : tie.Need-array-set-from-slots Inv-loop μ-loop
+array-set-from-slots c =
+    let key = c .before .before .before .before .before .before .before .before .before .before .before .before in
+    named (key .before .before) (key .n .given .1) .0
+
+add-used : tie.Need-add-used Inv-loop μ-loop
+add-used c =
+    let filled = c .before in
+    let keep = filled .before .before .before .before in
+    let key = keep .before .before .before .before .before .before .before in
+    let field = key .before .before in
+    let within = named field (key .n .given .1) .3 in
+    omega (arith, rw (filled .filled .given .1) at (room keep), size keep, field .before .before .loop .inv .2, within)
+
+add-at-2 : tie.Need-add-at-2 Inv-loop μ-loop
+add-at-2 c =
+    let key = c .before .before .before .before .before .before .before .before .before .before .before .before in
+    omega (arith, named (key .before .before) (key .n .given .1) .3)
+
+loop-less-2 : tie.Need-loop-less-2 Inv-loop μ-loop
+loop-less-2 c =
+    let key = c .before .before .before .before .before .before .before .before .before .before .before .before in
+    let k = named (key .before .before) (key .n .given .1) in omega (arith, k .1, k .2, k .3)
+
+loop-again-2 : tie.Need-loop-again-2 Inv-loop μ-loop
+loop-again-2 c =
+    let filled = c .before in
+    let keep = filled .before .before .before .before in
+    let key = keep .before .before .before .before .before .before .before in
+    let field = key .before .before in
+    let l = field .before .before .loop in
+    let k = named field (key .n .given .1) in
+    let on = rw (← told keep, filled .filled .given .1) at (k .4 (so-far field)) in (
+      omega (arith, k .3),
       search needs,
-      omega (arith, rw (← field .field .ensures, e) at (field-within (l .at) (part find) (readerOf (l .state) (l .scratch)))),
-      sym (turn field _ more ∙ rw (e, next)),
+      omega (arith, rw (filled .filled .given .1) at (room keep), size keep, l .inv .2),
+      sym on ∙ l .inv .3,
     )
+
+enum-known-r : tie.Need-enum-known-r Inv-loop μ-loop
+enum-known-r c = search needs
+
+same-length-3 : tie.Need-same-length-3 Inv-loop μ-loop
+same-length-3 c = search needs
+
+returns-3 : tie.Need-returns-3 Inv-loop μ-loop
+returns-3 c =
+    let refused = c .before in
+    let keep = refused .before .before .before .before in
+    let key = keep .before .before .before .before .before .before .before in
+    let field = key .before .before in
+    rw (← field .before .before .loop .inv .3, named field (key .n .given .1) .4 (so-far field), ← told keep, refused .r .given .1)
+
+complete-requires : tie.Need-complete-requires Inv-loop μ-loop
+complete-requires c κs = search needs
+
+same-length-4 : tie.Need-same-length-4 Inv-loop μ-loop
+same-length-4 c = search needs
+
+returns-4 : tie.Need-returns-4 Inv-loop μ-loop
+unfolding left
+returns-4 c =
+    let l = c .before .before .loop in
+    let a = c .before .before .before .before .before .args in
+    rw (← l .inv .3, lt-leb (l .at) (length (a .text .now)) (omega arith), c .complete .ensures)
 
 pub read-fields-spec : {M : Type 1} → statement M
 read-fields-spec =
@@ -126,17 +226,35 @@ read-fields-spec =
     (tie.spec
     Inv-loop
     μ-loop
-    fresh-requires
     loop-holds
-    find-requires
-    field-requires
-    enum-known-fault
+    next-field-requires
+    enum-told
     same-length
     returns
-    enum-told
-    complete-requires
-    same-length-2
-    returns-2
+    enum-known-end
     add-at
     loop-less
-    loop-again)
+    loop-again
+    enum-known-n
+    mul-slot
+    array-copy-out-slot
+    same-length-2
+    returns-2
+    kind-of-requires
+    sub-keep
+    part-keep-start
+    part-keep-end
+    keep-requires
+    enum-known-filled
+    mul-slots
+    array-set-from-slots
+    add-used
+    add-at-2
+    loop-less-2
+    loop-again-2
+    enum-known-r
+    same-length-3
+    returns-3
+    complete-requires
+    same-length-4
+    returns-4)

@@ -1,0 +1,31 @@
+-- The bytes before one that does not pass a test, as a loop meets them.
+use Prim.Native.Nat.{ℕ, suc, _+_, _≤_, _<_}
+use mathlib.Core.Path.{_≡_}
+use mathlib.Core.Bool.{Bool, true, false, cond}
+use mathlib.Core.List.{List, [], _∷_}
+use native.Mathlib.Omega.{arith}
+use lib.ListN.{length, getD, drop}
+use Rattle.octets.proofs.Lists.{drop-at, drop-end}
+use Rattle.command.specs.Classes.{run}
+
+module _ (f : ℕ → Bool) (s : List ℕ) (i : ℕ) where
+  pub run-on : i < length s → f (getD s i 0) ≡ true → run f (drop i s) ≡ suc (run f (drop (i + 1) s))
+  unfolding run
+  run-on h e = rw (drop-at s i h, e)
+
+  pub run-off : i < length s → f (getD s i 0) ≡ false → run f (drop i s) ≡ 0
+  unfolding run
+  run-off h e = rw (drop-at s i h, e)
+
+  pub run-end : length s ≤ i → run f (drop i s) ≡ 0
+  unfolding run
+  run-end h = rw (drop-end s i h)
+
+pub run-le : (f : ℕ → Bool) (s : List ℕ) → run f s ≤ length s
+unfolding run
+run-le f [] = omega arith
+run-le f (x ∷ s) = go (f x) (run-le f s)
+  where
+    go : (b : Bool) → run f s ≤ length s → cond b (suc (run f s)) 0 ≤ suc (length s)
+    go true h = omega arith
+    go false h = omega arith

@@ -1,0 +1,120 @@
+use Prim.Native.Nat.{ℕ, _≤_, _<_}
+use mathlib.Core.List.{List}
+use native.Mathlib.Omega.{arith}
+use lib.ListN.{length, drop, length-drop}
+use borrow.Author.Needs.{needs}
+use Rattle.command.specs.Letters.{keyByte}
+use Rattle.command.proofs.Runs.{run-le}
+use Rattle.command_reader.proofs.Turns.{unsigned-left, empty-left, end-within, unknown-left, known-left}
+use Rattle.command_reader.proofs.fields.next_field.Statement.{statement}
+use Rattle.command_reader.proofs.fields.next_field.Tie as tie
+
+-- the text, the place in it, and where the bytes of a key end
+abbrev text : tie.After-pass → List ℕ
+text p = p .before .before .args .text .now
+
+abbrev at : tie.After-pass → ℕ
+at p = p .before .before .args .at
+
+within : (p : tie.After-pass) → p .pass .result ≤ length (text p)
+within p = omega (arith, p .pass .ensures, run-le keyByte (drop (at p) (text p)), length-drop (at p) (text p))
+
+-- a key with its `=`
+signed : (c : tie.Else3) → let p = c .before .before .before .before in (at p < p .pass .result) × (p .pass .result < length (text p))
+signed c = let p = c .before .before .before .before in (omega (arith, p .pass .ensures), omega (arith, within p))
+
+pass-requires : tie.Need-pass-requires
+pass-requires c κs = search needs
+
+returns : tie.Need-returns
+returns c =
+    let p = c .before in
+    unsigned-left (text p) (at p) (p .pass .result) (omega arith) (p .pass .ensures) (λ i e. omega arith)
+
+shared-slice-read-if2 : tie.Need-shared-slice-read-if2
+shared-slice-read-if2 c = omega (arith, within (c .before .before))
+
+returns-2 : tie.Need-returns-2
+returns-2 c =
+    let p = c .before .before .before in
+    unsigned-left (text p) (at p) (p .pass .result) (omega arith) (p .pass .ensures) (λ i e. c .if2 .taken e)
+
+returns-3 : tie.Need-returns-3
+returns-3 c =
+    let p = c .before .before .before .before in
+    let i = within p in
+    empty-left (text p) (at p) (p .pass .result) (omega arith) (p .pass .ensures) (omega arith) (c .before .if2 .left) (c .if3 .taken)
+
+add-from : tie.Need-add-from
+add-from c = omega (arith, within (c .before .before .before .before))
+
+find-requires : tie.Need-find-requires
+find-requires c κs = search needs
+
+slice-aggregate-place-in : tie.Need-slice-aggregate-place-in
+slice-aggregate-place-in c = search needs
+
+sub-place-in : tie.Need-sub-place-in
+sub-place-in c = search needs
+
+part-place-in-start : tie.Need-part-place-in-start
+part-place-in-start c = search needs
+
+part-place-in-end : tie.Need-part-place-in-end
+part-place-in-end c = within (c .before .before .before .before .before .before)
+
+place-in-requires : tie.Need-place-in-requires
+place-in-requires c κs = search needs
+
+returns-4 : tie.Need-returns-4
+returns-4 c =
+    let place = c .before in
+    let find = place .before .before .before in
+    let some = find .before in
+    let p = some .before .before .before .before in
+    let i = signed some in
+    let e = some .before .if2 .left in
+    let h = p .before .before .pre .0 in
+    let inside = end-within (text p) (at p) (p .pass .result) h (p .pass .ensures) (i .1) e (i .0) in
+    let unknown = unknown-left (text p) (at p) (p .pass .result) h (p .pass .ensures) (i .1) e (i .0) in (
+      omega (arith, i .0, find .find .ensures),
+      inside (find .find .result) (find .find .ensures),
+      unknown (find .find .result) (find .find .ensures) (place .place-in .result) (place .place-in .ensures) (c .if4 .taken),
+    )
+
+returns-5 : tie.Need-returns-5
+returns-5 c =
+    let place = c .before in
+    let find = place .before .before .before in
+    let some = find .before in
+    let p = some .before .before .before .before in
+    let i = signed some in
+    let e = some .before .if2 .left in
+    let h = p .before .before .pre .0 in
+    let inside = end-within (text p) (at p) (p .pass .result) h (p .pass .ensures) (i .1) e (i .0) in
+    let known = known-left (text p) (at p) (p .pass .result) h (p .pass .ensures) (i .1) e (i .0) in (
+      c .if4 .left,
+      omega (arith, i .0),
+      omega (arith, find .find .ensures),
+      inside (find .find .result) (find .find .ensures),
+      known (find .find .result) (find .find .ensures) (place .place-in .result) (place .place-in .ensures) (c .if4 .left),
+    )
+
+pub next-field-spec : {M : Type 1} → statement M
+next-field-spec =
+    tie.close
+    (tie.spec
+    pass-requires
+    returns
+    shared-slice-read-if2
+    returns-2
+    returns-3
+    add-from
+    find-requires
+    slice-aggregate-place-in
+    sub-place-in
+    part-place-in-start
+    part-place-in-end
+    place-in-requires
+    returns-4
+    returns-5)
