@@ -2,6 +2,7 @@ pub mod Turns
 pub mod Tabled
 pub mod Words
 pub mod Letters
+pub mod Ranges
 pub mod Groups
 pub mod Inner
 pub mod Lengths

@@ -12,6 +12,7 @@ ghost use Rattle.base64.specs.Values.{values};
 use crate::Fault;
 use crate::Verdict;
 use crate::alphabet::value;
+use octets::size::less;
 
 const PAD: u8 = 61;
 
@@ -46,7 +47,7 @@ fn pass_letters(table: &[u8; 256], text: &[u8]) -> usize
     ensures { λ r. ⌜ (r ≤ length (now (text .entry)))
         × (scan (valueBefore (now (text .entry)) r) (drop r (now (text .entry))) ≡ scan 0 (now (text .entry))) ⌝ }
 {
-    let mut i = 0;
+    let mut i = pass_blocks(text);
     while text.len() - i >= 4 {
         if !four(table, text, i) {
             break;
@@ -54,6 +55,39 @@ fn pass_letters(table: &[u8; 256], text: &[u8]) -> usize
         i += 4;
     }
     i
+}
+
+// Passes blocks of letters, all of them or none: such a place again. The last group, which may have
+// padding, is in no block.
+fn pass_blocks(text: &[u8]) -> usize
+    ensures { λ r. ⌜ (r ≤ length (now (text .entry)))
+        × (scan (valueBefore (now (text .entry)) r) (drop r (now (text .entry))) ≡ scan 0 (now (text .entry))) ⌝ }
+{
+    let n = less(text.len(), 4) / 32 * 32;
+    if all_letters(&text[..n]) {
+        return n;
+    }
+    0
+}
+
+// Whether each byte of s is a letter. No early way out, so that many are tested at once.
+fn all_letters(s: &[u8]) -> bool
+    ensures { λ r. ⌜ r ≡ every isLetter (now (s .entry)) ⌝ }
+{
+    let mut all = true;
+    let mut i = 0;
+    while i < s.len() {
+        all = all & is_letter(s[i]);
+        i += 1;
+    }
+    all
+}
+
+// Whether c is a letter: `/` stands before 0. A choice of ranges compiles to no branch.
+fn is_letter(c: u8) -> bool
+    ensures { λ r. ⌜ r ≡ isLetter c ⌝ }
+{
+    (c >= b'a') & (c <= b'z') | (c >= b'A') & (c <= b'Z') | (c >= b'/') & (c <= b'9') | (c == b'+')
 }
 
 // Whether four letters stand at place i. A byte that is none has the value 64, a bit that no letter's has,

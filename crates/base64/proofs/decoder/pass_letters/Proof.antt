@@ -1,5 +1,5 @@
 use Prim.Native.Nat.{_-_, _≤_}
-use mathlib.Core.Path.{_≡_, refl, sym, _∙_}
+use mathlib.Core.Path.{_≡_, sym, _∙_}
 use native.Mathlib.Omega.{arith}
 use lib.ListN.{length, drop}
 use borrow.Author.Needs.{needs}
@@ -16,8 +16,11 @@ Inv-loop table text i₀ i = (i ≤ length text) × (scan (valueBefore text i) (
 abbrev μ-loop : tie.MeasureT-loop
 μ-loop table text i₀ i = length text - i
 
+pass-blocks-requires : tie.Need-pass-blocks-requires Inv-loop μ-loop
+pass-blocks-requires c κs = search needs
+
 loop-holds : tie.Need-loop-holds Inv-loop μ-loop
-loop-holds c = (omega arith, refl)
+loop-holds c = c .pass-blocks .ensures
 
 sub-loop : tie.Need-sub-loop Inv-loop μ-loop
 sub-loop c = search needs
@@ -36,7 +39,7 @@ loop-again c =
     let told = c .before in
     let turn = told .before .before in
     let l = turn .loop in
-    let t = turn .before .before .args .text .now in (
+    let t = turn .before .before .before .args .text .now in (
       omega arith,
       sym (letters-past 4 t (l .i) (omega arith) (sym (told .four .ensures) ∙ not-false _ (c .if1 .left))) ∙ l .inv .1,
     )
@@ -53,6 +56,7 @@ pass-letters-spec =
     (tie.spec
     Inv-loop
     μ-loop
+    pass-blocks-requires
     loop-holds
     sub-loop
     four-requires
