@@ -1,6 +1,7 @@
 pub mod Every
 mod Ranges
 pub mod Runs
+mod Names
 pub mod Calm
 pub mod Table
 pub mod WrittenValues

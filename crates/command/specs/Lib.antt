@@ -1,5 +1,6 @@
 pub mod Refusals
 pub mod Keys
+pub mod Rows
 pub mod Letters
 pub mod Classes
 pub mod Values

@@ -3,6 +3,7 @@
 // Here stand the types, the definitions of reading and writing (specs/) and the theorems about them
 // (proofs/), and the one test of bytes that reading and writing share (`letters`). The functions that
 // read and write are in `command_reader` and `command_writer`.
+pub mod keys;
 pub mod letters;
 
 ghost use mathlib.Core.Path.{_≡_};

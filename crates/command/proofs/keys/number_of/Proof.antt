@@ -1,0 +1,71 @@
+use Prim.Native.Nat.{ℕ, _+_, _-_, _≤_}
+use mathlib.Core.Path.{_≡_, refl, sym, _∙_, ap}
+use native.Mathlib.Omega.{arith}
+use lib.ListN.{length, drop}
+use borrow.Author.Needs.{needs}
+use Rattle.octets.specs.Slices.{equals}
+use Rattle.command.specs.Keys.{keys, keyAt, names, placeIn, numberOf}
+use Rattle.command.proofs.Names.{row-name, row-short, named-here, named-later}
+use Rattle.command.proofs.keys.number_of.Statement.{statement}
+use Rattle.command.proofs.keys.number_of.Tie as tie
+
+abbrev Inv-loop : tie.InvT-loop
+Inv-loop name k₀ k = (k ≤ 15) × (k + placeIn (names (drop k keys)) name ≡ numberOf keys name)
+
+abbrev μ-loop : tie.MeasureT-loop
+μ-loop name k₀ k = 15 - k
+
+-- what a turn tells: whether the name is that of key k
+told : (c : tie.After-is-named Inv-loop μ-loop) → let l = c .before .before .before in
+    c .is-named .result ≡ equals (l .before .before .args .name .now) (keyAt keys (l .loop .k) .name)
+told c = let l = c .before .before .before in c .is-named .ensures ∙ rw (c .before .row-at .ensures, row-name (l .loop .k))
+
+loop-holds : tie.Need-loop-holds Inv-loop μ-loop
+loop-holds c = (omega arith, omega arith)
+
+row-at-requires : tie.Need-row-at-requires Inv-loop μ-loop
+row-at-requires c κs = search needs
+
+is-named-requires : tie.Need-is-named-requires Inv-loop μ-loop
+is-named-requires c κs =
+    let k = c .before .before .loop .k in rw (c .row-at .ensures) (row-short k, ap length (row-name k))
+
+returns : tie.Need-returns Inv-loop μ-loop
+returns c =
+    let l = c .before .before .before .before in
+    let here = named-here (l .before .before .args .name .now) (l .loop .k) (omega arith) (sym (told (c .before)) ∙ c .if1 .taken) in
+    omega (arith, l .loop .inv .1, here)
+
+add-k : tie.Need-add-k Inv-loop μ-loop
+add-k c = search needs
+
+loop-less : tie.Need-loop-less Inv-loop μ-loop
+loop-less c = search needs
+
+loop-again : tie.Need-loop-again Inv-loop μ-loop
+loop-again c =
+    let l = c .before .before .before .before in
+    let later = named-later (l .before .before .args .name .now) (l .loop .k) (omega arith) (sym (told (c .before)) ∙ c .if1 .left) in
+    (omega arith, omega (arith, l .loop .inv .1, later))
+
+returns-2 : tie.Need-returns-2 Inv-loop μ-loop
+unfolding placeIn
+returns-2 c =
+    let l = c .before in
+    let k : l .loop .k ≡ 15 = omega (arith, l .loop .inv .0) in
+    omega (arith, rw k at (l .loop .inv .1))
+
+pub number-of-spec : {M : Type 1} → statement M
+number-of-spec =
+    tie.close
+    (tie.spec
+    Inv-loop
+    μ-loop
+    loop-holds
+    row-at-requires
+    is-named-requires
+    returns
+    add-k
+    loop-less
+    loop-again
+    returns-2)

@@ -1,0 +1,167 @@
+// The table of keys, in writing order: each row is a key's name and the kind of its values.
+//
+// It is the table of specs/Keys. The reader finds a key's number here, and both look up its row.
+ghost use mathlib.Core.Path.{_≡_};
+ghost use Prim.Native.Nat.{_≤_};
+ghost use lib.ListN.{length, take};
+ghost use Rattle.octets.specs.Slices.{equals};
+ghost use Rattle.command.specs.Keys as Keys;
+ghost use Rattle.command.specs.Rows.{rowOf};
+use crate::Refusal;
+
+// The kinds of values. Of words, the refusal of an unknown one, the code of the first and how many
+// there are; of a safe string, whether it is at most 32 bytes.
+pub enum Kind {
+    Integer,
+    Base64,
+    Word(Refusal, u64, u64),
+    Safe(bool),
+}
+
+// A key's name, its length, and its kind. Blanks follow a name that is shorter.
+pub struct Row {
+    pub name: [u8; 3],
+    pub len: usize,
+    pub kind: Kind,
+}
+
+// How many keys there are.
+pub const COUNT: usize = 15;
+
+const ROWS: [Row; COUNT] = [
+    Row {
+        name: *b"ac ",
+        len: 2,
+        kind: Kind::Word(Refusal::UnknownWord, 1, 8),
+    },
+    Row {
+        name: *b"zip",
+        len: 3,
+        kind: Kind::Word(Refusal::UnknownWord, 0, 1),
+    },
+    Row {
+        name: *b"ft ",
+        len: 2,
+        kind: Kind::Word(Refusal::UnknownWord, 0, 4),
+    },
+    Row {
+        name: *b"tt ",
+        len: 2,
+        kind: Kind::Word(Refusal::UnknownWord, 0, 2),
+    },
+    Row {
+        name: *b"id ",
+        len: 2,
+        kind: Kind::Safe(true),
+    },
+    Row {
+        name: *b"fid",
+        len: 3,
+        kind: Kind::Safe(true),
+    },
+    Row {
+        name: *b"pw ",
+        len: 2,
+        kind: Kind::Safe(false),
+    },
+    Row {
+        name: *b"q  ",
+        len: 1,
+        kind: Kind::Word(Refusal::OutOfRange, 0, 3),
+    },
+    Row {
+        name: *b"mod",
+        len: 3,
+        kind: Kind::Integer,
+    },
+    Row {
+        name: *b"prm",
+        len: 3,
+        kind: Kind::Integer,
+    },
+    Row {
+        name: *b"sz ",
+        len: 2,
+        kind: Kind::Integer,
+    },
+    Row {
+        name: *b"n  ",
+        len: 1,
+        kind: Kind::Base64,
+    },
+    Row {
+        name: *b"st ",
+        len: 2,
+        kind: Kind::Base64,
+    },
+    Row {
+        name: *b"pr ",
+        len: 2,
+        kind: Kind::Safe(true),
+    },
+    Row {
+        name: *b"d  ",
+        len: 1,
+        kind: Kind::Base64,
+    },
+];
+
+// The words of each key, parted by blanks; of most there are none.
+pub const WORDS: [u8; 117] =
+    *b"send receive file data end_data finish cancel status;none;regular directory symlink link;simple rsync;;;;0 1 2;;;;;;;";
+
+// The row of the key with number k; of no key, one without a name.
+pub fn row_at(k: usize) -> Row
+    ensures { λ r. ⌜ r ≡ rowOf (Keys.keyAt Keys.keys k) ⌝ }
+{
+    if k >= COUNT {
+        return Row {
+            name: *b"   ",
+            len: 0,
+            kind: Kind::Integer,
+        };
+    }
+    ROWS[k]
+}
+
+// The number of the key with a name, and the number of keys for another name.
+pub fn number_of(name: &[u8]) -> usize
+    ensures { λ r. ⌜ r ≡ Keys.numberOf Keys.keys (now (name .entry)) ⌝ }
+{
+    let mut k = 0;
+    while k < COUNT {
+        if is_named(row_at(k), name) {
+            return k;
+        }
+        k += 1;
+    }
+    k
+}
+
+// Whether a row has a name: by its length, and then by its bytes.
+fn is_named(row: Row, name: &[u8]) -> bool
+    requires { ⌜ (row .len ≤ 3) × (length (take (row .len) (row .name)) ≡ row .len) ⌝ }
+    ensures { λ r. ⌜ r ≡ equals (now (name .entry)) (take (row .len) (row .name)) ⌝ }
+{
+    let own = row.name;
+    let len = row.len;
+    if name.len() != len {
+        return false;
+    }
+    if len == 0 {
+        return true;
+    }
+    if name[0] != own[0] {
+        return false;
+    }
+    if len == 1 {
+        return true;
+    }
+    if name[1] != own[1] {
+        return false;
+    }
+    if len == 2 {
+        return true;
+    }
+    name[2] == own[2]
+}
