@@ -1,7 +1,9 @@
 pub mod Every
 mod Ranges
 pub mod Runs
-mod Names
+pub mod Names
+pub mod WordPlaces
+pub mod Parts
 pub mod Calm
 pub mod Table
 pub mod WrittenValues

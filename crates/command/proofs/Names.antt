@@ -1,7 +1,7 @@
 -- The rows of the code's table: a row has the name of its key, and a name is compared with it byte by byte.
 use Prim.Native.Nat.{ℕ, zero, suc, _+_, _≤_, _<_}
 use mathlib.Core.Path.{_≡_, refl, sym, _∙_, ap}
-use mathlib.Core.Bool.{Bool, true, false, cond}
+use mathlib.Core.Bool.{Bool, true, false, cond, _&&_}
 use mathlib.Core.List.{List, [], _∷_, map}
 use native.Mathlib.Omega.{arith}
 use native.Mathlib.Nat.{le-of-suc-le-suc}
@@ -11,17 +11,41 @@ use lib.Seq.{drop-cons, getD-take}
 use lib.Dec.{leb, eqb}
 use borrow.Author.Tests.{leb-true}
 use Rattle.octets.specs.Slices.{equals, startsWith}
-use Rattle.octets.specs.Split.{split, onto}
+use Rattle.octets.specs.Split.{split, onto, join}
+use Rattle.octets.proofs.Below.{both-test}
 use Rattle.octets.proofs.Compare.{equals-starts, starts-at, starts-end}
-use Rattle.command.specs.Keys.{Key, key, keys, keyAt, names, placeIn, numberOf}
+use Rattle.command.specs.Keys.{Alias, Key, key, keys, keyAt, kindAt, names, placeIn, numberOf}
 use Rattle.command.specs.Keys as Keys
-use Rattle.command.specs.Rows.{rowOf}
+use Rattle.command.specs.Rows.{kindOf, rowOf, wordsOf, wordText, aliasesOf}
+use Rattle.command.specs.declared.keys.Kind.{Kind}
+use Rattle.command.specs.declared.keys.Kind.the-variants as Kind
 use Rattle.command.specs.declared.keys.Row.{Row}
 
 abbrev nokey : Key
 nokey = key "" Keys.Kind.integer
 
+abbrev firstOf : Keys.Kind → ℕ
+firstOf (Keys.Kind.word unknown first ws aliases) = first
+firstOf (Keys.Kind.safe short) = 0
+firstOf Keys.Kind.integer = 0
+firstOf Keys.Kind.base64 = 0
+
+abbrev countedIn : Key → Bool
+countedIn x = leb (firstOf (x .kind)) 1 && leb (length (wordsOf (x .kind))) 8
+
 -- ---- laws of the rows, each computed over all of them
+words-parted : map (split 32) (map wordText keys) ≡ map (λ (x : Key). wordsOf (x .kind)) keys
+unfolding split onto join
+words-parted = refl
+
+words-none : split 32 [] ≡ [] ∷ []
+unfolding split
+words-none = refl
+
+words-counted : map countedIn keys ≡ map (λ (x : Key). true) keys
+unfolding split onto
+words-counted = refl
+
 module _ (k : ℕ) where
   pub row-name : take (rowOf (keyAt keys k) .len) (rowOf (keyAt keys k) .name) ≡ keyAt keys k .name
   row-name =
@@ -31,6 +55,64 @@ module _ (k : ℕ) where
   row-short =
       leb-true (rowOf (keyAt keys k) .len) 3
       (sym (List·getD-map (λ (x : Key). leb (rowOf x .len) 3) keys k nokey) ∙ List·getD-map (λ (x : Key). true) keys k nokey)
+
+  -- the words in the code's text are those of the key
+  pub row-words : (t : List ℕ) → t ≡ getD (map wordText keys) k [] → split 32 t ≡ wordsOf (kindAt keys k)
+  row-words t e =
+      ap (split 32) e
+      ∙ sym (List·getD-map (split 32) (map wordText keys) k [])
+      ∙ ap (λ (l : List (List (List ℕ))). getD l k (split 32 [])) words-parted
+      ∙ ap (λ (d : List (List ℕ)). getD (map (λ (x : Key). wordsOf (x .kind)) keys) k d) words-none
+      ∙ List·getD-map (λ (x : Key). wordsOf (x .kind)) keys k nokey
+
+  -- words count from 0 or from 1, and only the first key's have an alias
+  row-counted : (leb (firstOf (kindAt keys k)) 1 && leb (length (wordsOf (kindAt keys k))) 8) ≡ true
+  row-counted =
+      sym (List·getD-map countedIn keys k nokey)
+      ∙ ap (λ (l : List Bool). getD l k true) words-counted
+      ∙ List·getD-map (λ (x : Key). true) keys k nokey
+
+-- ---- the kind of a key, from that of its row
+abbrev pub kindFrom : Kind → List (List ℕ) → List Alias → Keys.Kind
+kindFrom (Kind.Word unknown first count) ws aliases = Keys.Kind.word unknown first ws aliases
+kindFrom (Kind.Safe short) ws aliases = Keys.Kind.safe short
+kindFrom Kind.Integer ws aliases = Keys.Kind.integer
+kindFrom Kind.Base64 ws aliases = Keys.Kind.base64
+
+kind-from : (t : Keys.Kind) → t ≡ kindFrom (kindOf t) (wordsOf t) (aliasesOf t)
+kind-from (Keys.Kind.word unknown first ws aliases) = refl
+kind-from (Keys.Kind.safe short) = refl
+kind-from Keys.Kind.integer = refl
+kind-from Keys.Kind.base64 = refl
+
+-- what the code asks of words
+abbrev pub Counted : Kind → List (List ℕ) → Type 0
+Counted (Kind.Word unknown first count) ws = (first ≤ 1) × (length ws ≡ count) × (count ≤ 8)
+Counted (Kind.Safe short) ws = Unit {0}
+Counted Kind.Integer ws = Unit {0}
+Counted Kind.Base64 ws = Unit {0}
+
+counted : (t : Keys.Kind) → (leb (firstOf t) 1 && leb (length (wordsOf t)) 8) ≡ true → Counted (kindOf t) (wordsOf t)
+counted (Keys.Kind.word unknown first ws aliases) h =
+    let b = both-test _ _ h in (leb-true first 1 (b .0), refl, leb-true (length ws) 8 (b .1))
+counted (Keys.Kind.safe short) h = tt
+counted Keys.Kind.integer h = tt
+counted Keys.Kind.base64 h = tt
+
+-- a row's kind is as good as that of the key
+pub record Kinded (k : ℕ) (d : Kind) : Type 0 where
+  pub kinded : kindAt keys k ≡ kindFrom d (wordsOf (kindAt keys k)) (aliasesOf (kindAt keys k))
+  pub counts : Counted d (wordsOf (kindAt keys k))
+
+pub row-kind : (k : ℕ) {d : Kind} → rowOf (keyAt keys k) .kind ≡ d → Kinded k d
+row-kind k e = rw (← e) (record { kinded = kind-from (kindAt keys k); counts = counted (kindAt keys k) (row-counted k) })
+
+-- only the first key's words have an alias
+pub no-alias : (k : ℕ) → 0 < k → aliasesOf (kindAt keys k) ≡ []
+no-alias zero h = absurd (omega arith)
+no-alias (suc k) h =
+    sym (List·getD-map (λ (x : Key). aliasesOf (x .kind)) (drop 1 keys) k nokey)
+    ∙ List·getD-map {B = List Alias} (λ (x : Key). []) (drop 1 keys) k nokey
 
 -- ---- a name looked for from key k on
 module _ (s : List ℕ) (k : ℕ) (h : k < 15) where

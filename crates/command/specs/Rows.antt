@@ -3,7 +3,8 @@ use Prim.Native.Nat.{ℕ}
 use mathlib.Core.List.{List, [], _∷_, _++_}
 use lib.ListN.{length, take}
 use Rattle.octets.specs.Ascii.{ascii}
-use Rattle.command.specs.Keys.{Key}
+use Rattle.octets.specs.Split.{join}
+use Rattle.command.specs.Keys.{Alias, Key}
 use Rattle.command.specs.Keys as Keys
 use Rattle.command.specs.declared.keys.Kind.{Kind}
 use Rattle.command.specs.declared.keys.Kind.the-variants as Kind
@@ -19,9 +20,18 @@ kindOf Keys.Kind.base64 = Kind.Base64
 abbrev pub rowOf : Key → Row
 rowOf k = record { name = take 3 (k .name ++ ascii "   "); len = length (k .name); kind = kindOf (k .kind) }
 
--- the words of a kind
+-- the words of a kind, as the code has them in a text, parted by blanks; an empty text has one part, which is empty
 abbrev pub wordsOf : Keys.Kind → List (List ℕ)
 wordsOf (Keys.Kind.word unknown first ws aliases) = ws
-wordsOf (Keys.Kind.safe short) = []
-wordsOf Keys.Kind.integer = []
-wordsOf Keys.Kind.base64 = []
+wordsOf (Keys.Kind.safe short) = [] ∷ []
+wordsOf Keys.Kind.integer = [] ∷ []
+wordsOf Keys.Kind.base64 = [] ∷ []
+
+abbrev pub wordText : Key → List ℕ
+wordText k = join 32 (wordsOf (k .kind))
+
+abbrev pub aliasesOf : Keys.Kind → List Alias
+aliasesOf (Keys.Kind.word unknown first ws aliases) = aliases
+aliasesOf (Keys.Kind.safe short) = []
+aliasesOf Keys.Kind.integer = []
+aliasesOf Keys.Kind.base64 = []

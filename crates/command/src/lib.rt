@@ -1,10 +1,12 @@
 // The command of a text, as values: what reading a command text gives, and what writing one takes.
 //
 // Here stand the types, the definitions of reading and writing (specs/) and the theorems about them
-// (proofs/), and the one test of bytes that reading and writing share (`letters`). The functions that
-// read and write are in `command_reader` and `command_writer`.
+// (proofs/), and what reading and writing share: the table of keys (`keys`), the test of bytes (`letters`)
+// and the words of a list (`words`). The functions that read and write are in `command_reader` and
+// `command_writer`.
 pub mod keys;
 pub mod letters;
+pub mod words;
 
 ghost use mathlib.Core.Path.{_≡_};
 ghost use Rattle.command.specs.Refusals.{refusalNumber};

@@ -1,12 +1,12 @@
 -- What the code answers for a value is what is kept of it: an action, which may be an alias, and what `decode` answered.
-use Prim.Native.Nat.{ℕ, _+_, _*_, _≤_}
+use Prim.Native.Nat.{ℕ, _+_, _*_, _≤_, _<_}
 use mathlib.Core.Path.{_≡_, refl, _∙_, ap}
 use mathlib.Core.Bool.{Bool, true, false, cond}
 use mathlib.Core.List.{List, [], _∷_}
 use native.Mathlib.Omega.{arith}
 use lib.ListN.{length}
 use lib.Dec.{ltb}
-use borrow.Author.Tests.{le-leb}
+use borrow.Author.Tests.{le-leb, lt-ltb, le-ltb}
 use Rattle.octets.specs.Slices.{equals}
 use Rattle.octets.specs.Outcome.{Outcome}
 use Rattle.octets.specs.Split.{onto, split}
@@ -17,37 +17,41 @@ use Rattle.base64.specs.declared.Verdict.the-variants as Verdict
 use Rattle.base64.specs.declared.Decoded.{Decoded}
 use Rattle.base64.specs.declared.Decoded.the-variants as Decoded
 use Rattle.base64.proofs.Lengths.{length-valid}
-use Rattle.command.specs.Keys.{Alias, Kind, finished, placeIn}
+use Rattle.command.specs.Keys.{Kind, finished, keys, kindAt, placeIn}
+use Rattle.command.specs.Rows.{wordsOf}
 use Rattle.command.specs.Values.{Value, Got, count, refuses, aliasRead, wordRead, base64Refusal, base64Read, valueRead}
 use Rattle.command.specs.Slots.{placed}
 use Rattle.command.specs.Read.{Reader, keptBy}
 use Rattle.command.specs.declared.Slot.{Slot}
 use Rattle.command.specs.declared.Refusal.{Refusal}
 use Rattle.command.specs.declared.Refusal.the-variants as Refusal
-use Rattle.command_reader.specs.Keeping.{kindOf, keptIn, Keeps, Plain}
-use Rattle.command_reader.specs.declared.values.Kind.the-variants as Kinds
+use Rattle.command.proofs.Names.{no-alias}
+use Rattle.command_reader.specs.Keeping.{wordAt, keptIn, Keeps}
 use Rattle.command_reader.specs.declared.values.Kept.{Kept}
 use Rattle.command_reader.specs.declared.values.Kept.the-variants as Kept
 
--- the alias is read as its code
-pub alias-read : (v : List ℕ) → equals v (finished .text) ≡ true → valueRead (kindOf Kinds.Action) v ≡ Got.got (Value.number (count 6))
-unfolding valueRead wordRead aliasRead placeIn split onto equals
-alias-read v e = ap (valueRead (kindOf Kinds.Action)) (equals-sound v (finished .text) e)
+-- ---- a word of key k
+module _ (k : ℕ) (unknown : Refusal) (first : ℕ) (v : List ℕ) where
+  abbrev ws : List (List ℕ)
+  ws = wordsOf (kindAt keys k)
 
--- a word that is not the alias is kept as without it
-pub no-alias : (unknown : Refusal) (first : ℕ) (ws : List (List ℕ)) (a : Alias) (v : List ℕ) (r : Kept) (at : ℕ)
-    → equals v (a .text) ≡ false → Plain (Kind.word unknown first ws []) at v r → Plain (Kind.word unknown first ws (a ∷ [])) at v r
-unfolding valueRead wordRead aliasRead
-no-alias unknown first ws a v r at e p scratch used n slots =
-    p scratch used n slots ∙ rw e (go (ltb (placeIn ws v) (length ws)))
-  where
-    s : Reader
-    s = record { slots = slots; scratch = scratch; used = used }
+  pub word-known : (n : ℕ) → n ≡ placeIn ws v → n < length ws → valueRead (wordAt k unknown first) v ≡ Got.got (Value.number (count (first + n)))
+  unfolding valueRead wordRead
+  word-known n e h = rw (← e, lt-ltb n (length ws) h)
 
-    go : (t : Bool) → let g = cond t (Got.got (Value.number (count (first + placeIn ws v)))) (refuses unknown) in
-        keptBy (Kind.word unknown first ws []) n at s g ≡ keptBy (Kind.word unknown first ws (a ∷ [])) n at s g
-    go true = refl
-    go false = refl
+  -- none of the words; only the first key has an alias
+  module _ (h : length ws ≤ placeIn ws v) where
+    pub word-alias : k ≡ 0 → equals v (finished .text) ≡ true → valueRead (wordAt k unknown first) v ≡ Got.got (Value.number (count 6))
+    unfolding valueRead wordRead aliasRead
+    word-alias z e = rw (le-ltb (placeIn ws v) (length ws) h) (rw (z, e))
+
+    pub word-other : k ≡ 0 → equals v (finished .text) ≡ false → valueRead (wordAt k unknown first) v ≡ refuses unknown
+    unfolding valueRead wordRead aliasRead
+    word-other z e = rw (le-ltb (placeIn ws v) (length ws) h) (rw (z, e))
+
+    pub word-unknown : 0 < k → valueRead (wordAt k unknown first) v ≡ refuses unknown
+    unfolding valueRead wordRead aliasRead
+    word-unknown z = rw (le-ltb (placeIn ws v) (length ws) h, no-alias k z)
 
 -- what the code makes of an answer of `decode`
 abbrev pub decodedAs : ℕ → Decoded → Kept

@@ -11,13 +11,12 @@ use lib.Seq.{take-nil, take-take, drop-drop, getD-drop}
 use lib.Dec.{ltb, eqb}
 use borrow.Author.Tests.{lt-ltb, le-ltb, le-leb, lt-leb, ne-eqb, eqb-false, eqb-true, ltb-true, ltb-false, not-true}
 use Rattle.bytes.specs.Bytes.{indexOf, indexAfter}
-use Rattle.octets.specs.Ascii.{ascii}
 use Rattle.octets.specs.Members.{every}
-use Rattle.octets.specs.Split.{onto, split}
+use Rattle.octets.specs.Split.{split}
 use Rattle.octets.proofs.Below.{both-test}
 use Rattle.octets.proofs.Cuts.{cut-within, cut-length, cut-last, cut-more}
 use Rattle.command.specs.Classes.{run}
-use Rattle.command.specs.Keys.{keys, placeIn, numberOf}
+use Rattle.command.specs.Keys.{keys, numberOf}
 use Rattle.command.specs.Letters.{keyByte, textByte}
 use Rattle.command.specs.Fields.{Turn, andThen, isKey, known, fieldRead, fieldsRead}
 use Rattle.command.specs.Read.{Reader, kept}
@@ -117,14 +116,6 @@ module _ (t : List ℕ) (at end : ℕ) (h : at ≤ length t) (e : end ≡ at + i
       go (no l) =
           rw (cut-last 59 t at end h e (omega (arith, cut-within 59 t at end h e)), same, lt-leb (end + 1) (length t) (omega arith))
 
--- the code's list of the keys, by which it numbers them
-abbrev listed : List ℕ
-listed = ascii "ac zip ft tt id fid pw q mod prm sz n st pr d"
-
-number-of : (n : ℕ) (w : List ℕ) → n ≡ placeIn (split 32 listed) w → numberOf keys w ≡ n
-unfolding split onto
-number-of n w e = sym e
-
 drop-take : (k n : ℕ) (l : List ℕ) → drop k (take n l) ≡ take (n - k) (drop k l)
 drop-take zero n l = rw (sub-zero n)
 drop-take (suc k) zero l = rw (zero-sub (suc k))
@@ -200,10 +191,10 @@ module _ (t : List ℕ) (at sign : ℕ) (h : at ≤ length t) (q : sign ≡ at +
             value,
           )
 
-      module _ (n : ℕ) (m : n ≡ placeIn (split 32 listed) (take (sign - at) l)) where
+      module _ (n : ℕ) (m : n ≡ numberOf keys (take (sign - at) l)) where
         pub unknown-left : 15 ≤ n → (s : Reader) → left at t s ≡ left (end + 1) t s
-        unknown-left k s = left-next t at end h ends s ∙ rw (here s, number-of n (take (sign - at) l) m, le-ltb n 15 k)
+        unknown-left k s = left-next t at end h ends s ∙ rw (here s, ← m, le-ltb n 15 k)
 
         pub known-left : n < 15 → (s : Reader)
             → left at t s ≡ andThen (kept n (sign + 1) (take (end - (sign + 1)) (drop (sign + 1) t)) s) (λ (s′ : Reader). left (end + 1) t s′)
-        known-left k s = left-next t at end h ends s ∙ rw (here s, number-of n (take (sign - at) l) m, lt-ltb n 15 k)
+        known-left k s = left-next t at end h ends s ∙ rw (here s, ← m, lt-ltb n 15 k)

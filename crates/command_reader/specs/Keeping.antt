@@ -1,36 +1,22 @@
 -- What the code's answers for a value say, in terms of what is kept of it.
 use Prim.Native.Nat.{ℕ, _+_}
 use mathlib.Core.Path.{_≡_}
-use mathlib.Core.List.{List, []}
+use mathlib.Core.List.{List}
 use lib.ListN.{set}
-use Rattle.octets.specs.Split.{split}
 use Rattle.command.specs.Keys as Keys
+use Rattle.command.specs.Rows.{wordsOf, aliasesOf}
 use Rattle.command.specs.Values.{valueRead}
 use Rattle.command.specs.Fields.{Turn}
 use Rattle.command.specs.Refusals.{refusalNumber}
 use Rattle.command.specs.Read.{Reader, keptBy}
 use Rattle.command.specs.declared.Slot.{Slot}
 use Rattle.command.specs.declared.Refusal.{Refusal}
-use Rattle.command_reader.specs.declared.values.Kind.{Kind}
-use Rattle.command_reader.specs.declared.values.Kind.the-variants as Kind
 use Rattle.command_reader.specs.declared.values.Kept.{Kept}
 use Rattle.command_reader.specs.declared.values.Kept.the-variants as Kept
 
--- words without aliases, parted by blanks
-abbrev pub wordOf : Refusal → ℕ → List ℕ → Keys.Kind
-wordOf unknown first ws = Keys.word unknown first (split 32 ws) []
-
--- the kinds that the code tells apart: those of ac, zip, ft, tt, id, pw, q, mod and n
-abbrev pub kindOf : Kind → Keys.Kind
-kindOf Kind.Action = Keys.kindAt Keys.keys 0
-kindOf Kind.Compression = Keys.kindAt Keys.keys 1
-kindOf Kind.FileType = Keys.kindAt Keys.keys 2
-kindOf Kind.Transmission = Keys.kindAt Keys.keys 3
-kindOf Kind.Id = Keys.kindAt Keys.keys 4
-kindOf Kind.Bypass = Keys.kindAt Keys.keys 6
-kindOf Kind.Quiet = Keys.kindAt Keys.keys 7
-kindOf Kind.Integer = Keys.kindAt Keys.keys 8
-kindOf Kind.Base64 = Keys.kindAt Keys.keys 11
+-- words of a key's list, with its aliases
+abbrev pub wordAt : ℕ → Refusal → ℕ → Keys.Kind
+wordAt k unknown first = let t = Keys.kindAt Keys.keys k in Keys.word unknown first (wordsOf t) (aliasesOf t)
 
 -- a reader with a value kept in its slot n, or with its refusal; l is the scratch afterwards
 abbrev pub keptIn : ℕ → Reader → List ℕ → Kept → Turn Reader

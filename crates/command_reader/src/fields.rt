@@ -11,11 +11,12 @@ ghost use Rattle.command_reader.specs.States.{Names};
 use crate::slots::complete;
 use crate::values;
 use crate::values::Kept;
-use crate::words::place_in;
 use command::Place;
 use command::Reading;
 use command::Refusal;
 use command::Slot;
+use command::keys::COUNT;
+use command::keys::number_of;
 use command::letters;
 use command::letters::Class;
 use decimal::Number;
@@ -35,7 +36,7 @@ pub(crate) fn read_fields(text: &[u8], scratch: &mut [u8]) -> Reading
     ensures { λ r. ⌜ outcome (answered r) (now (scratch .exit))
         ≡ finished (fieldsRead kept 5 (split 59 (drop 5 (now (text .entry)))) (begun (now (scratch .entry)))) ⌝ }
 {
-    let mut slots = [FREE; 15];
+    let mut slots = [FREE; COUNT];
     let mut used = 0;
     let mut at = 5;
     while at <= text.len() {
@@ -49,7 +50,7 @@ pub(crate) fn read_fields(text: &[u8], scratch: &mut [u8]) -> Reading
                 if slot.stood {
                     return Reading::Refused(Refusal::Repeated);
                 }
-                match values::keep(values::kind_of(n), from, &text[from..end], scratch, used) {
+                match values::keep(n, from, &text[from..end], scratch, used) {
                     Kept::Slot(filled, stored) => {
                         slots[n] = filled;
                         used += stored;
@@ -90,11 +91,8 @@ fn next_field(text: &[u8], at: usize) -> Named
     }
     let from = sign + 1;
     let end = octets::find(text, from, b';');
-    let n = place_in(
-        b"ac zip ft tt id fid pw q mod prm sz n st pr d",
-        &text[at..sign],
-    );
-    if n >= 15 {
+    let n = number_of(&text[at..sign]);
+    if n >= COUNT {
         return Named::Unknown(end);
     }
     Named::Key(n, from, end)

@@ -5,7 +5,6 @@
 mod fields;
 mod slots;
 mod values;
-mod words;
 
 ghost use mathlib.Core.Path.{_≡_};
 ghost use Rattle.octets.specs.Outcome.{outcome};

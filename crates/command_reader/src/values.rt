@@ -2,60 +2,23 @@
 ghost use mathlib.Core.Path.{_≡_};
 ghost use Prim.Native.Nat.{ℕ, _+_, _*_, _≤_, _<_};
 ghost use lib.ListN.{length};
-ghost use Rattle.octets.specs.Split.{split};
 ghost use Rattle.command.specs.Keys as Keys;
+ghost use Rattle.command.specs.Rows.{wordsOf};
 ghost use Rattle.command.specs.Values.{base64Refusal};
-ghost use Rattle.command_reader.specs.Keeping.{kindOf, wordOf, Plain, Keeps};
+ghost use Rattle.command_reader.specs.Keeping.{wordAt, Plain, Keeps};
 use crate::slots::placed;
-use crate::words::place_in;
 use base64::Decoded;
 use base64::Fault;
 use command::Refusal;
 use command::Slot;
+use command::keys::Kind;
+use command::keys::WORDS;
+use command::keys::row_at;
 use command::letters;
 use command::letters::Class;
+use command::words::part;
+use command::words::place_in;
 use decimal::Parsed;
-
-// The kinds of values. Each list of words is a kind of its own; an id is a safe string of at most 32
-// bytes, and the bypass a safe string of any length.
-pub enum Kind {
-    Action,
-    Compression,
-    FileType,
-    Transmission,
-    Id,
-    Bypass,
-    Quiet,
-    Integer,
-    Base64,
-}
-
-// The kind of each key, in writing order.
-const KINDS: [Kind; 15] = [
-    Kind::Action,
-    Kind::Compression,
-    Kind::FileType,
-    Kind::Transmission,
-    Kind::Id,
-    Kind::Id,
-    Kind::Bypass,
-    Kind::Quiet,
-    Kind::Integer,
-    Kind::Integer,
-    Kind::Integer,
-    Kind::Base64,
-    Kind::Base64,
-    Kind::Id,
-    Kind::Base64,
-];
-
-// The kind of the key with number n.
-pub(crate) fn kind_of(n: usize) -> Kind
-    requires { ⌜ n < 15 ⌝ }
-    ensures { λ r. ⌜ kindOf r ≡ Keys.kindAt Keys.keys n ⌝ }
-{
-    KINDS[n]
-}
 
 // What a value is kept as: its slot, and how many bytes it stored in the scratch; or its refusal.
 pub enum Kept {
@@ -63,58 +26,38 @@ pub enum Kept {
     Refused(Refusal),
 }
 
-// Keeps the value v, which stands at place `at` of the text. What it stores in the scratch comes after
-// the bytes that are used.
-pub(crate) fn keep(kind: Kind, at: usize, v: &[u8], scratch: &mut [u8], used: usize) -> Kept
+// Keeps the value v of the key with number k, which stands at place `at` of the text. What it stores in
+// the scratch comes after the bytes that are used.
+pub(crate) fn keep(k: usize, at: usize, v: &[u8], scratch: &mut [u8], used: usize) -> Kept
     requires { ⌜ 4 * used + 3 * length (now v) ≤ 4 * length (now scratch) ⌝ }
-    ensures { λ r. ⌜ Keeps (kindOf kind) at (now (v .entry)) (now (scratch .entry)) used r (now (scratch .exit)) ⌝ }
+    ensures { λ r. ⌜ Keeps (Keys.kindAt Keys.keys k) at (now (v .entry)) (now (scratch .entry)) used r (now (scratch .exit)) ⌝ }
 {
+    let row = row_at(k);
+    let kind = row.kind;
     match kind {
-        Kind::Action => action(v),
-        Kind::Compression => word(Refusal::UnknownWord, 0, 1, b"none", v),
-        Kind::FileType => word(
-            Refusal::UnknownWord,
-            0,
-            4,
-            b"regular directory symlink link",
-            v,
-        ),
-        Kind::Transmission => word(Refusal::UnknownWord, 0, 2, b"simple rsync", v),
-        Kind::Id => safe(true, at, v),
-        Kind::Bypass => safe(false, at, v),
-        Kind::Quiet => word(Refusal::OutOfRange, 0, 3, b"0 1 2", v),
+        Kind::Word(unknown, first, count) => word(k, unknown, first, count, v),
+        Kind::Safe(short) => safe(short, at, v),
         Kind::Integer => integer(v),
         Kind::Base64 => base64(v, scratch, used),
     }
 }
 
-// An action: `finished` reads as `finish`.
-fn action(v: &[u8]) -> Kept
-    ensures { λ r. ⌜ ((at : ℕ) → Plain (kindOf Kind.Action) at (now (v .entry)) r) ⌝ }
+// One of the words of key k, of which there are `count`; the first one's code is `first`. `finished`
+// reads as `finish`; another word is refused as unknown.
+fn word(k: usize, unknown: Refusal, first: u64, count: u64, v: &[u8]) -> Kept
+    requires { ⌜ (first ≤ 1) × (length (wordsOf (Keys.kindAt Keys.keys k)) ≡ count) × (count ≤ 8) ⌝ }
+    ensures { λ r. ⌜ ((at : ℕ) → Plain (wordAt k unknown first) at (now (v .entry)) r) ⌝ }
 {
-    if octets::equal(v, b"finished") {
-        return Kept::Slot(Slot::coded(6), 0);
+    let n = place_in(part(&WORDS, b';', k), v) as u64;
+    if n < count {
+        return Kept::Slot(Slot::coded(first + n), 0);
     }
-    word(
-        Refusal::UnknownWord,
-        1,
-        8,
-        b"send receive file data end_data finish cancel status",
-        v,
-    )
-}
-
-// One of the words, of which there are `count`; the first one's code is `first`. Another is refused
-// as unknown.
-fn word(unknown: Refusal, first: u64, count: usize, words: &[u8], v: &[u8]) -> Kept
-    requires { ⌜ (count ≡ length (split 32 (now words))) × (first + count ≤ 255) ⌝ }
-    ensures { λ r. ⌜ ((at : ℕ) → Plain (wordOf unknown first (now (words .entry))) at (now (v .entry)) r) ⌝ }
-{
-    let n = place_in(words, v);
-    if n >= count {
-        return Kept::Refused(unknown);
+    if k == 0 {
+        if octets::equal(v, b"finished") {
+            return Kept::Slot(Slot::coded(6), 0);
+        }
     }
-    Kept::Slot(Slot::coded(first + n as u64), 0)
+    Kept::Refused(unknown)
 }
 
 // A safe string, of at most 32 bytes if it is to be short. It stays where it stands.

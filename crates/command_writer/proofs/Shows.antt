@@ -5,8 +5,7 @@ use mathlib.Core.Bool.{Bool, true, false, cond}
 use mathlib.Core.List.{List, [], _∷_, _++_}
 use native.Mathlib.Omega.{arith}
 use lib.ListN.{length, getD, take, drop, length-take, length-drop}
-use native.Mathlib.Nat.{add-comm}
-use lib.Seq.{append-snoc, getD-drop}
+use lib.Seq.{append-snoc}
 use lib.Dec.{leb, eqb}
 use borrow.Author.Tests.{lt-ltb, ne-eqb, leb-true}
 use Rattle.octets.specs.Members.{every}
@@ -89,7 +88,3 @@ integer-put name n {l} {m} {o} {p} after r h f =
     go false true y e q = q
     go false false true e q = let i : _≡_ {A = ℕ} 0 1 = cc in absurd (omega arith)
     go false false false e (end, i, g) = (end, i, field-put name (textOf n) f g)
-
--- ---- the words of a row stand after its key
-pub word-at : (parts : List (List ℕ)) (i : ℕ) → getD (drop 1 parts) i [] ≡ getD parts (i + 1) []
-word-at parts i = rw (getD-drop 1 parts i [], add-comm 1 i)

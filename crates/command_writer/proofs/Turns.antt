@@ -5,7 +5,7 @@ use mathlib.Core.List.{List, _∷_, _++_}
 use native.Mathlib.Numerals.{add-one}
 use lib.ListN.{length, getD, drop}
 use lib.Seq.{drop-cons}
-use Rattle.command.specs.Keys.{Kind, key, keys, kindAt}
+use Rattle.command.specs.Keys.{Kind, key, keys, keyAt, kindAt}
 use Rattle.command.specs.Values.{Value, Shown, shown}
 use Rattle.command.specs.Refusals.{refusalNumber}
 use Rattle.command.specs.Slots.{free, slotsOf, valueAt, valuesAt, valuesOf}
@@ -17,7 +17,6 @@ use Rattle.command.specs.declared.Written.{Written}
 use Rattle.command.specs.declared.Written.the-variants as Written
 use Rattle.command_writer.specs.Stores.{Put}
 use Rattle.command_writer.specs.Pieces.{piece, pieces, FieldPut}
-use Rattle.command_writer.specs.Table.{keyAt}
 use Rattle.command_writer.proofs.Puts.{put-then}
 use Rattle.command_writer.proofs.Checks.{before-is, put-fine, put-fault}
 
@@ -43,25 +42,25 @@ module _ (slots : List Slot) (text scratch : List ℕ) where
     unfolding checkedOf
     checked-at = rw (values-at, add-one, drop-cons keys k (key "" Kind.integer) h)
 
-    pieces-at : piecesFrom k ≡ piece (keyAt k .name) (shownAt k) ++ piecesFrom (k + 1)
+    pieces-at : piecesFrom k ≡ piece (keyAt keys k .name) (shownAt k) ++ piecesFrom (k + 1)
     unfolding pieces
     pieces-at = rw (values-at, add-one, drop-cons keys k (key "" Kind.integer) h)
 
     module _ (out after : List ℕ) (at : ℕ) where
       -- the field is put, and the others are left
-      pub turn-on : (end : ℕ) → FieldPut (keyAt k .name) (shownAt k) out at (Written.Length end) after
+      pub turn-on : (end : ℕ) → FieldPut (keyAt keys k .name) (shownAt k) out at (Written.Length end) after
           → (checkedFrom k ≡ checkedFrom (k + 1))
           × ((e : ℕ) (a : List ℕ) → Put (piecesFrom (k + 1)) after end e a → Put (piecesFrom k) out at e a)
       turn-on end p =
-          let f = put-fine (before (shownAt k) Checked.fine) (piece (keyAt k .name) (shownAt k)) out after at end p in
+          let f = put-fine (before (shownAt k) Checked.fine) (piece (keyAt keys k .name) (shownAt k)) out after at end p in
           (checked-at ∙ before-is (shownAt k) (checkedFrom (k + 1)) ∙ rw (f .0), λ e a q. rw pieces-at (put-then (f .1) q))
 
       -- or the field is the first at fault
-      pub turn-off : (r : Refusal) → FieldPut (keyAt k .name) (shownAt k) out at (Written.Refused r) after
+      pub turn-off : (r : Refusal) → FieldPut (keyAt keys k .name) (shownAt k) out at (Written.Refused r) after
           → checkedFrom k ≡ Checked.fault (refusalNumber r)
       turn-off r p =
           checked-at ∙ before-is (shownAt k) (checkedFrom (k + 1))
-          ∙ rw (put-fault (before (shownAt k) Checked.fine) (piece (keyAt k .name) (shownAt k)) out after at r p)
+          ∙ rw (put-fault (before (shownAt k) Checked.fine) (piece (keyAt keys k .name) (shownAt k)) out after at r p)
 
 -- at the start everything is left
 module _ (c : Command) (slots : List Slot) (e : slots ≡ slotsOf c) where

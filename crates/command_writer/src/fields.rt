@@ -1,19 +1,13 @@
 // The fields of a command, in writing order.
 ghost use Prim.Native.Nat.{_<_};
-ghost use Rattle.command.specs.Keys.{keys, kindAt};
+ghost use Rattle.command.specs.Keys.{keys, keyAt, kindAt};
 ghost use Rattle.command.specs.Values.{shown};
 ghost use Rattle.command.specs.Slots.{valueAt, valuesOf};
 ghost use Rattle.command.specs.Write.{checkedOf};
 ghost use Rattle.command_writer.specs.Pieces.{whole, FieldPut};
 ghost use Rattle.command_writer.specs.Stores.{PutOr};
-ghost use Rattle.command_writer.specs.Table.{keyAt};
 use crate::slots::slots;
 use crate::store::put;
-use crate::table::COUNT;
-use crate::table::Kind;
-use crate::table::ROWS;
-use crate::table::kind_at;
-use crate::table::part;
 use crate::values::base64;
 use crate::values::integer;
 use crate::values::safe;
@@ -21,6 +15,9 @@ use crate::values::word;
 use command::Command;
 use command::Slot;
 use command::Written;
+use command::keys::COUNT;
+use command::keys::Kind;
+use command::keys::row_at;
 
 // Puts `5113` and then the fields of a command, up to the first that is refused.
 pub(crate) fn put_fields<'a>(
@@ -58,18 +55,20 @@ fn put_field<'a>(
     out: &mut [u8],
     at: usize,
 ) -> Written
-    requires { ⌜ k < 15 ⌝ }
-    ensures { λ r. ⌜ FieldPut (keyAt k .name)
+    ensures { λ r. ⌜ FieldPut (keyAt keys k .name)
         (shown (kindAt keys k) (valueAt (kindAt keys k) slot (now (text .entry)) (now (scratch .entry))))
         (now (out .entry)) at r (now (out .exit)) ⌝ }
 {
-    let row = part(&ROWS, b';', k);
-    match kind_at(k) {
+    let row = row_at(k);
+    let name = row.name;
+    let len = row.len;
+    let kind = row.kind;
+    match kind {
         Kind::Word(unknown, first, count) => {
-            word(row, unknown, first, count, slot.number, out, at)
+            word(&name[..len], k, unknown, first, count, slot.number, out, at)
         },
-        Kind::Safe(short) => safe(row, short, text, slot.place, out, at),
-        Kind::Integer => integer(row, slot.number, out, at),
-        Kind::Base64 => base64(row, scratch, slot.place, out, at),
+        Kind::Safe(short) => safe(&name[..len], short, text, slot.place, out, at),
+        Kind::Integer => integer(&name[..len], slot.number, out, at),
+        Kind::Base64 => base64(&name[..len], scratch, slot.place, out, at),
     }
 }

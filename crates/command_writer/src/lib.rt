@@ -5,7 +5,6 @@
 mod fields;
 mod slots;
 mod store;
-mod table;
 mod values;
 
 ghost use mathlib.Core.Bool.{_||_};

@@ -8,8 +8,6 @@ ghost use Rattle.decimal.specs.Write as Decimal;
 ghost use Rattle.command.specs.Values.{integerShown};
 ghost use Rattle.command.specs.Write.{Checked, before};
 ghost use Rattle.command_writer.specs.Stores.{spare, Put, PutOr};
-ghost use Rattle.command_writer.specs.Table.{nameIn};
-use crate::table::part;
 use command::Refusal;
 use command::Written;
 use decimal::Number;
@@ -36,12 +34,12 @@ pub(crate) fn put(s: &[u8], out: &mut [u8], at: usize) -> usize
     end_of(at, s.len())
 }
 
-// Puts `;key=`, with the key of a row of the table.
-pub(crate) fn put_key(row: &[u8], out: &mut [u8], at: usize) -> usize
-    ensures { λ r. ⌜ Put (59 ∷ nameIn (now (row .entry)) ++ 61 ∷ []) (now (out .entry)) at r (now (out .exit)) ⌝ }
+// Puts `;key=`, with the name of a key.
+pub(crate) fn put_key(name: &[u8], out: &mut [u8], at: usize) -> usize
+    ensures { λ r. ⌜ Put (59 ∷ now (name .entry) ++ 61 ∷ []) (now (out .entry)) at r (now (out .exit)) ⌝ }
 {
     let key = put(b";", out, at);
-    let sign = put(part(row, b' ', 0), out, key);
+    let sign = put(name, out, key);
     put(b"=", out, sign)
 }
 

@@ -4,27 +4,29 @@ ghost use mathlib.Core.Path.{_≡_};
 ghost use Prim.Native.Nat.{_+_, _≤_};
 ghost use lib.ListN.{length, take, drop};
 ghost use lib.Dec.{ltb};
-ghost use Rattle.command.specs.Keys.{Kind};
+ghost use Rattle.command.specs.Keys.{Kind, keys, kindAt};
+ghost use Rattle.command.specs.Rows.{wordsOf};
 ghost use Rattle.command.specs.Values.{wordShown, integerShown, shown};
 ghost use Rattle.command.specs.Slots.{bytesAt};
 ghost use Rattle.command_writer.specs.Pieces.{FieldPut};
-ghost use Rattle.command_writer.specs.Table.{nameIn, wordsIn};
 use crate::store::put;
 use crate::store::put_base64;
 use crate::store::put_key;
 use crate::store::put_number;
-use crate::table::part;
 use command::Place;
 use command::Refusal;
 use command::Written;
+use command::keys::WORDS;
 use command::letters;
 use command::letters::Class;
+use command::words::part;
 use decimal::Number;
 
-// The word of a code, which else is refused as unknown. The words stand in the row, after its key;
-// `first` is the code of the first.
+// The word of a code, which else is refused as unknown. The words are those of key k, and `first` is the
+// code of the first.
 pub(crate) fn word(
-    row: &[u8],
+    name: &[u8],
+    k: usize,
     unknown: Refusal,
     first: u64,
     count: u64,
@@ -32,8 +34,8 @@ pub(crate) fn word(
     out: &mut [u8],
     at: usize,
 ) -> Written
-    requires { ⌜ (first ≤ 1) × (length (wordsIn (now row)) ≡ count) ⌝ }
-    ensures { λ r. ⌜ FieldPut (nameIn (now (row .entry))) (wordShown unknown first (wordsIn (now (row .entry))) n)
+    requires { ⌜ (first ≤ 1) × (length (wordsOf (kindAt keys k)) ≡ count) ⌝ }
+    ensures { λ r. ⌜ FieldPut (now (name .entry)) (wordShown unknown first (wordsOf (kindAt keys k)) n)
         (now (out .entry)) at r (now (out .exit)) ⌝ }
 {
     if n.negative {
@@ -46,16 +48,16 @@ pub(crate) fn word(
     if i >= count {
         return Written::Refused(unknown);
     }
-    let value = put_key(row, out, at);
-    Written::Length(put(part(row, b' ', i as usize + 1), out, value))
+    let value = put_key(name, out, at);
+    Written::Length(put(part(part(&WORDS, b';', k), b' ', i as usize), out, value))
 }
 
 // An integer.
-pub(crate) fn integer(row: &[u8], n: Number, out: &mut [u8], at: usize) -> Written
-    ensures { λ r. ⌜ FieldPut (nameIn (now (row .entry))) (integerShown n) (now (out .entry)) at r (now (out .exit)) ⌝ }
+pub(crate) fn integer(name: &[u8], n: Number, out: &mut [u8], at: usize) -> Written
+    ensures { λ r. ⌜ FieldPut (now (name .entry)) (integerShown n) (now (out .entry)) at r (now (out .exit)) ⌝ }
 {
     if n.magnitude > 0 {
-        let value = put_key(row, out, at);
+        let value = put_key(name, out, at);
         return put_number(n, out, value);
     }
     if n.negative {
@@ -66,14 +68,14 @@ pub(crate) fn integer(row: &[u8], n: Number, out: &mut [u8], at: usize) -> Writt
 
 // A safe string, which stands in the text.
 pub(crate) fn safe(
-    row: &[u8],
+    name: &[u8],
     short: bool,
     text: &[u8],
     place: Place,
     out: &mut [u8],
     at: usize,
 ) -> Written
-    ensures { λ r. ⌜ FieldPut (nameIn (now (row .entry))) (shown (Kind.safe short) (bytesAt (now (text .entry)) place))
+    ensures { λ r. ⌜ FieldPut (now (name .entry)) (shown (Kind.safe short) (bytesAt (now (text .entry)) place))
         (now (out .entry)) at r (now (out .exit)) ⌝ }
 {
     if !octets::fits(place.start, place.len, text.len()) {
@@ -89,7 +91,7 @@ pub(crate) fn safe(
     if s.len() == 0 {
         return Written::Length(at);
     }
-    let value = put_key(row, out, at);
+    let value = put_key(name, out, at);
     Written::Length(put(s, out, value))
 }
 
@@ -104,8 +106,14 @@ fn over(short: bool, len: usize) -> bool
 }
 
 // The Base64 of bytes, which stand in the scratch.
-pub(crate) fn base64(row: &[u8], scratch: &[u8], place: Place, out: &mut [u8], at: usize) -> Written
-    ensures { λ r. ⌜ FieldPut (nameIn (now (row .entry))) (shown Kind.base64 (bytesAt (now (scratch .entry)) place))
+pub(crate) fn base64(
+    name: &[u8],
+    scratch: &[u8],
+    place: Place,
+    out: &mut [u8],
+    at: usize,
+) -> Written
+    ensures { λ r. ⌜ FieldPut (now (name .entry)) (shown Kind.base64 (bytesAt (now (scratch .entry)) place))
         (now (out .entry)) at r (now (out .exit)) ⌝ }
 {
     if !octets::fits(place.start, place.len, scratch.len()) {
@@ -114,7 +122,7 @@ pub(crate) fn base64(row: &[u8], scratch: &[u8], place: Place, out: &mut [u8], a
     if place.len == 0 {
         return Written::Length(at);
     }
-    let value = put_key(row, out, at);
+    let value = put_key(name, out, at);
     Written::Length(put_base64(bytes_at(scratch, place), out, value))
 }
 

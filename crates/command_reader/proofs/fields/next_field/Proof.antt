@@ -51,25 +51,22 @@ add-from c = omega (arith, within (c .before .before .before .before))
 find-requires : tie.Need-find-requires
 find-requires c κs = search needs
 
-slice-aggregate-place-in : tie.Need-slice-aggregate-place-in
-slice-aggregate-place-in c = search needs
+sub-number-of : tie.Need-sub-number-of
+sub-number-of c = search needs
 
-sub-place-in : tie.Need-sub-place-in
-sub-place-in c = search needs
+part-number-of-start : tie.Need-part-number-of-start
+part-number-of-start c = search needs
 
-part-place-in-start : tie.Need-part-place-in-start
-part-place-in-start c = search needs
+part-number-of-end : tie.Need-part-number-of-end
+part-number-of-end c = within (c .before .before .before .before .before)
 
-part-place-in-end : tie.Need-part-place-in-end
-part-place-in-end c = within (c .before .before .before .before .before .before)
-
-place-in-requires : tie.Need-place-in-requires
-place-in-requires c κs = search needs
+number-of-requires : tie.Need-number-of-requires
+number-of-requires c κs = search needs
 
 returns-4 : tie.Need-returns-4
 returns-4 c =
-    let place = c .before in
-    let find = place .before .before .before in
+    let number = c .before in
+    let find = number .before .before in
     let some = find .before in
     let p = some .before .before .before .before in
     let i = signed some in
@@ -79,13 +76,13 @@ returns-4 c =
     let unknown = unknown-left (text p) (at p) (p .pass .result) h (p .pass .ensures) (i .1) e (i .0) in (
       omega (arith, i .0, find .find .ensures),
       inside (find .find .result) (find .find .ensures),
-      unknown (find .find .result) (find .find .ensures) (place .place-in .result) (place .place-in .ensures) (c .if4 .taken),
+      unknown (find .find .result) (find .find .ensures) (number .number-of .result) (number .number-of .ensures) (c .if4 .taken),
     )
 
 returns-5 : tie.Need-returns-5
 returns-5 c =
-    let place = c .before in
-    let find = place .before .before .before in
+    let number = c .before in
+    let find = number .before .before in
     let some = find .before in
     let p = some .before .before .before .before in
     let i = signed some in
@@ -97,7 +94,7 @@ returns-5 c =
       omega (arith, i .0),
       omega (arith, find .find .ensures),
       inside (find .find .result) (find .find .ensures),
-      known (find .find .result) (find .find .ensures) (place .place-in .result) (place .place-in .ensures) (c .if4 .left),
+      known (find .find .result) (find .find .ensures) (number .number-of .result) (number .number-of .ensures) (c .if4 .left),
     )
 
 pub next-field-spec : {M : Type 1} → statement M
@@ -111,10 +108,9 @@ next-field-spec =
     returns-3
     add-from
     find-requires
-    slice-aggregate-place-in
-    sub-place-in
-    part-place-in-start
-    part-place-in-end
-    place-in-requires
+    sub-number-of
+    part-number-of-start
+    part-number-of-end
+    number-of-requires
     returns-4
     returns-5)

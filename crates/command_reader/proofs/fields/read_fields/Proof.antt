@@ -38,31 +38,30 @@ named : (c : tie.After-next-field Inv-loop μ-loop) {d : Named} → c .next-fiel
 named c e = rw e at (c .next-field .ensures)
 
 -- what is kept of a value is what `keep` answered
-told : (c : tie.After-keep Inv-loop μ-loop) → let key = c .before .before .before .before .before .before .before in
+told : (c : tie.After-keep Inv-loop μ-loop) → let key = c .before .before .before .before .before .before in
     let field = key .before .before in let n = key .n .given .0 .0 in let from = key .n .given .0 .1 .0 in let end = key .n .given .0 .1 .1 .0 in
     keptIn n (so-far field) (c .keep .last .1 .1 .1 .0) (c .keep .result) ≡ kept n from (take (end - from) (drop from (text field))) (so-far field)
 unfolding kept
 told c =
-    let kind = c .before .before .before in
-    let key = kind .before .before .before .before in
-    rw (kind .before .if1 .left, ← kind .kind-of .ensures) (c .keep .ensures (key .n .given .0 .0) (so-far (key .before .before) .slots))
+    let key = c .before .before .before .before .before .before in
+    rw (c .before .before .before .if1 .left) (c .keep .ensures (key .n .given .0 .0) (so-far (key .before .before) .slots))
 
-room : (c : tie.After-keep Inv-loop μ-loop) → let key = c .before .before .before .before .before .before .before in
+room : (c : tie.After-keep Inv-loop μ-loop) → let key = c .before .before .before .before .before .before in
     let field = key .before .before in let n = key .n .given .0 .0 in let from = key .n .given .0 .1 .0 in let end = key .n .given .0 .1 .1 .0 in
     Within (4 * so-far field .used + 3 * length (take (end - from) (drop from (text field))))
     (keptIn n (so-far field) (c .keep .last .1 .1 .1 .0) (c .keep .result))
 room c =
-    let key = c .before .before .before .before .before .before .before in
+    let key = c .before .before .before .before .before .before in
     let field = key .before .before in
     let from = key .n .given .0 .1 .0 in
     rw (told c) (known-within (key .n .given .0 .0) from (take (key .n .given .0 .1 .1 .0 - from) (drop from (text field))) (so-far field))
 
 -- a value is shorter than its field
-size : (c : tie.After-keep Inv-loop μ-loop) → let key = c .before .before .before .before .before .before .before in
+size : (c : tie.After-keep Inv-loop μ-loop) → let key = c .before .before .before .before .before .before in
     let field = key .before .before in let from = key .n .given .0 .1 .0 in let end = key .n .given .0 .1 .1 .0 in
     length (take (end - from) (drop from (text field))) + field .before .before .loop .at + 1 ≤ end
 size c =
-    let key = c .before .before .before .before .before .before .before in
+    let key = c .before .before .before .before .before .before in
     let field = key .before .before in
     let from = key .n .given .0 .1 .0 in
     let k = named field (key .n .given .1) in
@@ -126,21 +125,18 @@ returns-2 c =
     let field = key .before .before in
     rw (← field .before .before .loop .inv .3, named field (key .n .given .1) .4 (so-far field), c .if1 .taken)
 
-kind-of-requires : tie.Need-kind-of-requires Inv-loop μ-loop
-kind-of-requires c κs = let key = c .before .before .before in named (key .before .before) (key .n .given .1) .0
-
 sub-keep : tie.Need-sub-keep Inv-loop μ-loop
-sub-keep c = let key = c .before .before .before .before in omega (arith, named (key .before .before) (key .n .given .1) .2)
+sub-keep c = let key = c .before .before .before in omega (arith, named (key .before .before) (key .n .given .1) .2)
 
 part-keep-start : tie.Need-part-keep-start Inv-loop μ-loop
-part-keep-start c = let key = c .before .before .before .before in omega (arith, named (key .before .before) (key .n .given .1) .2)
+part-keep-start c = let key = c .before .before .before in omega (arith, named (key .before .before) (key .n .given .1) .2)
 
 part-keep-end : tie.Need-part-keep-end Inv-loop μ-loop
-part-keep-end c = let key = c .before .before .before .before in omega (arith, named (key .before .before) (key .n .given .1) .3)
+part-keep-end c = let key = c .before .before .before in omega (arith, named (key .before .before) (key .n .given .1) .3)
 
 keep-requires : tie.Need-keep-requires Inv-loop μ-loop
 keep-requires c κs =
-    let key = c .before .before .before .before .before .before in
+    let key = c .before .before .before .before .before in
     let field = key .before .before in
     let k = named field (key .n .given .1) in
     let from = key .n .given .0 .1 .0 in
@@ -151,38 +147,38 @@ enum-known-filled c = search needs
 
 mul-slots : tie.Need-mul-slots Inv-loop μ-loop
 mul-slots c =
-    let key = c .before .before .before .before .before .before .before .before .before .before .before .before in
+    let key = c .before .before .before .before .before .before .before .before .before .before .before in
     let i : key .n .given .0 .0 < 15 = named (key .before .before) (key .n .given .1) .0 in search needs
 
 array-set-from-slots : tie.Need-array-set-from-slots Inv-loop μ-loop
 array-set-from-slots c =
-    let key = c .before .before .before .before .before .before .before .before .before .before .before .before in
+    let key = c .before .before .before .before .before .before .before .before .before .before .before in
     named (key .before .before) (key .n .given .1) .0
 
 add-used : tie.Need-add-used Inv-loop μ-loop
 add-used c =
     let filled = c .before in
     let keep = filled .before .before .before .before in
-    let key = keep .before .before .before .before .before .before .before in
+    let key = keep .before .before .before .before .before .before in
     let field = key .before .before in
     let within = named field (key .n .given .1) .3 in
     omega (arith, rw (filled .filled .given .1) at (room keep), size keep, field .before .before .loop .inv .2, within)
 
 add-at-2 : tie.Need-add-at-2 Inv-loop μ-loop
 add-at-2 c =
-    let key = c .before .before .before .before .before .before .before .before .before .before .before .before in
+    let key = c .before .before .before .before .before .before .before .before .before .before .before in
     omega (arith, named (key .before .before) (key .n .given .1) .3)
 
 loop-less-2 : tie.Need-loop-less-2 Inv-loop μ-loop
 loop-less-2 c =
-    let key = c .before .before .before .before .before .before .before .before .before .before .before .before in
+    let key = c .before .before .before .before .before .before .before .before .before .before .before in
     let k = named (key .before .before) (key .n .given .1) in omega (arith, k .1, k .2, k .3)
 
 loop-again-2 : tie.Need-loop-again-2 Inv-loop μ-loop
 loop-again-2 c =
     let filled = c .before in
     let keep = filled .before .before .before .before in
-    let key = keep .before .before .before .before .before .before .before in
+    let key = keep .before .before .before .before .before .before in
     let field = key .before .before in
     let l = field .before .before .loop in
     let k = named field (key .n .given .1) in
@@ -203,7 +199,7 @@ returns-3 : tie.Need-returns-3 Inv-loop μ-loop
 returns-3 c =
     let refused = c .before in
     let keep = refused .before .before .before .before in
-    let key = keep .before .before .before .before .before .before .before in
+    let key = keep .before .before .before .before .before .before in
     let field = key .before .before in
     rw (← field .before .before .loop .inv .3, named field (key .n .given .1) .4 (so-far field), ← told keep, refused .r .given .1)
 
@@ -240,7 +236,6 @@ read-fields-spec =
     array-copy-out-slot
     same-length-2
     returns-2
-    kind-of-requires
     sub-keep
     part-keep-start
     part-keep-end

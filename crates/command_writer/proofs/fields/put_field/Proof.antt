@@ -1,43 +1,54 @@
-use mathlib.Core.Path.{_≡_, sym, _∙_}
-use mathlib.Core.List.{[], map}
-use lib.ListN.{getD, List·getD-map}
-use Rattle.octets.specs.Split.{split, onto, join}
-use Rattle.command.specs.Keys.{integer, key, keys}
+use Prim.Native.Nat.{_≤_}
+use mathlib.Core.Path.{_≡_, sym, _∙_, ap}
+use native.Mathlib.Omega.{arith}
+use lib.ListN.{length, take, length-take}
+use Rattle.command.specs.Keys.{keys, keyAt}
 use Rattle.command.specs.Values.{shown}
-use Rattle.command_writer.specs.Table.{keyAt, rowOf}
-use Rattle.command_writer.specs.declared.table.Kind.{Kind}
-use Rattle.command_writer.proofs.Rows.{Row, row-is}
+use Rattle.command.specs.declared.keys.Kind.{Kind}
+use Rattle.command.specs.declared.keys.Row.{Row}
+use Rattle.command.proofs.Names.{Kinded, row-kind, row-name}
 use borrow.Author.Needs.{needs}
 use Rattle.command_writer.proofs.fields.put_field.Statement.{statement}
 use Rattle.command_writer.proofs.fields.put_field.Tie as tie
 
-row : (c : tie.After-kind-at) {d : Kind} → c .kind-at .result ≡ d
-    → let part = c .before in let a = part .before .before .before .before .before .args in
-    Row (keyAt (a .k)) (part .part .result .now) d
-unfolding split onto join
-row c e =
-    let part = c .before in
-    let k = part .before .before .before .before .before .args .k in
-    let z : part .part .result .now ≡ getD (map rowOf keys) k [] = part .part .ensures in
-    row-is k (z ∙ List·getD-map rowOf keys k (key "" integer)) (sym (c .kind-at .ensures) ∙ e)
+-- the row has the key's name and tells its kind
+named : (c : tie.After-row-at) → let r = c .row-at .result in take (r .len) (r .name) ≡ keyAt keys (c .before .before .before .before .args .k) .name
+named c = rw (c .row-at .ensures) (row-name (c .before .before .before .before .args .k))
 
-slice-aggregate-part : tie.Need-slice-aggregate-part
-slice-aggregate-part c = search needs
+sized : (c : tie.After-row-at) → let r = c .row-at .result in r .len ≡ length (take (r .len) (r .name))
+sized c = rw (c .row-at .ensures) (sym (ap length (row-name (c .before .before .before .before .args .k))))
 
-part-requires : tie.Need-part-requires
-part-requires c κs = search needs
+short : (c : tie.After-row-at) → let r = c .row-at .result in r .len ≤ length (r .name)
+short c = let r = c .row-at .result in omega (arith, sized c, length-take (r .len) (r .name))
 
-kind-at-requires : tie.Need-kind-at-requires
-kind-at-requires c κs = search needs
+kinded : (c : tie.After-row-at) {d : Kind} → c .row-at .result .kind ≡ d → Kinded (c .before .before .before .before .args .k) d
+kinded c e = row-kind (c .before .before .before .before .args .k) (sym (ap (λ (r : Row). r .kind) (c .row-at .ensures)) ∙ e)
 
-enum-known-unknown : tie.Need-enum-known-unknown
-enum-known-unknown c = search needs
+row-at-requires : tie.Need-row-at-requires
+row-at-requires c κs = search needs
+
+enum-known-kind : tie.Need-enum-known-kind
+enum-known-kind c = search needs
+
+array-share-prefix-name : tie.Need-array-share-prefix-name
+array-share-prefix-name c = short (c .before .before .before .before)
+
+slice-aggregate-word : tie.Need-slice-aggregate-word
+slice-aggregate-word c = sized (c .before .before .before .before .before)
 
 word-requires : tie.Need-word-requires
-word-requires c κs = let unknown = c .before .before in row (unknown .before .before) (unknown .unknown .given .1) .2
+word-requires c κs =
+    let kind = c .before .before .before in
+    let k = kinded (kind .before .before .before) (kind .kind .given .1) .counts in (k .0, k .1)
 
-enum-known-short : tie.Need-enum-known-short
-enum-known-short c = search needs
+enum-known-kind-2 : tie.Need-enum-known-kind-2
+enum-known-kind-2 c = search needs
+
+array-share-prefix-name-2 : tie.Need-array-share-prefix-name-2
+array-share-prefix-name-2 c = short (c .before .before .before .before)
+
+slice-aggregate-safe : tie.Need-slice-aggregate-safe
+slice-aggregate-safe c = sized (c .before .before .before .before .before)
 
 safe-requires : tie.Need-safe-requires
 safe-requires c κs = search needs
@@ -45,11 +56,23 @@ safe-requires c κs = search needs
 enum-told : tie.Need-enum-told
 enum-told c = search needs
 
+array-share-prefix-name-3 : tie.Need-array-share-prefix-name-3
+array-share-prefix-name-3 c = short (c .before .before .before)
+
+slice-aggregate-integer : tie.Need-slice-aggregate-integer
+slice-aggregate-integer c = sized (c .before .before .before .before)
+
 integer-requires : tie.Need-integer-requires
 integer-requires c κs = search needs
 
 enum-told-2 : tie.Need-enum-told-2
 enum-told-2 c = search needs
+
+array-share-prefix-name-4 : tie.Need-array-share-prefix-name-4
+array-share-prefix-name-4 c = short (c .before .before .before)
+
+slice-aggregate-base64 : tie.Need-slice-aggregate-base64
+slice-aggregate-base64 c = sized (c .before .before .before .before)
 
 base64-requires : tie.Need-base64-requires
 base64-requires c κs = search needs
@@ -61,8 +84,9 @@ returns : tie.Need-returns
 unfolding shown
 returns c =
     let word = c .before .before in
-    let unknown = word .before .before .before in
-    let r = row (unknown .before .before) (unknown .unknown .given .1) in rw (r .0, r .1) (word .word .ensures)
+    let kind = word .before .before .before .before in
+    let row = kind .before .before .before in
+    rw (← named row, kinded row (kind .kind .given .1) .kinded) (word .word .ensures)
 
 same-length-2 : tie.Need-same-length-2
 same-length-2 c = search needs
@@ -70,8 +94,9 @@ same-length-2 c = search needs
 returns-2 : tie.Need-returns-2
 returns-2 c =
     let safe = c .before .before in
-    let short = safe .before .before .before in
-    let r = row (short .before .before) (short .short .given .1) in rw (r .0, r .1) (safe .safe .ensures)
+    let kind = safe .before .before .before .before in
+    let row = kind .before .before .before in
+    rw (← named row, kinded row (kind .kind2 .given .1) .kinded) (safe .safe .ensures)
 
 same-length-3 : tie.Need-same-length-3
 same-length-3 c = search needs
@@ -80,8 +105,9 @@ returns-3 : tie.Need-returns-3
 unfolding shown
 returns-3 c =
     let integer = c .before .before in
-    let told = integer .before .before in
-    let r = row (told .before .before) (told .enum-told .given .1) in rw (r .0, r .1) (integer .integer .ensures)
+    let kind = integer .before .before .before in
+    let row = kind .before .before .before in
+    rw (← named row, kinded row (kind .enum-told .given .1) .kinded) (integer .integer .ensures)
 
 same-length-4 : tie.Need-same-length-4
 same-length-4 c = search needs
@@ -89,23 +115,30 @@ same-length-4 c = search needs
 returns-4 : tie.Need-returns-4
 returns-4 c =
     let base64 = c .before .before in
-    let told = base64 .before .before in
-    let r = row (told .before .before) (told .enum-told2 .given .1) in rw (r .0, r .1) (base64 .base64 .ensures)
+    let kind = base64 .before .before .before in
+    let row = kind .before .before .before in
+    rw (← named row, kinded row (kind .enum-told2 .given .1) .kinded) (base64 .base64 .ensures)
 
 pub put-field-spec : {M : Type 1} → statement M
 put-field-spec =
     tie.close
     (tie.spec
-    slice-aggregate-part
-    part-requires
-    kind-at-requires
-    enum-known-unknown
+    row-at-requires
+    enum-known-kind
+    array-share-prefix-name
+    slice-aggregate-word
     word-requires
-    enum-known-short
+    enum-known-kind-2
+    array-share-prefix-name-2
+    slice-aggregate-safe
     safe-requires
     enum-told
+    array-share-prefix-name-3
+    slice-aggregate-integer
     integer-requires
     enum-told-2
+    array-share-prefix-name-4
+    slice-aggregate-base64
     base64-requires
     same-length
     returns

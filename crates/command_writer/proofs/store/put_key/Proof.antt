@@ -9,9 +9,6 @@ slice-aggregate-put c = search needs
 put-requires : tie.Need-put-requires
 put-requires c κs = search needs
 
-part-requires : tie.Need-part-requires
-part-requires c κs = search needs
-
 put-requires-2 : tie.Need-put-requires-2
 put-requires-2 c κs = search needs
 
@@ -28,9 +25,7 @@ returns : tie.Need-returns
 returns c =
     let put3 = c .before .before in
     let put2 = put3 .before .before .before .before .before in
-    let part = put2 .before .before in
-    let put = part .before .before .before in
-    rw (← part .part .ensures) (put-then (put .put .ensures) (put-then (put2 .put2 .ensures) (put3 .put3 .ensures)))
+    put-then (put2 .before .before .before .before .put .ensures) (put-then (put2 .put2 .ensures) (put3 .put3 .ensures))
 
 pub put-key-spec : {M : Type 1} → statement M
 put-key-spec =
@@ -38,7 +33,6 @@ put-key-spec =
     (tie.spec
     slice-aggregate-put
     put-requires
-    part-requires
     put-requires-2
     slice-aggregate-put-2
     put-requires-3

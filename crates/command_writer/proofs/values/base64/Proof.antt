@@ -8,7 +8,6 @@ use borrow.Author.Tests.{leb-true, not-true, not-false}
 use Rattle.octets.specs.Members.{every}
 use Rattle.base64.specs.Encode.{textOf}
 use Rattle.command.specs.Values.{base64Shown, shown}
-use Rattle.command_writer.specs.Table.{nameIn}
 use Rattle.command_writer.proofs.Puts.{put-none}
 use Rattle.command_writer.proofs.Shows.{place-in, place-out, base64-some, field-put}
 use borrow.Author.Needs.{needs}
@@ -60,7 +59,7 @@ returns-3 c =
     let a = known .before .before .args in
     let byte = known .shared-slice-known2 .given in
     let shows = base64-some (a .scratch .now) (a .place) (λ i. omega (arith, byte i)) (inside within) (some .if2 .left) in
-    let field = field-put (nameIn (a .row .now)) (textOf (bytes .bytes-at .result .now)) (key .put-key .ensures) in
+    let field = field-put (a .name .now) (textOf (bytes .bytes-at .result .now)) (key .put-key .ensures) in
     rw (shows, ← bytes .bytes-at .ensures) (put .put-base64 .result, refl, field (put .put-base64 .ensures))
 
 pub base64-spec : {M : Type 1} → statement M

@@ -1,7 +1,6 @@
 use mathlib.Core.Path.{_≡_, refl}
 use native.Mathlib.Omega.{arith}
 use Rattle.command.specs.Values.{integerShown}
-use Rattle.command_writer.specs.Table.{nameIn}
 use Rattle.command_writer.proofs.Puts.{put-none}
 use Rattle.command_writer.proofs.Shows.{integer-put}
 use borrow.Author.Needs.{needs}
@@ -22,7 +21,7 @@ returns c =
     let put = c .before .before in
     let key = put .before .before .before .before in
     let a = key .before .before .before .before .before .before .args in
-    integer-put (nameIn (a .row .now)) (a .n) _ _ (omega arith) (key .put-key .ensures) (put .put-number .ensures)
+    integer-put (a .name .now) (a .n) _ _ (omega arith) (key .put-key .ensures) (put .put-number .ensures)
 
 returns-2 : tie.Need-returns-2
 unfolding integerShown

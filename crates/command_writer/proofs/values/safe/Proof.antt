@@ -9,7 +9,6 @@ use Rattle.command.specs.Keys.{Kind}
 use Rattle.command.specs.Values.{unshown, over, textOr, safeShown, shown}
 use Rattle.command.specs.Slots.{bytesAt}
 use Rattle.command.specs.declared.Refusal.the-variants as Refusal
-use Rattle.command_writer.specs.Table.{nameIn}
 use Rattle.command_writer.proofs.Puts.{put-none}
 use Rattle.command_writer.proofs.Shows.{place-in, place-out, text-none, text-some, field-put}
 use borrow.Author.Needs.{needs}
@@ -100,7 +99,7 @@ returns-5 c =
     let b = here .before .before in
     let a = start b .args in
     rw (shown-here here, ← over .over .ensures, short .if3 .left, text-some (bytes b) (some .if4 .left))
-    (put .put .result, refl, field-put (nameIn (a .row .now)) (bytes b) (key .put-key .ensures) (put .put .ensures))
+    (put .put .result, refl, field-put (a .name .now) (bytes b) (key .put-key .ensures) (put .put .ensures))
 
 pub safe-spec : {M : Type 1} → statement M
 safe-spec =

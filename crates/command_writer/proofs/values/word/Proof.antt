@@ -1,14 +1,27 @@
-use Prim.Native.Nat.{_-_}
-use mathlib.Core.Path.{refl}
+use Prim.Native.Nat.{ℕ, _-_}
+use mathlib.Core.Path.{_≡_, refl, sym, _∙_, ap}
+use mathlib.Core.List.{List, []}
+use lib.ListN.{getD}
 use borrow.Author.Tests.{eq-eqb, ne-eqb, le-ltb, lt-ltb}
-use Rattle.octets.specs.Split.{split}
+use Rattle.octets.specs.Split.{split, onto, join}
+use Rattle.command.specs.Keys.{keys, kindAt}
+use Rattle.command.specs.Rows.{wordsOf}
 use Rattle.command.specs.Values.{wordShown}
-use Rattle.command_writer.specs.Table.{nameIn}
+use Rattle.command.proofs.Names.{row-words}
 use Rattle.command_writer.proofs.Puts.{put-none}
-use Rattle.command_writer.proofs.Shows.{word-at, field-put}
+use Rattle.command_writer.proofs.Shows.{field-put}
 use borrow.Author.Needs.{needs}
 use Rattle.command_writer.proofs.values.word.Statement.{statement}
 use Rattle.command_writer.proofs.values.word.Tie as tie
+
+-- the word that is put is that of the key
+worded : (c : tie.After-part2) → let a = c .before .before .before .before .before .before .before .before .before .before .before .before .before .before .args in
+    c .part2 .result .now ≡ getD (wordsOf (kindAt keys (a .k))) (a .n .magnitude - a .first) []
+unfolding split onto join
+worded c =
+    let a = c .before .before .before .before .before .before .before .before .before .before .before .before .before .before .args in
+    c .part2 .ensures
+    ∙ ap (λ (ws : List (List ℕ)). getD ws (a .n .magnitude - a .first) []) (row-words (a .k) _ (c .before .part .ensures))
 
 returns : tie.Need-returns
 unfolding wordShown
@@ -34,11 +47,14 @@ returns-3 c =
 put-key-requires : tie.Need-put-key-requires
 put-key-requires c κs = search needs
 
-add-part : tie.Need-add-part
-add-part c = search needs
+slice-aggregate-part : tie.Need-slice-aggregate-part
+slice-aggregate-part c = search needs
 
 part-requires : tie.Need-part-requires
 part-requires c κs = search needs
+
+part-requires-2 : tie.Need-part-requires-2
+part-requires-2 c κs = search needs
 
 put-requires : tie.Need-put-requires
 put-requires c κs = search needs
@@ -50,16 +66,14 @@ returns-4 : tie.Need-returns-4
 unfolding wordShown
 returns-4 c =
     let put = c .before .before in
-    let part = put .before .before in
-    let key = part .before .before .before in
+    let word = put .before .before in
+    let key = word .before .before .before .before .before in
     let listed = key .before .before in
     let some = listed .before .before in
     let positive = some .before .before in
     let entry = positive .before .before .before in
-    let a = entry .args in
-    let word = word-at (split 32 (a .row .now)) (a .n .magnitude - a .first) in
-    let field = field-put (nameIn (a .row .now)) (part .part .result .now) (key .put-key .ensures) (put .put .ensures) in
-    rw (positive .if1 .left, ne-eqb _ _ (some .if2 .left), entry .pre .1, lt-ltb _ _ (listed .if3 .left), word, ← part .part .ensures)
+    let field = field-put (entry .args .name .now) (word .part2 .result .now) (key .put-key .ensures) (put .put .ensures) in
+    rw (positive .if1 .left, ne-eqb _ _ (some .if2 .left), entry .pre .1, lt-ltb _ _ (listed .if3 .left), ← worded word)
     (put .put .result, refl, field)
 
 pub word-spec : {M : Type 1} → statement M
@@ -71,8 +85,9 @@ word-spec =
     sub-i
     returns-3
     put-key-requires
-    add-part
+    slice-aggregate-part
     part-requires
+    part-requires-2
     put-requires
     same-length
     returns-4)

@@ -6,10 +6,10 @@ use lib.ListN.{length, drop}
 use borrow.Author.Needs.{needs}
 use Rattle.octets.specs.Split.{split}
 use Rattle.octets.proofs.Cuts.{cut-within, cut-last, cut-more, cut-first}
 use Rattle.command.specs.Keys.{placeIn}
-use Rattle.command_reader.proofs.WordPlaces.{place-here, place-later}
-use Rattle.command_reader.proofs.words.place_in.Statement.{statement}
-use Rattle.command_reader.proofs.words.place_in.Tie as tie
+use Rattle.command.proofs.WordPlaces.{place-here, place-later}
+use Rattle.command.proofs.words.place_in.Statement.{statement}
+use Rattle.command.proofs.words.place_in.Tie as tie
 
 abbrev Inv-loop : tie.InvT-loop
 Inv-loop words word n₀ at₀ n at =

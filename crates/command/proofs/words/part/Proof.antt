@@ -6,9 +6,9 @@ use lib.ListN.{length, getD, drop}
 use borrow.Author.Needs.{needs}
 use Rattle.octets.specs.Split.{split}
 use Rattle.octets.proofs.Cuts.{cut-within, cut-last, cut-more, cut-first}
-use Rattle.command_writer.proofs.Parts.{part-later}
-use Rattle.command_writer.proofs.table.part.Statement.{statement}
-use Rattle.command_writer.proofs.table.part.Tie as tie
+use Rattle.command.proofs.Parts.{part-later}
+use Rattle.command.proofs.words.part.Statement.{statement}
+use Rattle.command.proofs.words.part.Tie as tie
 
 abbrev Inv-loop : tie.InvT-loop
 Inv-loop s b i from₀ left₀ from left = (from ≤ length s) × (getD (split b (drop from s)) left [] ≡ getD (split b s) i [])
