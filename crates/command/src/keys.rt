@@ -14,14 +14,14 @@ use crate::Refusal;
 pub enum Kind {
     Integer,
     Base64,
-    Word(Refusal, u64, u64),
+    Word(Refusal, u8, u8),
     Safe(bool),
 }
 
 // A key's name, its length, and its kind. Blanks follow a name that is shorter.
 pub struct Row {
     pub name: [u8; 3],
-    pub len: usize,
+    pub len: u8,
     pub kind: Kind,
 }
 
@@ -128,9 +128,10 @@ pub fn row_at(k: usize) -> Row
 pub fn number_of(name: &[u8]) -> usize
     ensures { λ r. ⌜ r ≡ Keys.numberOf Keys.keys (now (name .entry)) ⌝ }
 {
+    let rows = ROWS;
     let mut k = 0;
     while k < COUNT {
-        if is_named(row_at(k), name) {
+        if is_named(rows[k], name) {
             return k;
         }
         k += 1;
@@ -144,7 +145,7 @@ fn is_named(row: Row, name: &[u8]) -> bool
     ensures { λ r. ⌜ r ≡ equals (now (name .entry)) (take (row .len) (row .name)) ⌝ }
 {
     let own = row.name;
-    let len = row.len;
+    let len = row.len as usize;
     if name.len() != len {
         return false;
     }

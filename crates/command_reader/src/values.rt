@@ -35,7 +35,7 @@ pub(crate) fn keep(k: usize, at: usize, v: &[u8], scratch: &mut [u8], used: usiz
     let row = row_at(k);
     let kind = row.kind;
     match kind {
-        Kind::Word(unknown, first, count) => word(k, unknown, first, count, v),
+        Kind::Word(unknown, first, count) => word(k, unknown, first as u64, count as u64, v),
         Kind::Safe(short) => safe(short, at, v),
         Kind::Integer => integer(v),
         Kind::Base64 => base64(v, scratch, used),

@@ -61,11 +61,20 @@ fn put_field<'a>(
 {
     let row = row_at(k);
     let name = row.name;
-    let len = row.len;
+    let len = row.len as usize;
     let kind = row.kind;
     match kind {
         Kind::Word(unknown, first, count) => {
-            word(&name[..len], k, unknown, first, count, slot.number, out, at)
+            word(
+                &name[..len],
+                k,
+                unknown,
+                first as u64,
+                count as u64,
+                slot.number,
+                out,
+                at,
+            )
         },
         Kind::Safe(short) => safe(&name[..len], short, text, slot.place, out, at),
         Kind::Integer => integer(&name[..len], slot.number, out, at),

@@ -4,31 +4,39 @@ use native.Mathlib.Omega.{arith}
 use lib.ListN.{length, drop}
 use borrow.Author.Needs.{needs}
 use Rattle.octets.specs.Slices.{equals}
+use Rattle.octets.specs.Split.{split, onto}
 use Rattle.command.specs.Keys.{keys, keyAt, names, placeIn, numberOf}
-use Rattle.command.proofs.Names.{row-name, row-short, named-here, named-later}
+use Rattle.command.proofs.Names.{row-name, row-short, row-there, named-here, named-later}
 use Rattle.command.proofs.keys.number_of.Statement.{statement}
 use Rattle.command.proofs.keys.number_of.Tie as tie
 
 abbrev Inv-loop : tie.InvT-loop
-Inv-loop name k₀ k = (k ≤ 15) × (k + placeIn (names (drop k keys)) name ≡ numberOf keys name)
+Inv-loop name rows k₀ k = (k ≤ 15) × (k + placeIn (names (drop k keys)) name ≡ numberOf keys name)
 
 abbrev μ-loop : tie.MeasureT-loop
-μ-loop name k₀ k = 15 - k
+μ-loop name rows k₀ k = 15 - k
 
 -- what a turn tells: whether the name is that of key k
 told : (c : tie.After-is-named Inv-loop μ-loop) → let l = c .before .before .before in
     c .is-named .result ≡ equals (l .before .before .args .name .now) (keyAt keys (l .loop .k) .name)
-told c = let l = c .before .before .before in c .is-named .ensures ∙ rw (c .before .row-at .ensures, row-name (l .loop .k))
+unfolding split onto
+told c =
+    let l = c .before .before .before in
+    c .is-named .ensures ∙ rw (row-there (l .loop .k) _ (omega arith)) (ap (equals (l .before .before .args .name .now)) (row-name (l .loop .k)))
 
 loop-holds : tie.Need-loop-holds Inv-loop μ-loop
 loop-holds c = (omega arith, omega arith)
 
-row-at-requires : tie.Need-row-at-requires Inv-loop μ-loop
-row-at-requires c κs = search needs
+mul-is-named : tie.Need-mul-is-named Inv-loop μ-loop
+mul-is-named c = search needs
+
+array-copy-out-is-named : tie.Need-array-copy-out-is-named Inv-loop μ-loop
+array-copy-out-is-named c = search needs
 
 is-named-requires : tie.Need-is-named-requires Inv-loop μ-loop
+unfolding split onto
 is-named-requires c κs =
-    let k = c .before .before .loop .k in rw (c .row-at .ensures) (row-short k, ap length (row-name k))
+    let k = c .before .before .loop .k in rw (row-there k _ (omega arith)) (row-short k, ap length (row-name k))
 
 returns : tie.Need-returns Inv-loop μ-loop
 returns c =
@@ -62,7 +70,8 @@ number-of-spec =
     Inv-loop
     μ-loop
     loop-holds
-    row-at-requires
+    mul-is-named
+    array-copy-out-is-named
     is-named-requires
     returns
     add-k

@@ -16,6 +16,12 @@ row-at-requires c κs = search needs
 enum-known-kind : tie.Need-enum-known-kind
 enum-known-kind c = search needs
 
+cast-word : tie.Need-cast-word
+cast-word c = search needs
+
+cast-word-2 : tie.Need-cast-word-2
+cast-word-2 c = search needs
+
 word-requires : tie.Need-word-requires
 word-requires c κs = let kind = c .before in kinded (kind .before .before) (kind .kind .given .1) .counts
 
@@ -67,6 +73,8 @@ keep-spec =
     (tie.spec
     row-at-requires
     enum-known-kind
+    cast-word
+    cast-word-2
     word-requires
     enum-known-kind-2
     safe-requires
