@@ -21,7 +21,7 @@ pub enum Kind {
 // A key's name, its length, and its kind. Blanks follow a name that is shorter.
 pub struct Row {
     pub name: [u8; 3],
-    pub len: u8,
+    pub len: usize,
     pub kind: Kind,
 }
 
@@ -145,7 +145,7 @@ fn is_named(row: Row, name: &[u8]) -> bool
     ensures { λ r. ⌜ r ≡ equals (now (name .entry)) (take (row .len) (row .name)) ⌝ }
 {
     let own = row.name;
-    let len = row.len as usize;
+    let len = row.len;
     if name.len() != len {
         return false;
     }

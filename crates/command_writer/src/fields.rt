@@ -61,7 +61,7 @@ fn put_field<'a>(
 {
     let row = row_at(k);
     let name = row.name;
-    let len = row.len as usize;
+    let len = row.len;
     let kind = row.kind;
     match kind {
         Kind::Word(unknown, first, count) => {

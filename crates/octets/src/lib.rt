@@ -48,14 +48,16 @@ pub fn starts_with(s: &[u8], prefix: &[u8]) -> bool
 }
 
 // The first place at or after `from` where b stands in s; where there is none, the end of s, or
-// `from` where it lies past that.
+// `from` where it lies past that. Long blocks are passed first, and then short ones.
 pub fn find(s: &[u8], from: usize, b: u8) -> usize
     ensures { λ r. ⌜ r ≡ from + indexOf b (drop from (now (s .entry))) ⌝ }
 {
     if from > s.len() {
         return from;
     }
-    bytes::scan::find(s, blocks::pass(s, from, b), s.len(), b)
+    let far = blocks::pass(s, from, b, 128);
+    let near = blocks::pass(s, far, b, 32);
+    bytes::scan::find(s, near, s.len(), b)
 }
 
 // The n bytes of s from place `start` on, and none where they pass its end.

@@ -15,15 +15,19 @@ returns c = let a = c .before .before .args in rw (drop-end (a .s .now) (a .from
 pass-requires : tie.Need-pass-requires
 pass-requires c κs = search needs
 
+pass-requires-2 : tie.Need-pass-requires-2
+pass-requires-2 c κs = search needs
+
 find-requires : tie.Need-find-requires
 find-requires c κs = search needs
 
 returns-2 : tie.Need-returns-2
 unfolding slice
 returns-2 c =
-    let passed = c .before in
-    let s = passed .before .before .before .args .s .now in
-    c .find .ensures .0 ∙ rw (take-length s) (passed .pass .ensures .1)
+    let near = c .before in
+    let far = near .before in
+    let s = far .before .before .before .args .s .now in
+    c .find .ensures .0 ∙ rw (take-length s) (near .pass2 .ensures .1 ∙ far .pass .ensures .1)
 
 pub find-spec : {M : Type 1} → statement M
-find-spec = tie.close (tie.spec returns pass-requires find-requires returns-2)
+find-spec = tie.close (tie.spec returns pass-requires pass-requires-2 find-requires returns-2)

@@ -12,22 +12,19 @@ use Rattle.command.proofs.keys.is_named.Tie as tie
 
 -- the name and the row's, of one length
 abbrev given : tie.Else1 → List ℕ
-given c = c .before .before .before .args .name .now
+given c = c .before .before .args .name .now
 
 abbrev own : tie.Else1 → List ℕ
-own c = c .before .before .before .args .row .name
+own c = c .before .before .args .row .name
 
 abbrev len : tie.Else1 → ℕ
-len c = c .before .before .before .args .row .len
+len c = c .before .before .args .row .len
 
 abbrev sized : (c : tie.Else1) → length (take (len c) (own c)) ≡ len c
-sized c = c .before .before .before .pre .1
-
-cast-len : tie.Need-cast-len
-cast-len c = search needs
+sized c = c .before .before .pre .1
 
 returns : tie.Need-returns
-returns c = let s = c .before .before .before in sym (equals-lengths _ _ (λ e. c .if1 .taken (omega (arith, s .pre .1))))
+returns c = let s = c .before .before in sym (equals-lengths _ _ (λ e. c .if1 .taken (omega (arith, s .pre .1))))
 
 returns-2 : tie.Need-returns-2
 returns-2 c =
@@ -95,7 +92,6 @@ pub is-named-spec : {M : Type 1} → statement M
 is-named-spec =
     tie.close
     (tie.spec
-    cast-len
     returns
     returns-2
     shared-slice-read-if3

@@ -27,17 +27,14 @@ kinded c e = row-kind (c .before .before .before .before .args .k) (sym (ap (λ 
 row-at-requires : tie.Need-row-at-requires
 row-at-requires c κs = search needs
 
-cast-len : tie.Need-cast-len
-cast-len c = search needs
-
 enum-known-kind : tie.Need-enum-known-kind
 enum-known-kind c = search needs
 
 array-share-prefix-name : tie.Need-array-share-prefix-name
-array-share-prefix-name c = short (c .before .before .before .before .before)
+array-share-prefix-name c = short (c .before .before .before .before)
 
 slice-aggregate-word : tie.Need-slice-aggregate-word
-slice-aggregate-word c = sized (c .before .before .before .before .before .before)
+slice-aggregate-word c = sized (c .before .before .before .before .before)
 
 cast-word : tie.Need-cast-word
 cast-word c = search needs
@@ -48,16 +45,16 @@ cast-word-2 c = search needs
 word-requires : tie.Need-word-requires
 word-requires c κs =
     let kind = c .before .before .before in
-    let k = kinded (kind .before .before .before .before) (kind .kind .given .1) .counts in (k .0, k .1)
+    let k = kinded (kind .before .before .before) (kind .kind .given .1) .counts in (k .0, k .1)
 
 enum-known-kind-2 : tie.Need-enum-known-kind-2
 enum-known-kind-2 c = search needs
 
 array-share-prefix-name-2 : tie.Need-array-share-prefix-name-2
-array-share-prefix-name-2 c = short (c .before .before .before .before .before)
+array-share-prefix-name-2 c = short (c .before .before .before .before)
 
 slice-aggregate-safe : tie.Need-slice-aggregate-safe
-slice-aggregate-safe c = sized (c .before .before .before .before .before .before)
+slice-aggregate-safe c = sized (c .before .before .before .before .before)
 
 safe-requires : tie.Need-safe-requires
 safe-requires c κs = search needs
@@ -66,10 +63,10 @@ enum-told : tie.Need-enum-told
 enum-told c = search needs
 
 array-share-prefix-name-3 : tie.Need-array-share-prefix-name-3
-array-share-prefix-name-3 c = short (c .before .before .before .before)
+array-share-prefix-name-3 c = short (c .before .before .before)
 
 slice-aggregate-integer : tie.Need-slice-aggregate-integer
-slice-aggregate-integer c = sized (c .before .before .before .before .before)
+slice-aggregate-integer c = sized (c .before .before .before .before)
 
 integer-requires : tie.Need-integer-requires
 integer-requires c κs = search needs
@@ -78,10 +75,10 @@ enum-told-2 : tie.Need-enum-told-2
 enum-told-2 c = search needs
 
 array-share-prefix-name-4 : tie.Need-array-share-prefix-name-4
-array-share-prefix-name-4 c = short (c .before .before .before .before)
+array-share-prefix-name-4 c = short (c .before .before .before)
 
 slice-aggregate-base64 : tie.Need-slice-aggregate-base64
-slice-aggregate-base64 c = sized (c .before .before .before .before .before)
+slice-aggregate-base64 c = sized (c .before .before .before .before)
 
 base64-requires : tie.Need-base64-requires
 base64-requires c κs = search needs
@@ -94,7 +91,7 @@ unfolding shown
 returns c =
     let word = c .before .before in
     let kind = word .before .before .before .before in
-    let row = kind .before .before .before .before in
+    let row = kind .before .before .before in
     rw (← named row, kinded row (kind .kind .given .1) .kinded) (word .word .ensures)
 
 same-length-2 : tie.Need-same-length-2
@@ -104,7 +101,7 @@ returns-2 : tie.Need-returns-2
 returns-2 c =
     let safe = c .before .before in
     let kind = safe .before .before .before .before in
-    let row = kind .before .before .before .before in
+    let row = kind .before .before .before in
     rw (← named row, kinded row (kind .kind2 .given .1) .kinded) (safe .safe .ensures)
 
 same-length-3 : tie.Need-same-length-3
@@ -115,7 +112,7 @@ unfolding shown
 returns-3 c =
     let integer = c .before .before in
     let kind = integer .before .before .before in
-    let row = kind .before .before .before .before in
+    let row = kind .before .before .before in
     rw (← named row, kinded row (kind .enum-told .given .1) .kinded) (integer .integer .ensures)
 
 same-length-4 : tie.Need-same-length-4
@@ -125,7 +122,7 @@ returns-4 : tie.Need-returns-4
 returns-4 c =
     let base64 = c .before .before in
     let kind = base64 .before .before .before in
-    let row = kind .before .before .before .before in
+    let row = kind .before .before .before in
     rw (← named row, kinded row (kind .enum-told2 .given .1) .kinded) (base64 .base64 .ensures)
 
 pub put-field-spec : {M : Type 1} → statement M
@@ -133,7 +130,6 @@ put-field-spec =
     tie.close
     (tie.spec
     row-at-requires
-    cast-len
     enum-known-kind
     array-share-prefix-name
     slice-aggregate-word

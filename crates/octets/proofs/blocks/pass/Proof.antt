@@ -10,13 +10,13 @@ use Rattle.octets.proofs.blocks.pass.Statement.{statement}
 use Rattle.octets.proofs.blocks.pass.Tie as tie
 
 abbrev Inv-loop : tie.InvT-loop
-Inv-loop s from b i₀ i = (i ≤ length s) × (i + indexOf b (drop i s) ≡ from + indexOf b (drop from s))
+Inv-loop s from b n i₀ i = (i ≤ length s) × (i + indexOf b (drop i s) ≡ from + indexOf b (drop from s))
 
 abbrev μ-loop : tie.MeasureT-loop
-μ-loop s from b i₀ i = length s - i
+μ-loop s from b n i₀ i = length s - i
 
 loop-holds : tie.Need-loop-holds Inv-loop μ-loop
-loop-holds c = (c .before .pre, refl)
+loop-holds c = (c .before .pre .0, refl)
 
 sub-loop : tie.Need-sub-loop Inv-loop μ-loop
 sub-loop c = search needs
@@ -46,7 +46,7 @@ loop-again c =
     let l = turn .loop in
     let a = turn .before .before .args in (
       omega arith,
-      block-past (a .b) 128 (a .s .now) (l .i) (omega arith) (sym (told .clear .ensures) ∙ not-false _ (c .if1 .left)) ∙ l .inv .1,
+      block-past (a .b) (a .n) (a .s .now) (l .i) (omega arith) (sym (told .clear .ensures) ∙ not-false _ (c .if1 .left)) ∙ l .inv .1,
     )
 
 returns : tie.Need-returns Inv-loop μ-loop
