@@ -49,7 +49,8 @@ words-counted = refl
 module _ (k : ℕ) where
   pub row-name : take (rowOf (keyAt keys k) .len) (rowOf (keyAt keys k) .name) ≡ keyAt keys k .name
   row-name =
-      sym (List·getD-map (λ (x : Key). take (rowOf x .len) (rowOf x .name)) keys k nokey) ∙ List·getD-map (λ (x : Key). x .name) keys k nokey
+      sym (List·getD-map (λ (x : Key). take (rowOf x .len) (rowOf x .name)) keys k nokey)
+      ∙ List·getD-map (λ (x : Key). x .name) keys k nokey
 
   pub row-short : rowOf (keyAt keys k) .len ≤ 3
   row-short =

@@ -6,8 +6,10 @@ ghost use Prim.Native.Nat.{_≤_};
 ghost use lib.ListN.{length, take};
 ghost use Rattle.octets.specs.Slices.{equals};
 ghost use Rattle.command.specs.Keys as Keys;
-ghost use Rattle.command.specs.Rows.{rowOf};
+ghost use Rattle.command.specs.Rows.{rowOf, wordsOf};
 use crate::Refusal;
+use crate::words::part;
+use crate::words::place_in;
 
 // The kinds of values. Of words, the refusal of an unknown one, the code of the first and how many
 // there are; of a safe string, whether it is at most 32 bytes.
@@ -109,6 +111,13 @@ const ROWS: [Row; COUNT] = [
 // The words of each key, parted by blanks; of most there are none.
 pub const WORDS: [u8; 117] =
     *b"send receive file data end_data finish cancel status;none;regular directory symlink link;simple rsync;;;;0 1 2;;;;;;;";
+
+// The place of a word among the words of key k, and their number where it is not there.
+pub fn place_of(k: usize, v: &[u8]) -> usize
+    ensures { λ r. ⌜ r ≡ Keys.placeIn (wordsOf (Keys.kindAt Keys.keys k)) (now (v .entry)) ⌝ }
+{
+    place_in(part(&WORDS, b';', k), v)
+}
 
 // The row of the key with number k; of no key, one without a name.
 pub fn row_at(k: usize) -> Row

@@ -35,7 +35,8 @@ module _ (k : ℕ) (unknown : Refusal) (first : ℕ) (v : List ℕ) where
   abbrev ws : List (List ℕ)
   ws = wordsOf (kindAt keys k)
 
-  pub word-known : (n : ℕ) → n ≡ placeIn ws v → n < length ws → valueRead (wordAt k unknown first) v ≡ Got.got (Value.number (count (first + n)))
+  pub word-known : (n : ℕ) → n ≡ placeIn ws v → n < length ws
+      → valueRead (wordAt k unknown first) v ≡ Got.got (Value.number (count (first + n)))
   unfolding valueRead wordRead
   word-known n e h = rw (← e, lt-ltb n (length ws) h)
 

@@ -82,7 +82,8 @@ unsigned [] n = refl
 unsigned (x ∷ r) n = at (eqb x 59) refl (unsigned r)
   where
     letter : (b : Bool) → keyByte x ≡ b → Unsigned r
-        → (ltb (suc (indexOf 61 (fieldIn r))) (suc (length (fieldIn r))) && (b && every keyByte (take (indexOf 61 (fieldIn r)) (fieldIn r)))) ≡ false
+        → let i = indexOf 61 (fieldIn r) in
+        (ltb (suc i) (suc (length (fieldIn r))) && (b && every keyByte (take i (fieldIn r)))) ≡ false
     letter true q ih = rw (ltb-suc (indexOf 61 (fieldIn r)) (length (fieldIn r))) (ih (λ h e. rw q at n (omega arith) e))
     letter false q ih = and-false (ltb (suc (indexOf 61 (fieldIn r))) (suc (length (fieldIn r))))
 
@@ -112,7 +113,8 @@ module _ (t : List ℕ) (at end : ℕ) (h : at ≤ length t) (e : end ≡ at + i
 
       go : Dec (end < length t) → fieldsRead kept at (split 59 (drop at t)) s
           ≡ andThen (fieldRead kept at (fieldIn (drop at t)) s) (λ (s′ : Reader). left (end + 1) t s′)
-      go (yes l) = rw (cut-more 59 t at end h e (λ (q : end ≡ length t). omega arith), next, same, le-leb (end + 1) (length t) (omega arith))
+      go (yes l) =
+          rw (cut-more 59 t at end h e (λ (q : end ≡ length t). omega arith), next, same, le-leb (end + 1) (length t) (omega arith))
       go (no l) =
           rw (cut-last 59 t at end h e (omega (arith, cut-within 59 t at end h e)), same, lt-leb (end + 1) (length t) (omega arith))
 
@@ -142,7 +144,9 @@ module _ (t : List ℕ) (at sign : ℕ) (h : at ≤ length t) (q : sign ≡ at +
   unfolding isKey
   unsigned-left n =
       let f = fieldIn l in
-      none (bad (ltb (indexOf 61 f) (length f)) (ltb 0 (length (take (indexOf 61 f) f))) (every keyByte (take (indexOf 61 f) f)) (unsigned l (λ i e. n (omega (arith, length-drop at t)) (rw q (sym (getD-drop at t (run keyByte l) 0) ∙ e)))))
+      let k = take (indexOf 61 f) f in
+      let e = unsigned l (λ i e. n (omega (arith, length-drop at t)) (rw q (sym (getD-drop at t (run keyByte l) 0) ∙ e))) in
+      none (bad (ltb (indexOf 61 f) (length f)) (ltb 0 (length k)) (every keyByte k) e)
 
   module _ (i : sign < length t) (e : getD t sign 0 ≡ 61) where
     s61 : Signed l (run keyByte l)
@@ -164,7 +168,9 @@ module _ (t : List ℕ) (at sign : ℕ) (h : at ≤ length t) (q : sign ≡ at +
 
       -- the key by which the field is known, and its value
       name : take (run keyByte l) (fieldIn l) ≡ take (sign - at) l
-      name = let n : run keyByte l ≡ sign - at = omega arith in rw (take-take (run keyByte l) (indexOf 59 l) l (omega (arith, s61 .ends)), n)
+      name =
+          let n : run keyByte l ≡ sign - at = omega arith in
+          rw (take-take (run keyByte l) (indexOf 59 l) l (omega (arith, s61 .ends)), n)
 
       value : drop (run keyByte l + 1) (fieldIn l) ≡ take (end - (sign + 1)) (drop (sign + 1) t)
       value =
@@ -196,5 +202,6 @@ module _ (t : List ℕ) (at sign : ℕ) (h : at ≤ length t) (q : sign ≡ at +
         unknown-left k s = left-next t at end h ends s ∙ rw (here s, ← m, le-ltb n 15 k)
 
         pub known-left : n < 15 → (s : Reader)
-            → left at t s ≡ andThen (kept n (sign + 1) (take (end - (sign + 1)) (drop (sign + 1) t)) s) (λ (s′ : Reader). left (end + 1) t s′)
+            → left at t s
+            ≡ andThen (kept n (sign + 1) (take (end - (sign + 1)) (drop (sign + 1) t)) s) (λ (s′ : Reader). left (end + 1) t s′)
         known-left k s = left-next t at end h ends s ∙ rw (here s, ← m, lt-ltb n 15 k)

@@ -1,8 +1,7 @@
-// Slots: filled with values, and put together as a command.
+// Slots put together as a command.
 ghost use mathlib.Core.Path.{_≡_};
 ghost use Rattle.command.specs.Read as Read;
 ghost use Rattle.command.specs.Slots.{actionOf, fileTypeOf, transmissionOf, commandOf};
-ghost use Rattle.command.specs.Slots as Slots;
 use command::Action;
 use command::Command;
 use command::FileType;
@@ -12,16 +11,6 @@ use command::Refusal;
 use command::Slot;
 use command::Transmission;
 use decimal::Number;
-
-// The slot of a string, by its place.
-pub(crate) fn placed(start: usize, len: usize) -> Slot
-    ensures { λ r. ⌜ r ≡ Slots.placed (record { start = start; len = len }) ⌝ }
-{
-    Slot::placed(Place {
-        start: start,
-        len: len,
-    })
-}
 
 // The command of the slots, if it has an action and an id.
 pub(crate) fn complete(slots: [Slot; 15]) -> Reading

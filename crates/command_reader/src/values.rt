@@ -6,18 +6,16 @@ ghost use Rattle.command.specs.Keys as Keys;
 ghost use Rattle.command.specs.Rows.{wordsOf};
 ghost use Rattle.command.specs.Values.{base64Refusal};
 ghost use Rattle.command_reader.specs.Keeping.{wordAt, Plain, Keeps};
-use crate::slots::placed;
 use base64::Decoded;
 use base64::Fault;
+use command::Place;
 use command::Refusal;
 use command::Slot;
 use command::keys::Kind;
-use command::keys::WORDS;
+use command::keys::place_of;
 use command::keys::row_at;
 use command::letters;
 use command::letters::Class;
-use command::words::part;
-use command::words::place_in;
 use decimal::Parsed;
 
 // What a value is kept as: its slot, and how many bytes it stored in the scratch; or its refusal.
@@ -48,7 +46,7 @@ fn word(k: usize, unknown: Refusal, first: u64, count: u64, v: &[u8]) -> Kept
     requires { ⌜ (first ≤ 1) × (length (wordsOf (Keys.kindAt Keys.keys k)) ≡ count) × (count ≤ 8) ⌝ }
     ensures { λ r. ⌜ ((at : ℕ) → Plain (wordAt k unknown first) at (now (v .entry)) r) ⌝ }
 {
-    let n = place_in(part(&WORDS, b';', k), v) as u64;
+    let n = place_of(k, v) as u64;
     if n < count {
         return Kept::Slot(Slot::coded(first + n), 0);
     }
@@ -72,7 +70,11 @@ fn safe(short: bool, at: usize, v: &[u8]) -> Kept
             return Kept::Refused(Refusal::TooLong);
         }
     }
-    Kept::Slot(placed(at, v.len()), 0)
+    let place = Place {
+        start: at,
+        len: v.len(),
+    };
+    Kept::Slot(Slot::placed(place), 0)
 }
 
 fn integer(v: &[u8]) -> Kept
@@ -91,7 +93,13 @@ fn base64(v: &[u8], scratch: &mut [u8], used: usize) -> Kept
     ensures { λ r. ⌜ ((at : ℕ) → Keeps Keys.base64 at (now (v .entry)) (now (scratch .entry)) used r (now (scratch .exit))) ⌝ }
 {
     match base64::decode(v, scratch, used) {
-        Decoded::Length(n) => Kept::Slot(placed(used, n), n),
+        Decoded::Length(n) => {
+            let place = Place {
+                start: used,
+                len: n,
+            };
+            Kept::Slot(Slot::placed(place), n)
+        }
         Decoded::Invalid(fault) => Kept::Refused(base64_refusal(fault)),
         Decoded::NoRoom => Kept::Refused(Refusal::ShortBuffer),
     }

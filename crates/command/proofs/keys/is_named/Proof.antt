@@ -29,7 +29,8 @@ returns c = let s = c .before .before in sym (equals-lengths _ _ (λ e. c .if1 .
 returns-2 : tie.Need-returns-2
 returns-2 c =
     let e = c .before in
-    rw (same-start (given e) (own e) (len e) (e .if1 .left) (sized e), same-end (given e) (own e) (len e) (e .if1 .left) (sized e) 0 (omega arith))
+    let start = same-start (given e) (own e) (len e) (e .if1 .left) (sized e) in
+    rw (start, same-end (given e) (own e) (len e) (e .if1 .left) (sized e) 0 (omega arith))
 
 shared-slice-read-if3 : tie.Need-shared-slice-read-if3
 shared-slice-read-if3 c = search needs
@@ -41,14 +42,16 @@ returns-3 : tie.Need-returns-3
 returns-3 c =
     let e = c .before .before .before in
     let at = same-at (given e) (own e) (len e) (e .if1 .left) (sized e) in
-    rw (same-start (given e) (own e) (len e) (e .if1 .left) (sized e), at 0 (omega arith), ne-eqb _ _ (c .if3 .taken))
+    let start = same-start (given e) (own e) (len e) (e .if1 .left) (sized e) in
+    rw (start, at 0 (omega arith), ne-eqb _ _ (c .if3 .taken))
 
 returns-4 : tie.Need-returns-4
 returns-4 c =
     let e = c .before .before .before .before in
     let at = same-at (given e) (own e) (len e) (e .if1 .left) (sized e) in
     let end = same-end (given e) (own e) (len e) (e .if1 .left) (sized e) in
-    rw (same-start (given e) (own e) (len e) (e .if1 .left) (sized e), at 0 (omega arith), eq-eqb _ _ (c .before .if3 .left), end 1 (omega arith))
+    let start = same-start (given e) (own e) (len e) (e .if1 .left) (sized e) in
+    rw (start, at 0 (omega arith), eq-eqb _ _ (c .before .if3 .left), end 1 (omega arith))
 
 shared-slice-read-if5 : tie.Need-shared-slice-read-if5
 shared-slice-read-if5 c = search needs
@@ -61,7 +64,8 @@ returns-5 c =
     let e = c .before .before .before .before .before .before in
     let at = same-at (given e) (own e) (len e) (e .if1 .left) (sized e) in
     let first = eq-eqb _ _ (c .before .before .before .if3 .left) in
-    rw (same-start (given e) (own e) (len e) (e .if1 .left) (sized e), at 0 (omega arith), first, at 1 (omega arith), ne-eqb _ _ (c .if5 .taken))
+    let start = same-start (given e) (own e) (len e) (e .if1 .left) (sized e) in
+    rw (start, at 0 (omega arith), first, at 1 (omega arith), ne-eqb _ _ (c .if5 .taken))
 
 returns-6 : tie.Need-returns-6
 returns-6 c =
@@ -70,7 +74,8 @@ returns-6 c =
     let end = same-end (given e) (own e) (len e) (e .if1 .left) (sized e) in
     let first = eq-eqb _ _ (c .before .before .before .before .if3 .left) in
     let second = eq-eqb _ _ (c .before .if5 .left) in
-    rw (same-start (given e) (own e) (len e) (e .if1 .left) (sized e), at 0 (omega arith), first, at 1 (omega arith), second, end 2 (omega arith))
+    let start = same-start (given e) (own e) (len e) (e .if1 .left) (sized e) in
+    rw (start, at 0 (omega arith), first, at 1 (omega arith), second, end 2 (omega arith))
 
 shared-slice-read-result : tie.Need-shared-slice-read-result
 shared-slice-read-result c = search needs
@@ -85,7 +90,8 @@ returns-7 c =
     let end = same-end (given e) (own e) (len e) (e .if1 .left) (sized e) 3 (omega arith) in
     let first = eq-eqb _ _ (c .before .before .before .before .before .if3 .left) in
     let second = eq-eqb _ _ (c .before .before .if5 .left) in
-    rw (same-start (given e) (own e) (len e) (e .if1 .left) (sized e), at 0 (omega arith), first, at 1 (omega arith), second, at 2 (omega arith), end)
+    let start = same-start (given e) (own e) (len e) (e .if1 .left) (sized e) in
+    rw (start, at 0 (omega arith), first, at 1 (omega arith), second, at 2 (omega arith), end)
     (chosen _)
 
 pub is-named-spec : {M : Type 1} → statement M

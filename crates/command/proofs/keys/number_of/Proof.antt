@@ -22,7 +22,8 @@ told : (c : tie.After-is-named Inv-loop μ-loop) → let l = c .before .before .
 unfolding split onto
 told c =
     let l = c .before .before .before in
-    c .is-named .ensures ∙ rw (row-there (l .loop .k) _ (omega arith)) (ap (equals (l .before .before .args .name .now)) (row-name (l .loop .k)))
+    c .is-named .ensures
+    ∙ rw (row-there (l .loop .k) _ (omega arith)) (ap (equals (l .before .before .args .name .now)) (row-name (l .loop .k)))
 
 loop-holds : tie.Need-loop-holds Inv-loop μ-loop
 loop-holds c = (omega arith, omega arith)

@@ -39,15 +39,18 @@ named c e = rw e at (c .next-field .ensures)
 
 -- what is kept of a value is what `keep` answered
 told : (c : tie.After-keep Inv-loop μ-loop) → let key = c .before .before .before .before .before .before in
-    let field = key .before .before in let n = key .n .given .0 .0 in let from = key .n .given .0 .1 .0 in let end = key .n .given .0 .1 .1 .0 in
-    keptIn n (so-far field) (c .keep .last .1 .1 .1 .0) (c .keep .result) ≡ kept n from (take (end - from) (drop from (text field))) (so-far field)
+    let field = key .before .before in
+    let n = key .n .given .0 .0 in let from = key .n .given .0 .1 .0 in let end = key .n .given .0 .1 .1 .0 in
+    keptIn n (so-far field) (c .keep .last .1 .1 .1 .0) (c .keep .result)
+    ≡ kept n from (take (end - from) (drop from (text field))) (so-far field)
 unfolding kept
 told c =
     let key = c .before .before .before .before .before .before in
     rw (c .before .before .before .if1 .left) (c .keep .ensures (key .n .given .0 .0) (so-far (key .before .before) .slots))
 
 room : (c : tie.After-keep Inv-loop μ-loop) → let key = c .before .before .before .before .before .before in
-    let field = key .before .before in let n = key .n .given .0 .0 in let from = key .n .given .0 .1 .0 in let end = key .n .given .0 .1 .1 .0 in
+    let field = key .before .before in
+    let n = key .n .given .0 .0 in let from = key .n .given .0 .1 .0 in let end = key .n .given .0 .1 .1 .0 in
     Within (4 * so-far field .used + 3 * length (take (end - from) (drop from (text field))))
     (keptIn n (so-far field) (c .keep .last .1 .1 .1 .0) (c .keep .result))
 room c =

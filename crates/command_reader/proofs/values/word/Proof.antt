@@ -1,40 +1,23 @@
-use Prim.Native.Nat.{ℕ, _≤_}
-use mathlib.Core.Path.{_≡_, sym, _∙_, ap}
-use mathlib.Core.List.{List}
+use Prim.Native.Nat.{_≤_}
+use mathlib.Core.Path.{sym, _∙_}
 use native.Mathlib.Omega.{arith}
 use lib.ListN.{length}
 use borrow.Author.Needs.{needs}
-use Rattle.octets.specs.Split.{split, onto, join}
 use Rattle.command.specs.Keys.{keys, kindAt, placeIn}
 use Rattle.command.specs.Rows.{wordsOf}
-use Rattle.command.proofs.Names.{row-words}
 use Rattle.command_reader.proofs.Answers.{word-known, word-alias, word-other, word-unknown}
 use Rattle.command_reader.proofs.values.word.Statement.{statement}
 use Rattle.command_reader.proofs.values.word.Tie as tie
 
--- the place of the value among the words of the key
-place : (c : tie.After-place-in) → let a = c .before .before .before .before .args in
-    c .place-in .result ≡ placeIn (wordsOf (kindAt keys (a .k))) (a .v .now)
-unfolding split onto join
-place c =
-    let a = c .before .before .before .before .args in
-    c .place-in .ensures ∙ ap (λ (ws : List (List ℕ)). placeIn ws (a .v .now)) (row-words (a .k) _ (c .before .part .ensures))
-
 -- a value that is none of them
-over : (c : tie.Else1) → let a = c .before .before .before .before .before .args in
+over : (c : tie.Else1) → let a = c .before .before .before .args in
     let ws = wordsOf (kindAt keys (a .k)) in length ws ≤ placeIn ws (a .v .now)
 over c =
     let found = c .before in
-    omega (arith, place found, c .if1 .left, found .before .before .before .before .pre .1)
+    omega (arith, found .place-of .ensures, c .if1 .left, found .before .before .pre .1)
 
-slice-aggregate-part : tie.Need-slice-aggregate-part
-slice-aggregate-part c = search needs
-
-part-requires : tie.Need-part-requires
-part-requires c κs = search needs
-
-place-in-requires : tie.Need-place-in-requires
-place-in-requires c κs = search needs
+place-of-requires : tie.Need-place-of-requires
+place-of-requires c κs = search needs
 
 add-coded : tie.Need-add-coded
 add-coded c = search needs
@@ -46,9 +29,9 @@ returns : tie.Need-returns
 returns c =
     let known = c .before in
     let found = known .before in
-    let entry = found .before .before .before .before in
+    let entry = found .before .before in
     let a = entry .args in
-    let word = word-known (a .k) (a .unknown) (a .first) (a .v .now) (found .place-in .result) (place found) in
+    let word = word-known (a .k) (a .unknown) (a .first) (a .v .now) (found .place-of .result) (found .place-of .ensures) in
     λ at scratch used n slots. rw (c .coded .ensures, word (omega (arith, known .if1 .taken, entry .pre .1)))
 
 slice-aggregate-equal : tie.Need-slice-aggregate-equal
@@ -63,7 +46,7 @@ coded-requires-2 c κs = search needs
 returns-2 : tie.Need-returns-2
 returns-2 c =
     let found = c .before .before .before .before .before .before in
-    let a = found .before .before .before .before .args in
+    let a = found .before .before .args in
     let e = sym (c .before .before .equal .ensures) ∙ c .before .if3 .taken in
     let alias = word-alias (a .k) (a .unknown) (a .first) (a .v .now) (over (c .before .before .before .before .before)) in
     λ at scratch used n slots. rw (c .coded2 .ensures, alias (c .before .before .before .before .if2 .taken) e)
@@ -71,7 +54,7 @@ returns-2 c =
 returns-3 : tie.Need-returns-3
 returns-3 c =
     let found = c .before .before .before .before .before in
-    let a = found .before .before .before .before .args in
+    let a = found .before .before .args in
     let e = sym (c .before .equal .ensures) ∙ c .if3 .left in
     let other = word-other (a .k) (a .unknown) (a .first) (a .v .now) (over (c .before .before .before .before)) in
     λ at scratch used n slots. rw (other (c .before .before .before .if2 .taken) e)
@@ -79,7 +62,7 @@ returns-3 c =
 returns-4 : tie.Need-returns-4
 returns-4 c =
     let found = c .before .before in
-    let a = found .before .before .before .before .args in
+    let a = found .before .before .args in
     let unknown = word-unknown (a .k) (a .unknown) (a .first) (a .v .now) (over (c .before)) in
     λ at scratch used n slots. rw (unknown (omega (arith, c .if2 .left)))
 
@@ -87,9 +70,7 @@ pub word-spec : {M : Type 1} → statement M
 word-spec =
     tie.close
     (tie.spec
-    slice-aggregate-part
-    part-requires
-    place-in-requires
+    place-of-requires
     add-coded
     coded-requires
     returns

@@ -12,7 +12,8 @@ use Rattle.command_writer.proofs.fields.put_field.Statement.{statement}
 use Rattle.command_writer.proofs.fields.put_field.Tie as tie
 
 -- the row has the key's name and tells its kind
-named : (c : tie.After-row-at) → let r = c .row-at .result in take (r .len) (r .name) ≡ keyAt keys (c .before .before .before .before .args .k) .name
+named : (c : tie.After-row-at) → let r = c .row-at .result in
+    take (r .len) (r .name) ≡ keyAt keys (c .before .before .before .before .args .k) .name
 named c = rw (c .row-at .ensures) (row-name (c .before .before .before .before .args .k))
 
 sized : (c : tie.After-row-at) → let r = c .row-at .result in r .len ≡ length (take (r .len) (r .name))

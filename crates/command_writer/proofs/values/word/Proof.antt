@@ -15,7 +15,8 @@ use Rattle.command_writer.proofs.values.word.Statement.{statement}
 use Rattle.command_writer.proofs.values.word.Tie as tie
 
 -- the word that is put is that of the key
-worded : (c : tie.After-part2) → let a = c .before .before .before .before .before .before .before .before .before .before .before .before .before .before .args in
+worded : (c : tie.After-part2) → let key = c .before .before .before .before .before in
+    let a = key .before .before .before .before .before .before .before .before .before .args in
     c .part2 .result .now ≡ getD (wordsOf (kindAt keys (a .k))) (a .n .magnitude - a .first) []
 unfolding split onto join
 worded c =
