@@ -14,7 +14,7 @@ use Rattle.octets.specs.Slices.{equals, startsWith}
 use Rattle.octets.specs.Split.{split, onto, join}
 use Rattle.octets.proofs.Below.{both-test}
 use Rattle.octets.proofs.Compare.{equals-starts, starts-at, starts-end}
-use Rattle.command.specs.Keys.{Alias, Key, key, keys, keyAt, kindAt, names, placeIn, numberOf}
+use Rattle.command.specs.Keys.{Alias, Key, key, keys, keyAt, kindAt, names, placeIn}
 use Rattle.command.specs.Keys as Keys
 use Rattle.command.specs.Rows.{kindOf, rowOf, wordsOf, wordText, aliasesOf}
 use Rattle.command.specs.declared.keys.Kind.{Kind}
@@ -66,7 +66,7 @@ module _ (k : ℕ) where
       ∙ ap (λ (d : List (List ℕ)). getD (map (λ (x : Key). wordsOf (x .kind)) keys) k d) words-none
       ∙ List·getD-map (λ (x : Key). wordsOf (x .kind)) keys k nokey
 
-  -- words count from 0 or from 1, and only the first key's have an alias
+  -- words count from 0 or from 1, and are eight at most
   row-counted : (leb (firstOf (kindAt keys k)) 1 && leb (length (wordsOf (kindAt keys k))) 8) ≡ true
   row-counted =
       sym (List·getD-map countedIn keys k nokey)

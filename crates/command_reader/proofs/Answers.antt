@@ -1,16 +1,13 @@
 -- What the code answers for a value is what is kept of it: an action, which may be an alias, and what `decode` answered.
 use Prim.Native.Nat.{ℕ, _+_, _*_, _≤_, _<_}
-use mathlib.Core.Path.{_≡_, refl, _∙_, ap}
-use mathlib.Core.Bool.{Bool, true, false, cond}
-use mathlib.Core.List.{List, [], _∷_}
+use mathlib.Core.Path.{_≡_, refl}
+use mathlib.Core.Bool.{true, false}
+use mathlib.Core.List.{List}
 use native.Mathlib.Omega.{arith}
 use lib.ListN.{length}
-use lib.Dec.{ltb}
 use borrow.Author.Tests.{le-leb, lt-ltb, le-ltb}
 use Rattle.octets.specs.Slices.{equals}
 use Rattle.octets.specs.Outcome.{Outcome}
-use Rattle.octets.specs.Split.{onto, split}
-use Rattle.octets.proofs.Compare.{equals-sound}
 use Rattle.base64.specs.Decode.{verdictOf, bytesOf, decodeOf, decodedBy}
 use Rattle.base64.specs.declared.Verdict.{Verdict}
 use Rattle.base64.specs.declared.Verdict.the-variants as Verdict
