@@ -19,4 +19,5 @@ pub mod SimulationSlots
 pub mod Simulation
 pub mod SimulationHeld
 pub mod RoundTrip
+pub mod Framed
 pub mod Examples

@@ -12,3 +12,4 @@ pub mod Slots
 pub mod Read
 pub mod Write
 pub mod RoundTrips
+pub mod Framed

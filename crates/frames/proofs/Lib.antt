@@ -9,3 +9,4 @@ mod Runs
 mod Modes
 pub mod Follows
 pub mod Cuts
+pub mod Framed

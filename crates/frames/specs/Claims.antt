@@ -1,9 +1,11 @@
 -- What holds of every list of scans, by the definition that the contract of `scan` cites.
 use Prim.Native.Nat.{ℕ, _<_, _≤_}
 use mathlib.Core.Path.{_≡_}
-use mathlib.Core.List.{List}
+use mathlib.Core.Bool.{true}
+use mathlib.Core.List.{List, [], _∷_}
 use lib.ListN.{length, take}
-use Rattle.frames.specs.Stream.{Mode, Told, textLimit, stream}
+use Rattle.octets.specs.Slices.{lacks}
+use Rattle.frames.specs.Stream.{Mode, Told, isCommand, textLimit, stream, framed}
 use Rattle.frames.specs.Framings.{cappedOf}
 use Rattle.frames.specs.Calls.{refusalNumber, scanOf}
 use Rattle.frames.specs.Follows.{carried, Follows, Calls}
@@ -42,3 +44,9 @@ RefusesShort =
     (length c < textLimit
     → (refusalNumber (s .answer .report) ≡ 9) × (s .answer .consumed ≡ 0) × (s .answer .framing ≡ f) × (s .buffer ≡ c))
     × (textLimit ≤ length c → refusalNumber (s .answer .report) ≡ 9 → ⊥)
+
+-- a command text without 1B, in its frame: the stream tells that text at the last byte, and nothing else, and is outside texts again
+abbrev pub FramedTells : Type 0
+FramedTells =
+    (t : List ℕ) → lacks 0x1B t ≡ true → isCommand t ≡ true → length t ≤ textLimit
+    → stream Mode.outside (framed t) ≡ (Told.command t ∷ [], Mode.outside)

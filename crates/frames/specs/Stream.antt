@@ -58,3 +58,7 @@ andThen ts r = (ts ++ r .0, r .1)
 unfoldable pub stream : Mode → List ℕ → List Told × Mode
 stream m [] = ([], m)
 stream m (b ∷ bs) = andThen (readByte m b .0) (stream (readByte m b .1) bs)
+
+-- a text in its frame: "Open: 1B 5D. Close: 1B 5C."
+abbrev pub framed : List ℕ → List ℕ
+framed t = 0x1B ∷ 0x5D ∷ t ++ 0x1B ∷ 0x5C ∷ []

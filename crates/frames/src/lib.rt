@@ -15,7 +15,7 @@ ghost use lib.ListN.{length};
 ghost use Rattle.octets.specs.Outcome.{outcome};
 ghost use Rattle.frames.specs.Stream.{textLimit};
 ghost use Rattle.frames.specs.Calls.{placeOf, reportOf, takenOf, scanOf, textOf};
-ghost use Rattle.frames.specs.Claims.{TellsTheStream, SameHoweverCut, Consumes, RefusesShort};
+ghost use Rattle.frames.specs.Claims.{TellsTheStream, SameHoweverCut, Consumes, RefusesShort, FramedTells};
 use carry::held_of;
 use carry::keep;
 use octets::size::less;
@@ -61,10 +61,11 @@ pub struct Scanned {
 }
 
 // Reads a piece through the first thing to report. What holds of every list of scans stands here too:
-// they tell what the stream of their bytes tells, however it is cut, and come to an end.
+// they tell what the stream of their bytes tells, however it is cut, and come to an end; and a command
+// text in its frame is told by the stream as it is.
 pub fn scan(framing: Framing, piece: &[u8], carry: &mut [u8]) -> Scanned
     ensures { λ r. ⌜ outcome r (now (carry .exit)) ≡ scanOf framing (now (piece .entry)) (now (carry .entry)) ⌝ }
-    ensures { λ _. ⌜ TellsTheStream × SameHoweverCut × Consumes × RefusesShort ⌝ }
+    ensures { λ _. ⌜ TellsTheStream × SameHoweverCut × Consumes × RefusesShort × FramedTells ⌝ }
 {
     if carry.len() < Framing::TEXT_LIMIT {
         return Scanned {

@@ -13,10 +13,11 @@ use Rattle.octets.specs.Ascii.{ascii}
 use Rattle.octets.specs.Outcome.{outcome}
 use Rattle.octets.proofs.Compare.{equals-refl}
 use Rattle.octets.proofs.Stores.{part-stored}
+use Rattle.frames.specs.Stream.{framed}
 use Rattle.command.specs.Letters.{safeByte}
 use Rattle.command.specs.Meaning.{Meaning, meaningOf}
 use Rattle.protocol.specs.Table.{idOf, fileIdOf}
-use Rattle.protocol.specs.Replies.{replyRoom, isHeld, fileReply, statusText, statusValues, framed, replyBytes, repliedOf}
+use Rattle.protocol.specs.Replies.{replyRoom, isHeld, fileReply, statusText, statusValues, replyBytes, repliedOf}
 use Rattle.protocol.specs.Files.{countLimit}
 use Rattle.protocol.specs.Calls.{replied}
 use Rattle.protocol.specs.Claim.{ClosingReply}

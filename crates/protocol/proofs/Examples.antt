@@ -5,12 +5,12 @@ use mathlib.Core.Option.{Option}
 use mathlib.Core.List.{List, [], _∷_, _++_}
 use lib.ListN.{length, take, drop, replicate}
 use Rattle.command.specs.Read.{scratchRoom}
-use Rattle.frames.specs.Stream.{textLimit}
+use Rattle.frames.specs.Stream.{textLimit, framed}
 use Rattle.octets.specs.Ascii.{ascii}
 use Rattle.octets.specs.Outcome.{Outcome}
 use Rattle.frames.specs.Calls.{textOf}
 use Rattle.protocol.specs.Table.{freshReceiver}
-use Rattle.protocol.specs.Replies.{replyRoom, fileReply, framed, replyBytes}
+use Rattle.protocol.specs.Replies.{replyRoom, fileReply, replyBytes}
 use Rattle.protocol.specs.Files.{countLimit, opening}
 use Rattle.protocol.specs.Sessions.{idIn, askedSession}
 use Rattle.protocol.specs.Calls.{Feeding, feedOf, allowOf, doneOf}

@@ -8,9 +8,10 @@ use lib.ListN.{length, take, length-take}
 use borrow.Author.Tests.{le-leb}
 use Rattle.octets.specs.Outcome.{outcome}
 use Rattle.octets.proofs.Stores.{part-stored}
+use Rattle.frames.specs.Stream.{framed}
 use Rattle.protocol.specs.Table.{idRoom}
 use Rattle.protocol.specs.Files.{countLimit}
-use Rattle.protocol.specs.Replies.{replyRoom, statusWord, isHeld, statusText, framed, replyBytes, repliedOf}
+use Rattle.protocol.specs.Replies.{replyRoom, statusWord, isHeld, statusText, replyBytes, repliedOf}
 use Rattle.protocol.specs.declared.Reply.{Reply}
 use Rattle.protocol.proofs.StatusText.{status-length}
 

@@ -16,6 +16,7 @@ use Rattle.decimal.specs.Write as Decimal
 use Rattle.decimal.proofs.Digits.{length-fixed}
 use Rattle.decimal.proofs.Texts.{text-length}
 use Rattle.decimal.proofs.Widths.{width-least}
+use Rattle.frames.specs.Stream.{framed}
 use Rattle.command.specs.Keys.{Kind, Key, keys, kindAt}
 use Rattle.command.specs.Letters.{safeByte, isByte}
 use Rattle.command.specs.Values.{Value, count, absent, Shown, textOr, wordShown, safeShown, integerShown, base64Shown, shown}
@@ -26,7 +27,7 @@ use Rattle.command.proofs.WrittenValues.{absent-shown}
 use Rattle.command.proofs.Accepted.{Accepted, accepted-writes}
 use Rattle.command.proofs.RoundTrip.{read-written}
 use Rattle.protocol.specs.Files.{countLimit}
-use Rattle.protocol.specs.Replies.{replyRoom, statusWord, unlessEmpty, sizeText, statusFields, statusText, statusValues, framed}
+use Rattle.protocol.specs.Replies.{replyRoom, statusWord, unlessEmpty, sizeText, statusFields, statusText, statusValues}
 use Rattle.protocol.specs.Promises.{EveryStatus}
 use Rattle.protocol.specs.declared.Status.{Status}
 use Rattle.protocol.specs.declared.Status.the-variants as Status

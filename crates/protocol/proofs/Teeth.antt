@@ -7,8 +7,8 @@ use mathlib.Core.List.{List, [], _∷_, _++_}
 use native.Mathlib.Omega.{arith}
 use lib.ListN.{length, take}
 use Rattle.octets.specs.Ascii.{ascii}
+use Rattle.frames.specs.Stream.{framed}
 use Rattle.protocol.specs.Table.{freshReceiver, emptyTable, sessionAt, fileAt, isPresent, total, startedShare}
-use Rattle.protocol.specs.Replies.{framed}
 use Rattle.protocol.specs.Sessions.{settleFailed}
 use Rattle.protocol.specs.Rule.{failedBy}
 use Rattle.protocol.specs.Calls.{dropOf, failedOf}

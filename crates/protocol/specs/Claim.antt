@@ -10,10 +10,10 @@ use lib.Dec.{eqb}
 use Rattle.octets.specs.Ascii.{ascii}
 use Rattle.octets.specs.Slices.{equals}
 use Rattle.octets.specs.Outcome.{Outcome}
+use Rattle.frames.specs.Stream.{framed}
 use Rattle.command.specs.Meaning.{Meaning, meaningOf, actionCode, idOf, fileIdOf, sizeOf, statusOf}
 use Rattle.command.specs.Values.{count}
 use Rattle.protocol.specs.Table as Table
-use Rattle.protocol.specs.Replies.{framed}
 use Rattle.protocol.specs.History.{Command, Heard, Mark, marksOf, Question, lastAsk}
 use Rattle.protocol.specs.Stretches.{Key, isFor, isFile, isDirectory, declaredIn, Stretch, since, parts, contents, startStands}
 use Rattle.protocol.specs.Stretches.{AllStand}

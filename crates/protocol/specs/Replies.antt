@@ -9,6 +9,7 @@ use Rattle.octets.specs.Split.{join}
 use Rattle.octets.specs.Outcome.{Outcome, storedAt}
 use Rattle.base64.specs.Encode as Base64
 use Rattle.decimal.specs.Write as Decimal
+use Rattle.frames.specs.Stream.{framed}
 use Rattle.command.specs.Values.{Value, count}
 use Rattle.protocol.specs.Table.{zeros}
 use Rattle.protocol.specs.declared.FileRecord.{FileRecord}
@@ -120,10 +121,6 @@ statusValues id file size word =
     ∷ Value.bytes id ∷ Value.bytes file ∷ Value.bytes [] ∷ Value.number (count 0)
     ∷ Value.number (count 0) ∷ Value.number (count 0) ∷ Value.number (count size)
     ∷ Value.bytes [] ∷ Value.bytes word ∷ Value.bytes [] ∷ Value.bytes [] ∷ []
-
--- "Open: 1B 5D. Close: 1B 5C."
-abbrev pub framed : List ℕ → List ℕ
-framed t = 0x1B ∷ 0x5D ∷ t ++ 0x1B ∷ 0x5C ∷ []
 
 -- the bytes of a reply: none where none is due or quiet holds it back
 unfoldable pub replyBytes : Reply → List ℕ

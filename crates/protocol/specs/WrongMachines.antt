@@ -7,9 +7,9 @@ use lib.ListN.{length}
 use Rattle.octets.specs.Ascii.{ascii}
 use Rattle.octets.specs.Outcome.{Outcome, outcome}
 use Rattle.octets.specs.Slices.{equals}
+use Rattle.frames.specs.Stream.{framed}
 use Rattle.frames.specs.declared.Framing.the-variants as Framing
 use Rattle.protocol.specs.Table.{freeFile, sessionAt, fileAt, putSession, putFile, moved, withState}
-use Rattle.protocol.specs.Replies.{framed}
 use Rattle.protocol.specs.Calls.{Feeding, feedOf, allowOf, denyOf, dropOf, doneOf, failedOf}
 use Rattle.protocol.specs.Machine.{Machine, isUnfed}
 use Rattle.protocol.specs.Sound.{EverySound}

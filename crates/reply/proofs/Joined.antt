@@ -8,7 +8,8 @@ use lib.ListN.{length, length-append, take}
 use Rattle.octets.specs.Ascii.{ascii}
 use Rattle.octets.specs.Split.{join}
 use Rattle.base64.specs.Encode as Base64
-use Rattle.protocol.specs.Replies.{statusWord, isHeld, unlessEmpty, sizeText, statusText, framed, replyBytes}
+use Rattle.frames.specs.Stream.{framed}
+use Rattle.protocol.specs.Replies.{statusWord, isHeld, unlessEmpty, sizeText, statusText, replyBytes}
 use Rattle.protocol.specs.declared.Reply.{Reply}
 use Rattle.reply.specs.Parts.{keyFor, partsOf, joined}
 

@@ -2,15 +2,16 @@ use mathlib.Core.Path.{_∙_, sym}
 use borrow.Author.Needs.{needs}
 use Rattle.octets.proofs.Tests.{tests}
 use Rattle.frames.specs.Calls.{scanOf}
-use Rattle.frames.specs.Claims.{TellsTheStream, SameHoweverCut, Consumes, RefusesShort}
+use Rattle.frames.specs.Claims.{TellsTheStream, SameHoweverCut, Consumes, RefusesShort, FramedTells}
 use Rattle.frames.proofs.CallLaws.{call-taken, consumes, refuses-short}
 use Rattle.frames.proofs.Follows.{tells-the-stream}
 use Rattle.frames.proofs.Cuts.{cuts}
+use Rattle.frames.proofs.Framed.{stream-framed}
 use Rattle.frames.proofs.scan.Statement.{statement}
 use Rattle.frames.proofs.scan.Tie as tie
 
-claims : TellsTheStream × SameHoweverCut × Consumes × RefusesShort
-claims = (tells-the-stream, cuts, consumes, refuses-short)
+claims : TellsTheStream × SameHoweverCut × Consumes × RefusesShort × FramedTells
+claims = (tells-the-stream, cuts, consumes, refuses-short, stream-framed)
 
 returns : tie.Need-returns
 unfolding scanOf

@@ -1,0 +1,33 @@
+-- A command text in its frame, as the stream reads it.
+use Prim.Native.Nat.{ℕ, suc}
+use mathlib.Core.Path.{_≡_, refl, sym, _∙_}
+use mathlib.Core.Bool.{Bool, true, false}
+use mathlib.Core.List.{List, [], _∷_, _++_, append-nil}
+use native.Mathlib.Omega.{arith}
+use lib.ListN.{length}
+use lib.Seq.{append-snoc}
+use lib.Dec.{eqb}
+use borrow.Author.Tests.{le-leb, eqb-true}
+use Rattle.bytes.specs.Bytes.{indexOf, indexAfter}
+use Rattle.octets.proofs.Finds.{index-le}
+use Rattle.frames.specs.Stream.{Mode, Told, closedTells, readByte, stream}
+use Rattle.frames.specs.Claims.{FramedTells}
+
+-- the bytes of a text after those of `before`, none of them 1B, and its closer
+in-frame : (before t : List ℕ) → indexOf 0x1B t ≡ length t
+    → stream (Mode.inside before) (t ++ 0x1B ∷ 0x5C ∷ []) ≡ (closedTells (before ++ t), Mode.outside)
+unfolding stream readByte indexOf indexAfter
+in-frame before [] h = rw (append-nil, append-nil)
+in-frame before (b ∷ t) h = go (eqb b 0x1B) refl h (in-frame (before ++ (b ∷ [])) t)
+  where
+    go : (u : Bool) → eqb b 0x1B ≡ u → indexAfter u (indexOf 0x1B t) ≡ suc (length t)
+        → (indexOf 0x1B t ≡ length t
+        → stream (Mode.inside (before ++ (b ∷ []))) (t ++ 0x1B ∷ 0x5C ∷ []) ≡ (closedTells ((before ++ (b ∷ [])) ++ t), Mode.outside))
+        → stream (Mode.inside before) (b ∷ t ++ 0x1B ∷ 0x5C ∷ []) ≡ (closedTells (before ++ b ∷ t), Mode.outside)
+    go true e l ih = absurd (omega arith)
+    go false e l ih = rw (e, ih (omega arith), append-snoc before b t)
+
+pub stream-framed : FramedTells
+unfolding stream readByte
+stream-framed t plain command short =
+    in-frame [] t (eqb-true _ _ plain) ∙ rw (command, le-leb _ _ short)
