@@ -4,3 +4,4 @@ pub mod Checks
 pub mod Turns
 pub mod Canons
 pub mod Ways
+pub mod Frames

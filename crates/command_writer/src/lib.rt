@@ -3,6 +3,7 @@
 // The fields are gone through twice: first with an empty buffer, which checks every field and
 // measures the text, and then, if nothing is at fault and the text fits, to store it.
 mod fields;
+pub mod framed;
 mod slots;
 mod store;
 mod values;

@@ -1,0 +1,4 @@
+pub mod Transfers
+pub mod Commands
+pub mod Heeding
+pub mod Calls
