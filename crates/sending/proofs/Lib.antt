@@ -1,1 +1,13 @@
-
+mod Examples
+mod LongIds
+mod ShortIds
+mod Firsts
+mod Ways
+mod Kept
+mod KeptWrites
+mod KeptPieces
+mod KeptReads
+mod Sizes
+mod Heeds
+mod Hears
+mod EveryCall

@@ -34,9 +34,13 @@ wordOf st =
     (cond (equals st (ascii "STARTED")) Word.Going
     (cond (equals st (ascii "PROGRESS")) Word.Going Word.Other))
 
--- "without fid the session": its OK, while that is waited for, allows the sender to write on; another one is only noted
+-- the session's OK: while it is waited for, it allows the sender to write on; another one is only noted
+abbrev pub allowHeed : Transfer → Heeded
+allowHeed t = cond (isWaiting (t .stage)) (heeded (withStage t Stage.Open) News.Allowed) (heeded t News.Noted)
+
+-- "without fid the session"
 unfoldable pub sessionHeed : Transfer → Place → Word → Heeded
-sessionHeed t p Word.Ok = cond (isWaiting (t .stage)) (heeded (withStage t Stage.Open) News.Allowed) (heeded t News.Noted)
+sessionHeed t p Word.Ok = allowHeed t
 sessionHeed t p Word.Going = heeded t News.Noted
 sessionHeed t p Word.Other = heeded (withStage t Stage.Stopped) (News.SessionStopped p)
 
@@ -50,12 +54,14 @@ okHeed t i z =
     let f = fileAt t i in
     cond (isCount z (f .sent)) (heeded (putFile t i (moved f (closedStage (f .stage)) (f .sent))) News.Noted) (heeded t (News.Differs i z))
 
+abbrev pub stopHeed : Transfer → ℕ → Place → Heeded
+stopHeed t i p = let f = fileAt t i in heeded (putFile t i (moved f FileStage.Stopped (f .sent))) (News.FileStopped i p)
+
 -- "stops a file .. on any status but OK, STARTED, PROGRESS"
 unfoldable pub fileHeed : Transfer → ℕ → Number → Place → Word → Heeded
 fileHeed t i z p Word.Ok = okHeed t i z
 fileHeed t i z p Word.Going = heeded t News.Noted
-fileHeed t i z p Word.Other =
-    let f = fileAt t i in heeded (putFile t i (moved f FileStage.Stopped (f .sent))) (News.FileStopped i p)
+fileHeed t i z p Word.Other = stopHeed t i p
 
 -- a status for a file that is none of this sender's is ignored
 unfoldable pub foundHeed : Transfer → Number → Place → Word → Found → Heeded

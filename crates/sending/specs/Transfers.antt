@@ -1,6 +1,6 @@
 -- The sender's session: room, ids, finding a file, and what becomes of the session and of a file of it.
 use Prim.Native.Nat.{ℕ, _+_, _-_, min}
-use mathlib.Core.Bool.{Bool, true, false, cond, _&&_}
+use mathlib.Core.Bool.{Bool, true, false, _&&_}
 use mathlib.Core.List.{List}
 use lib.ListN.{length, take, getD, set, replicate}
 use Rattle.octets.specs.Slices.{equals}

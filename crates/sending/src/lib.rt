@@ -5,6 +5,9 @@
 // are in `sender`.
 ghost use mathlib.Core.Path.{_≡_};
 ghost use Rattle.sending.specs.Transfers.{freshSender};
+ghost use Rattle.sending.specs.Examples.{AllRun, examples};
+ghost use Rattle.sending.specs.Claims.{LongIdAsWritten};
+ghost use Rattle.sending.specs.Every.{EverySender};
 use command::Place;
 use decimal::Number;
 use frames::Framing;
@@ -131,9 +134,10 @@ impl Transfer {
 }
 
 impl Sender {
-    // Nothing is written and nothing heard.
+    // Nothing is written and nothing heard. What holds at each call of every list of calls from here, what
+    // a long file id gets, and the examples stand here too, so that nobody can drop a theorem unseen.
     pub fn fresh() -> Sender
-        ensures { λ r. ⌜ r ≡ freshSender ⌝ }
+        ensures { λ r. ⌜ (r ≡ freshSender) × EverySender × LongIdAsWritten × AllRun examples ⌝ }
     {
         Sender {
             framing: Framing::Plain,

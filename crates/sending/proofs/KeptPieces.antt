@@ -1,0 +1,102 @@
+-- A piece that is written keeps it.
+use Prim.Native.Nat.{ℕ, suc, _+_, _<_, min}
+use mathlib.Core.Path.{_≡_, refl, sym, _∙_}
+use mathlib.Core.Bool.{Bool, true, false}
+use mathlib.Core.List.{List, _∷_}
+use native.Mathlib.Omega.{arith}
+use native.Mathlib.Decide.{ℕ-discrete}
+use lib.ListN.{length, getD, set, length-set}
+use lib.Seq.{getD-set-same, getD-set-other}
+use Rattle.octets.specs.Slices.{equals}
+use Rattle.octets.proofs.Below.{both-test}
+use Rattle.octets.proofs.Compare.{equals-refl, equals-sound}
+use Rattle.protocol.specs.declared.Found.{Found}
+use Rattle.protocol.specs.declared.Found.the-variants as Found
+use Rattle.protocol.proofs.Laws.{first-at}
+use Rattle.sending.specs.Transfers.{freeFile, currentPlace, idOf, fileIdOf, isKnown, hasFileId}
+use Rattle.sending.specs.Transfers.{isSending, moved, sentLimit, grown, pieceStage, added}
+use Rattle.sending.specs.Story.{Mark}
+use Rattle.sending.specs.Every.{sumIn, someRead}
+use Rattle.sending.specs.declared.SentFile.{SentFile}
+use Rattle.sending.specs.declared.Transfer.{Transfer}
+use Rattle.sending.proofs.Firsts.{first-same}
+use Rattle.sending.proofs.Kept.{Counted, FileOK, found, CurrentOK, Kept}
+use Rattle.sending.proofs.KeptWrites.{found-same, not-found, same-session}
+
+piece-known : (last : Bool) → isKnown (pieceStage last) ≡ true
+piece-known true = refl
+piece-known false = refl
+
+module _ {t : Transfer} {m : List Mark} (b : List ℕ) (last : Bool) (k : Kept t m) (c : ℕ) (n : t .count ≡ suc c)
+    (busy : isSending (getD (t .files) c freeFile .stage) ≡ true) where
+  abbrev fs : List SentFile
+  fs = t .files
+
+  abbrev file : SentFile
+  file = getD fs c freeFile
+
+  abbrev file′ : SentFile
+  file′ = moved file (pieceStage last) (grown (file .sent) (length b))
+
+  abbrev fs′ : List SentFile
+  fs′ = set fs c file′
+
+  o : CurrentOK fs m c
+  o = k .current c n
+
+  there : (c < length fs) × (hasFileId (fileIdOf file) file ≡ true)
+  there = first-at (hasFileId (fileIdOf file)) freeFile fs c (o .there)
+
+  here : getD fs′ c freeFile ≡ file′
+  here = getD-set-same fs c file′ freeFile (there .0)
+
+  alike : (j : List ℕ) → hasFileId j file′ ≡ hasFileId j file
+  alike j = rw (piece-known last, both-test (isKnown (file .stage)) _ (there .1) .0)
+
+  found-alike : (j : List ℕ) → found fs′ j ≡ found fs j
+  found-alike j = first-same (hasFileId j) freeFile fs c file′ (alike j)
+
+  -- what the piece adds for an id
+  other-sum : (j : List ℕ) → equals (fileIdOf file) j ≡ false → sumIn j (Mark.pieced b ∷ m) ≡ sumIn j m
+  other-sum j q = rw (o .filed, q) (omega arith)
+
+  new-file : (j : List ℕ) (f : Found) → found fs j ≡ f → FileOK fs m j f → FileOK fs′ (Mark.pieced b ∷ m) j f
+  unfolding someRead grown
+  new-file j Found.Nowhere e u =
+      record { filed = u .filed; none = other-sum j (apart (equals (fileIdOf file) j) refl) ∙ u .none; going = u .going }
+    where
+      apart : (x : Bool) → equals (fileIdOf file) j ≡ x → equals (fileIdOf file) j ≡ false
+      apart false q = q
+      apart true q = not-found {i = c} (sym e ∙ rw (← equals-sound (fileIdOf file) j q) (o .there))
+  new-file j (Found.At i) e u = go (ℕ-discrete i c)
+    where
+      go : Dec (i ≡ c) → Counted (Mark.pieced b ∷ m) j (getD fs′ i freeFile)
+      go (yes z) =
+          let p = first-at (hasFileId j) freeFile fs i e in
+          let q : hasFileId j file ≡ true = rw z at (p .1) in
+          let w : fileIdOf file ≡ j = equals-sound (fileIdOf file) j (both-test (isKnown (file .stage)) (equals (fileIdOf file) j) q .1) in
+          let s : sumIn j (Mark.pieced b ∷ m) ≡ length b + sumIn j m = rw (o .filed, w, equals-refl j) in
+          let old : file .sent ≡ min (sumIn j m) sentLimit = rw z at (u .counted) in
+          rw (z, here) (record { filed = u .filed; counted = rw s (omega arith); going = λ _. u .going (rw z busy) })
+      go (no z) =
+          let q : equals (fileIdOf file) j ≡ false = apart (equals (fileIdOf file) j) refl in
+          rw (getD-set-other fs c i file′ freeFile z)
+          (record { filed = u .filed; counted = rw (other-sum j q) (u .counted); going = u .going })
+        where
+          apart : (x : Bool) → equals (fileIdOf file) j ≡ x → equals (fileIdOf file) j ≡ false
+          apart false q = q
+          apart true q = absurd (z (found-same (sym e ∙ rw (← equals-sound (fileIdOf file) j q) (o .there))))
+
+  pub kept-pieced : Kept (added t (length b) last) (Mark.pieced b ∷ m)
+  unfolding someRead
+  kept-pieced =
+      let place : currentPlace t ≡ c = omega (arith, n) in
+      rw place (record {
+        sized = length-set fs c file′ ∙ k .sized;
+        session = same-session m (Mark.pieced b ∷ m) (idOf t) refl refl (λ q. q) (t .stage) (k .session);
+        files = λ j. rw (found-alike j) (new-file j (found fs j) refl (k .files j));
+        free = λ j h. rw (getD-set-other fs c j file′ freeFile (λ z. omega arith)) (k .free j h);
+        current = λ d q.
+            let z : d ≡ c = omega arith in
+            rw z (record { filed = rw here (o .filed); there = rw here (found-alike (fileIdOf file) ∙ o .there) });
+      })
