@@ -1,0 +1,3 @@
+mod GateLaws
+mod IdLaws
+mod ValueLaws
