@@ -5,30 +5,30 @@ use crate::script::{self, Op, Ops};
 use std::io::Write;
 
 pub const LONGEST_SCRIPT: usize = 65_536;
-const BAD: &[u8] = b"bad script\n";
+pub(crate) const BAD: &[u8] = b"bad script\n";
 const FILL: u8 = 0xa5;
 
 /// A buffer of which the first bytes are lent.
-struct Buffer<const N: usize> {
-    bytes: [u8; N],
+pub(crate) struct Buffer<const N: usize> {
+    pub bytes: [u8; N],
     lent: usize,
 }
 
 impl<const N: usize> Buffer<N> {
-    fn new() -> Self {
+    pub fn new() -> Self {
         Buffer { bytes: [FILL; N], lent: N }
     }
 
-    fn lend(&mut self) -> &mut [u8] {
+    pub fn lend(&mut self) -> &mut [u8] {
         &mut self.bytes[..self.lent]
     }
 
-    fn limit(&mut self, len: u16) {
+    pub fn limit(&mut self, len: u16) {
         self.lent = N.min(len as usize);
     }
 
     /// The sum of (i + 1) times byte i, modulo 65521.
-    fn sum(&self) -> u64 {
+    pub fn sum(&self) -> u64 {
         const BLOCK: usize = 256;
         let weigh = |sum: (u32, u32), (i, &b): (usize, &u8)| {
             (sum.0 + b as u32, sum.1 + (i as u32 + 1) * b as u32)
@@ -124,7 +124,7 @@ impl Console {
 
     /// The text of the latest feed's report.
     pub fn text(&mut self) -> &[u8] {
-        receiver::text(&self.piece, self.carry.lend(), &self.report)
+        receiver::text(&self.piece, self.carry.lend(), self.report.text)
     }
 
     /// The numbers of a session that is present.
@@ -201,7 +201,7 @@ fn told(told: &Told, out: &mut Vec<u8>) {
     out.extend_from_slice(word.as_bytes());
 }
 
-fn hex(bytes: &[u8], out: &mut Vec<u8>) {
+pub(crate) fn hex(bytes: &[u8], out: &mut Vec<u8>) {
     const DIGITS: &[u8; 16] = b"0123456789abcdef";
     if bytes.is_empty() {
         out.push(b'-');

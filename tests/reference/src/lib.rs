@@ -1,6 +1,8 @@
-//! An independent receiver, written from document 01, its readings, the orders' pages and the scripted console's paper.
+//! An independent receiver and sender, written from document 01, its readings, the orders' pages and the scripted console's paper.
 
 pub mod console;
+pub mod notation;
 pub mod receiver;
 pub mod replay;
 pub mod script;
+pub mod sender;

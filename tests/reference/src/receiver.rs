@@ -2,7 +2,7 @@
 
 pub mod base64;
 pub mod command;
-mod frames;
+pub(crate) mod frames;
 mod integer;
 pub mod name;
 #[cfg(test)]
@@ -27,7 +27,7 @@ pub const CARRY: usize = 8192;
 pub const SCRATCH: usize = 6144;
 pub const REPLY: usize = 124;
 
-/// Why a call or a text was refused, with the numbers of document 01 and, for values, of order 4.
+/// Why a call or a text was refused, with the numbers of document 01, for values of order 4, and of a sender's calls.
 #[derive(Clone, Copy, Debug, PartialEq)]
 #[repr(u8)]
 pub enum Refusal {
@@ -50,6 +50,10 @@ pub enum Refusal {
     AnswerOwed = 10,
     NothingOwed = 11,
     WrongSession = 12,
+    /// Order 1's: a call past a limit, or with an id that is taken.
+    PastLimit = 17,
+    /// Order 1's: a call that is not ready to be made.
+    NotReady = 18,
 }
 
 /// Where a reported text stands.
@@ -168,9 +172,9 @@ impl Default for Receiver {
     }
 }
 
-/// The text of a report, given the piece and the carry.
-pub fn text<'a>(piece: &'a [u8], carry: &'a [u8], report: &Answer) -> &'a [u8] {
-    let found = match report.text {
+/// The text of a report from its place, given the piece and the carry.
+pub fn text<'a>(piece: &'a [u8], carry: &'a [u8], place: Place) -> &'a [u8] {
+    let found = match place {
         Place::Nowhere => None,
         Place::Piece { start, len } => piece.get(start..start.saturating_add(len)),
         Place::Carry { len } => carry.get(..len),
@@ -199,9 +203,7 @@ impl Receiver {
             Found::TooLong => Answer { consumed, ..Answer::refused(Refusal::TooLong) },
             Found::Abandoned => Answer { consumed, ..Answer::refused(Refusal::Abandoned) },
             Found::Text(place) => {
-                let answer = Answer { text: place, ..Answer::default() };
-                let text = text(piece, carry, &answer);
-                let answer = match command::read(text, scratch) {
+                let answer = match command::read(text(piece, carry, place), scratch) {
                     Ok(command) => self.act(&command, scratch, reply),
                     Err(refusal) => Answer::refused(refusal),
                 };

@@ -1,5 +1,7 @@
 //! Scripts of the scripted console: operations and their bytes.
 
+use std::marker::PhantomData;
+
 /// The buffer that an operation limits.
 #[derive(Clone, Copy, Debug, PartialEq)]
 pub enum Buffer {
@@ -69,67 +71,85 @@ pub fn encode(ops: &[Op]) -> Vec<u8> {
     out
 }
 
-/// Reads operations one after another; ends with `Some(Err(()))` at a fault.
-pub struct Ops<'s> {
-    rest: &'s [u8],
-    bad: bool,
-}
+/// The bytes of a script that are left, read as operands.
+pub struct Operands<'s>(&'s [u8]);
 
-impl<'s> Ops<'s> {
-    pub fn new(script: &'s [u8]) -> Self {
-        Ops { rest: script, bad: false }
-    }
-
-    fn bytes(&mut self, len: usize) -> Option<&'s [u8]> {
-        let (taken, rest) = self.rest.split_at_checked(len)?;
-        self.rest = rest;
+impl<'s> Operands<'s> {
+    pub fn bytes(&mut self, len: usize) -> Option<&'s [u8]> {
+        let (taken, rest) = self.0.split_at_checked(len)?;
+        self.0 = rest;
         Some(taken)
     }
 
-    fn byte(&mut self) -> Option<u8> {
+    pub fn byte(&mut self) -> Option<u8> {
         Some(self.bytes(1)?[0])
     }
 
-    fn number(&mut self) -> Option<u16> {
+    pub fn number(&mut self) -> Option<u16> {
         let bytes = self.bytes(2)?;
         Some(u16::from_le_bytes([bytes[0], bytes[1]]))
     }
 
-    fn id(&mut self) -> Option<Vec<u8>> {
+    /// Bytes behind their length in one byte.
+    pub fn id(&mut self) -> Option<Vec<u8>> {
         let len = self.byte()? as usize;
         Some(self.bytes(len)?.to_vec())
     }
 
-    fn op(&mut self) -> Option<Op> {
-        Some(match self.byte()? {
-            b'f' => {
-                let len = self.number()? as usize;
-                Op::Feed(self.bytes(len)?.to_vec())
-            }
+    /// Bytes behind their length in two bytes.
+    pub fn piece(&mut self) -> Option<Vec<u8>> {
+        let len = self.number()? as usize;
+        Some(self.bytes(len)?.to_vec())
+    }
+}
+
+/// What a script is made of.
+pub trait Operation: Sized {
+    /// Reads the operands behind the letter; `None` if there is no such operation.
+    fn read(letter: u8, from: &mut Operands) -> Option<Self>;
+}
+
+impl Operation for Op {
+    fn read(letter: u8, from: &mut Operands) -> Option<Self> {
+        Some(match letter {
+            b'f' => Op::Feed(from.piece()?),
             b't' => Op::Text,
-            b'a' => Op::Allow(self.id()?),
-            b'd' => Op::Deny(self.id()?),
-            b'x' => Op::Drop(self.id()?),
+            b'a' => Op::Allow(from.id()?),
+            b'd' => Op::Deny(from.id()?),
+            b'x' => Op::Drop(from.id()?),
             b'k' => Op::Done,
-            b'e' => Op::Failed(self.byte().filter(|code| (1..=4).contains(code))?),
-            b'y' => Op::Numbers(self.id()?),
+            b'e' => Op::Failed(from.byte().filter(|code| (1..=4).contains(code))?),
+            b'y' => Op::Numbers(from.id()?),
             b'n' => Op::Anew,
-            b'c' => Op::Lend(Buffer::Carry, self.number()?),
-            b's' => Op::Lend(Buffer::Scratch, self.number()?),
-            b'r' => Op::Lend(Buffer::Reply, self.number()?),
+            b'c' => Op::Lend(Buffer::Carry, from.number()?),
+            b's' => Op::Lend(Buffer::Scratch, from.number()?),
+            b'r' => Op::Lend(Buffer::Reply, from.number()?),
             _ => return None,
         })
     }
 }
 
-impl Iterator for Ops<'_> {
-    type Item = Result<Op, ()>;
+/// Reads operations one after another; ends with `Some(Err(()))` at a fault.
+pub struct Ops<'s, O> {
+    rest: Operands<'s>,
+    bad: bool,
+    kind: PhantomData<O>,
+}
+
+impl<'s, O: Operation> Ops<'s, O> {
+    pub fn new(script: &'s [u8]) -> Self {
+        Ops { rest: Operands(script), bad: false, kind: PhantomData }
+    }
+}
+
+impl<O: Operation> Iterator for Ops<'_, O> {
+    type Item = Result<O, ()>;
 
     fn next(&mut self) -> Option<Self::Item> {
-        if self.rest.is_empty() || self.bad {
+        if self.rest.0.is_empty() || self.bad {
             return None;
         }
-        let op = self.op();
+        let op = self.rest.byte().and_then(|letter| O::read(letter, &mut self.rest));
         self.bad = op.is_none();
         Some(op.ok_or(()))
     }
@@ -171,7 +191,7 @@ mod tests {
             b"y\x02m",
             b"c\x01",
         ] {
-            assert_eq!(Ops::new(bad).collect::<Vec<_>>(), [Err(())]);
+            assert_eq!(Ops::<Op>::new(bad).collect::<Vec<_>>(), [Err(())]);
         }
     }
 }

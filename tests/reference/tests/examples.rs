@@ -2,41 +2,10 @@
 //! a paper, or for document 01's cases written from its rules; none was made by the program.
 
 use reference::console::{self, Console};
+use reference::notation::bytes;
 use reference::receiver::{base64, command, name, Answer, Numbers, Refusal, Told};
 use reference::replay::Replay;
 use reference::script::{self, Op};
-
-/// The bytes of an example's notation.
-fn bytes(notation: &str) -> Vec<u8> {
-    let mut out = Vec::new();
-    let mut rest = notation.as_bytes();
-    while let Some(&first) = rest.first() {
-        let end = |closer| rest.iter().position(|&b| b == closer);
-        let inner = |end: usize| std::str::from_utf8(&rest[1..end]).unwrap();
-        let taken = match first {
-            b'^' if rest.get(1) == Some(&b'[') => {
-                out.push(0x1b);
-                2
-            }
-            b'<' => {
-                out.push(u8::from_str_radix(inner(3), 16).unwrap());
-                4
-            }
-            b'{' => {
-                let end = end(b'}').unwrap();
-                let (byte, count) = inner(end).split_once('*').unwrap();
-                out.resize(out.len() + count.parse::<usize>().unwrap(), byte.as_bytes()[0]);
-                end + 1
-            }
-            _ => {
-                out.push(first);
-                1
-            }
-        };
-        rest = &rest[taken..];
-    }
-    out
-}
 
 fn read(text: &str) -> String {
     let mut scratch = [0; 6144];

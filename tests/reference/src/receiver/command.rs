@@ -201,7 +201,8 @@ fn safe(value: &[u8]) -> Result<&[u8], Refusal> {
     Ok(value)
 }
 
-fn short(value: &[u8]) -> Result<&[u8], Refusal> {
+/// An id: of its kind, then not too long.
+pub fn short(value: &[u8]) -> Result<&[u8], Refusal> {
     let value = safe(value)?;
     if value.len() > LONGEST_ID {
         return Err(Refusal::LongId);

@@ -107,13 +107,13 @@ impl Coverage {
     }
 }
 
-fn join<K: Ord>(into: &mut BTreeMap<K, u64>, from: BTreeMap<K, u64>) {
+pub fn join<K: Ord>(into: &mut BTreeMap<K, u64>, from: BTreeMap<K, u64>) {
     for (key, count) in from {
         *into.entry(key).or_default() += count;
     }
 }
 
-fn listed<K: std::fmt::Display>(counts: &BTreeMap<K, u64>) -> String {
+pub fn listed<K: std::fmt::Display>(counts: &BTreeMap<K, u64>) -> String {
     let items: Vec<String> = counts.iter().map(|(key, n)| format!("{key} {n}")).collect();
     items.join(", ")
 }

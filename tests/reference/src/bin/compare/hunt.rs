@@ -17,11 +17,22 @@ const PROFILE: &str = "faults";
 /// Tries the faults whose names have the given words in them. Answers whether each was found.
 pub fn run(words: &[&str]) -> Result<bool, String> {
     let patches = chosen(words)?;
-    let trials = trials::quick();
+    let count = patches.len();
+    let (senders, others): (Vec<Patch>, Vec<Patch>) =
+        patches.into_iter().partition(Patch::of_sender);
+    let found = found_of(&others, trials::quick)? + found_of(&senders, trials::senders)?;
+    println!("{found} of {count} faults found");
+    Ok(found == count)
+}
+
+/// How many of the faults the trials find.
+fn found_of(patches: &[Patch], trials: fn() -> Vec<Trial>) -> Result<usize, String> {
+    if patches.is_empty() {
+        return Ok(0);
+    }
+    let trials = trials();
     unchanged(&trials)?;
-    let found = patches.iter().filter(|patch| hunt(patch, &trials)).count();
-    println!("{found} of {} faults found", patches.len());
-    Ok(found == patches.len())
+    Ok(patches.iter().filter(|patch| hunt(patch, &trials)).count())
 }
 
 /// The faults to try. Each is checked before the first is built.
@@ -67,7 +78,10 @@ fn build(patch: Option<&Patch>) -> Result<PathBuf, String> {
     patch.map_or(Ok(()), |patch| patch.apply(Path::new(COPY)))?;
     let mut cargo = Command::new("cargo");
     cargo
-        .args("build --quiet --offline --bin drive --bin replay --profile".split(' '))
+        .args(
+            "build --quiet --offline --bin drive --bin replay --bin drive_sender --profile"
+                .split(' '),
+        )
         .arg(PROFILE);
     cargo.args(["--manifest-path", &format!("{COPY}/Cargo.toml"), "--target-dir", BUILD]);
     let output = cargo.output().map_err(|error| format!("cargo: {error}"))?;

@@ -1,11 +1,13 @@
 //! Runs a case on both sides, counts, and keeps the cases that differ.
 
 use crate::coverage::Coverage;
-use crate::programs::{self, player, Outcome, REPLAY};
+use crate::programs::{self, Outcome, DRIVE_SENDER, REPLAY};
+use crate::sender_coverage::SenderCoverage;
 use crate::shrink::shrink;
 use reference::console::{self, LONGEST_SCRIPT};
 use reference::replay::Replay;
-use reference::script::{self, Op, Ops};
+use reference::script::{self, Ops};
+use reference::sender;
 use std::fs;
 use std::sync::atomic::{AtomicUsize, Ordering};
 
@@ -21,20 +23,60 @@ pub struct Case {
     pub input: Vec<u8>,
 }
 
+/// A program that runs scripts, and what stands for it here.
+pub struct Scripted {
+    pub name: &'static str,
+    pub path: fn() -> &'static str,
+    run: fn(&[u8], &mut Vec<u8>),
+    /// The operations of a proper script, each by its bytes.
+    cut: fn(&[u8]) -> Option<Vec<Vec<u8>>>,
+    /// Counts what came up in an output.
+    count: fn(&mut Tally, &[u8]),
+}
+
+pub static RECEIVER: Scripted = Scripted {
+    name: "drive",
+    path: programs::player,
+    run: console::run,
+    cut: |input| {
+        let ops: Result<Vec<script::Op>, ()> = Ops::new(input).collect();
+        Some(ops.ok()?.into_iter().map(|op| script::encode(&[op])).collect())
+    },
+    count: |tally, output| tally.coverage.script(output),
+};
+
+pub static SENDER: Scripted = Scripted {
+    name: "drive_sender",
+    path: || DRIVE_SENDER,
+    run: sender::console::run,
+    cut: |input| {
+        let ops: Result<Vec<sender::script::Op>, ()> = Ops::new(input).collect();
+        Some(ops.ok()?.into_iter().map(|op| sender::script::encode(&[op])).collect())
+    },
+    count: |tally, output| tally.senders.script(output),
+};
+
+impl Scripted {
+    pub fn expected(&self, input: &[u8]) -> Vec<u8> {
+        let mut out = Vec::new();
+        (self.run)(input, &mut out);
+        out
+    }
+
+    fn differs(&self, input: &[u8]) -> bool {
+        !programs::run((self.path)(), input, LONGEST_SCRIPT).agrees(&self.expected(input))
+    }
+}
+
 #[derive(Default)]
 pub struct Tally {
     pub coverage: Coverage,
+    pub senders: SenderCoverage,
     pub scripts: u64,
     pub recordings: u64,
     pub runs: u64,
     pub bytes: u64,
     pub differ: u64,
-}
-
-pub fn expected_of_script(input: &[u8]) -> Vec<u8> {
-    let mut out = Vec::new();
-    console::run(input, &mut out);
-    out
 }
 
 pub fn expected_of_recording(input: &[u8]) -> Vec<u8> {
@@ -63,26 +105,26 @@ pub fn batches(cases: Vec<Case>) -> Vec<Vec<Case>> {
 
 impl Tally {
     /// Judges scripts, each of which starts anew. Only the last one may be no proper script.
-    pub fn scripts(&mut self, cases: Vec<Case>) {
-        batches(cases).iter().for_each(|batch| self.batch(batch));
+    pub fn scripts(&mut self, program: &Scripted, cases: Vec<Case>) {
+        batches(cases).iter().for_each(|batch| self.batch(program, batch));
     }
 
-    fn batch(&mut self, batch: &[Case]) {
+    fn batch(&mut self, program: &Scripted, batch: &[Case]) {
         let input: Vec<u8> = batch.iter().flat_map(|case| case.input.iter().copied()).collect();
         let outputs: Vec<Vec<u8>> =
-            batch.iter().map(|case| expected_of_script(&case.input)).collect();
+            batch.iter().map(|case| program.expected(&case.input)).collect();
         let expected = outputs.concat();
         self.scripts += batch.len() as u64;
         self.runs += 1;
         self.bytes += input.len() as u64;
-        let actual = programs::run(player(), &input, LONGEST_SCRIPT);
-        self.coverage.script(&actual.output);
+        let actual = programs::run((program.path)(), &input, LONGEST_SCRIPT);
+        (program.count)(self, &actual.output);
         if actual.agrees(&expected) {
             return;
         }
         let before = self.differ;
         for (case, expected) in batch.iter().zip(&outputs) {
-            self.alone(case, expected);
+            self.alone(program, case, expected);
         }
         if self.differ == before {
             // Each agrees alone: the fault lies in how they stand together.
@@ -91,8 +133,8 @@ impl Tally {
         }
     }
 
-    fn alone(&mut self, case: &Case, expected: &[u8]) {
-        let actual = programs::run(player(), &case.input, LONGEST_SCRIPT);
+    fn alone(&mut self, program: &Scripted, case: &Case, expected: &[u8]) {
+        let actual = programs::run((program.path)(), &case.input, LONGEST_SCRIPT);
         if actual.agrees(expected) {
             return;
         }
@@ -100,10 +142,10 @@ impl Tally {
         if !keep(&case.name, &case.input, expected, &actual) {
             return;
         }
-        if let Ok(ops) = Ops::new(&case.input).collect::<Result<Vec<Op>, ()>>() {
-            let small = script::encode(&shrink(ops, |ops| script_differs(&script::encode(ops))));
-            let actual = programs::run(player(), &small, LONGEST_SCRIPT);
-            write(&format!("{}-small", case.name), &small, &expected_of_script(&small), &actual);
+        if let Some(ops) = (program.cut)(&case.input) {
+            let small = shrink(ops, |ops| program.differs(&ops.concat())).concat();
+            let actual = programs::run((program.path)(), &small, LONGEST_SCRIPT);
+            write(&format!("{}-small", case.name), &small, &program.expected(&small), &actual);
         }
     }
 
@@ -132,16 +174,13 @@ impl Tally {
 
     pub fn join(&mut self, other: Tally) {
         self.coverage.join(other.coverage);
+        self.senders.join(other.senders);
         self.scripts += other.scripts;
         self.recordings += other.recordings;
         self.runs += other.runs;
         self.bytes += other.bytes;
         self.differ += other.differ;
     }
-}
-
-fn script_differs(input: &[u8]) -> bool {
-    !programs::run(player(), input, LONGEST_SCRIPT).agrees(&expected_of_script(input))
 }
 
 /// Says that a case differs, and why. Keeps it unless enough are kept; answers whether it did.

@@ -16,6 +16,10 @@ mod programs;
 mod recordings;
 mod rng;
 mod scripts;
+mod sender_coverage;
+mod sender_replies;
+mod sender_scripts;
+mod sender_special;
 mod sequences;
 mod shrink;
 mod sizes;
@@ -25,21 +29,21 @@ mod trials;
 mod window;
 mod work;
 
-use crate::judge::{expected_of_recording, expected_of_script, Case, Tally, KEEP_IN};
+use crate::judge::{expected_of_recording, Case, Tally, KEEP_IN, RECEIVER, SENDER};
 use crate::mutate::Stored;
 use std::process::ExitCode;
 use std::time::{Duration, Instant};
 use std::{env, fs};
 
 const USAGE: &str = "compare [in-place] quick | long | fuzz SECONDS [SEED] | one KIND SEED
-compare faults [WORD..]
-KIND: script, recording, fuzz-script, fuzz-raw, fuzz-recording";
+compare senders [N] | faults [WORD..]
+KIND: script, recording, sender, fuzz-script, fuzz-raw, fuzz-recording";
 
-/// Whether things that never came up are a fault.
-#[derive(PartialEq)]
+/// What came up, and whether what never did is a fault.
 enum Cover {
     Must,
     May,
+    Senders,
 }
 
 fn main() -> ExitCode {
@@ -52,7 +56,11 @@ fn main() -> ExitCode {
         args.remove(0);
         programs::play_in_place();
     }
-    let missing = programs::missing();
+    let wanted: &[&str] = match args[..] {
+        ["senders", ..] | ["one", "sender", _] => &[programs::DRIVE_SENDER],
+        _ => &[programs::player(), programs::REPLAY],
+    };
+    let missing = programs::missing(wanted);
     if !missing.is_empty() {
         println!("missing: {}", missing.join(", "));
         return ExitCode::FAILURE;
@@ -64,6 +72,11 @@ fn main() -> ExitCode {
         ["long"] => finish(start, generated(work::LONG), Cover::Must),
         ["fuzz", seconds] => fuzz(start, number(seconds), Some(1)),
         ["fuzz", seconds, seed] => fuzz(start, number(seconds), number(seed)),
+        ["senders"] => finish(start, senders(work::SENDERS), Cover::Senders),
+        ["senders", count] => match number(count) {
+            Some(count) => finish(start, senders(count), Cover::Senders),
+            None => usage(),
+        },
         ["one", kind, seed] => number(seed).and_then(|seed| one(kind, seed)).unwrap_or_else(usage),
         _ => usage(),
     }
@@ -78,6 +91,13 @@ fn generated(counts: (u64, u64)) -> Tally {
     let mut tally = Tally::default();
     special::judge(&mut tally);
     tally.join(work::generated(counts));
+    tally
+}
+
+fn senders(count: u64) -> Tally {
+    let mut tally = Tally::default();
+    sender_special::judge(&mut tally);
+    tally.join(work::senders(count));
     tally
 }
 
@@ -121,11 +141,9 @@ fn read(path: &str) -> Option<Vec<u8>> {
 
 fn finish(start: Instant, tally: Tally, cover: Cover) -> ExitCode {
     let cases = tally.scripts + tally.recordings;
-    println!("scripts: {}, played by {}", tally.scripts, programs::player());
-    println!("recordings: {}", tally.recordings);
+    println!("scripts: {}, recordings: {}", tally.scripts, tally.recordings);
     println!("runs of a program: {}, bytes: {}", tally.runs, tally.bytes);
-    tally.coverage.print();
-    let missing = tally.coverage.missing();
+    let missing = missing(&tally, cover);
     if !missing.is_empty() {
         println!("never came up: {}", missing.join(", "));
     }
@@ -134,11 +152,28 @@ fn finish(start: Instant, tally: Tally, cover: Cover) -> ExitCode {
         println!("the first differing inputs are in {KEEP_IN}");
     }
     println!("{} agree, {} differ", cases.saturating_sub(tally.differ), tally.differ);
-    let covered = cover == Cover::May || missing.is_empty();
-    if tally.differ == 0 && covered {
+    if tally.differ == 0 && missing.is_empty() {
         ExitCode::SUCCESS
     } else {
         ExitCode::FAILURE
+    }
+}
+
+/// Prints what came up. Gives what should have and did not.
+fn missing(tally: &Tally, cover: Cover) -> Vec<String> {
+    match cover {
+        Cover::Senders => {
+            tally.senders.print();
+            tally.senders.missing()
+        }
+        Cover::Must => {
+            tally.coverage.print();
+            tally.coverage.missing()
+        }
+        Cover::May => {
+            tally.coverage.print();
+            Vec::new()
+        }
     }
 }
 
@@ -148,15 +183,16 @@ fn one(kind: &str, seed: u64) -> Option<ExitCode> {
     let Case { name, input } = match kind {
         "script" => work::script_case(seed),
         "recording" => work::recording_case(seed),
+        "sender" => work::sender_case(seed),
         "fuzz-script" => work::mutated_script_case(seed, &stored),
         "fuzz-raw" => work::raw_script_case(seed, &stored),
         "fuzz-recording" => work::mutated_recording_case(seed, &stored),
         _ => return None,
     };
-    let (program, expected) = if kind.ends_with("recording") {
-        (programs::REPLAY, expected_of_recording(&input))
-    } else {
-        (programs::player(), expected_of_script(&input))
+    let (program, expected) = match kind {
+        "recording" | "fuzz-recording" => (programs::REPLAY, expected_of_recording(&input)),
+        "sender" => ((SENDER.path)(), SENDER.expected(&input)),
+        _ => ((RECEIVER.path)(), RECEIVER.expected(&input)),
     };
     let actual = programs::run(program, &input, input.len().max(1));
     let path = format!("target/reference/{name}");

@@ -128,7 +128,7 @@ fn span(rng: &mut Rng, len: usize) -> std::ops::Range<usize> {
     start..(start + rng.within(1, most)).min(len).max(start)
 }
 
-fn mutate(rng: &mut Rng, bytes: &mut Vec<u8>) {
+pub fn mutate(rng: &mut Rng, bytes: &mut Vec<u8>) {
     if bytes.is_empty() {
         let word = *rng.pick(&WORDS);
         bytes.extend_from_slice(word);

@@ -59,6 +59,11 @@ fn fault(group: &str, block: &[&str]) -> Result<Patch, String> {
 }
 
 impl Patch {
+    /// Whether it lies in what only a sender runs.
+    pub fn of_sender(&self) -> bool {
+        self.file.starts_with("src/sender")
+    }
+
     /// The source with the fault in it. The old text must stand exactly once, so that no fault lands elsewhere unseen.
     fn changed(&self, source: &str) -> Result<String, String> {
         let (old, new) = (self.old.join("\n"), self.new.join("\n"));

@@ -16,22 +16,23 @@ const LONGEST_QUOTE: usize = 200;
 const DRIVE: &str = "target/bin/drive";
 const DRIVE_IN_PLACE: &str = "target/bin/drive_in_place";
 pub const REPLAY: &str = "target/bin/replay";
+pub const DRIVE_SENDER: &str = "target/bin/drive_sender";
 
 static PLAYER: OnceLock<&str> = OnceLock::new();
 
-/// Scripts are played with the calls in place; said before any run.
+/// The receiver's scripts are played with the calls in place; said before any run.
 pub fn play_in_place() {
     PLAYER.get_or_init(|| DRIVE_IN_PLACE);
 }
 
-/// The program that plays the scripts.
+/// The program that plays the receiver's scripts.
 pub fn player() -> &'static str {
     PLAYER.get_or_init(|| DRIVE)
 }
 
-/// The programs that are missing.
-pub fn missing() -> Vec<&'static str> {
-    [player(), REPLAY].into_iter().filter(|path| !Path::new(path).exists()).collect()
+/// Those of the programs that are not there.
+pub fn missing(programs: &[&'static str]) -> Vec<&'static str> {
+    programs.iter().copied().filter(|path| !Path::new(path).exists()).collect()
 }
 
 /// What a run gave. A fault is anything but a start, an end with status 0 and output alone.

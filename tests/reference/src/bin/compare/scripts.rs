@@ -14,7 +14,7 @@ const MOST_BYTES: usize = 24_000;
 
 /// How a stream is cut into pieces.
 #[derive(Clone, Copy)]
-enum Cut {
+pub enum Cut {
     /// As the stream was made.
     Chunks,
     /// At most so many bytes.
@@ -68,7 +68,7 @@ pub fn perform(rng: &mut Rng, chunks: &[Vec<u8>], ids: Vec<Vec<u8>>) -> Vec<Op> 
     maker.ops
 }
 
-fn cut(rng: &mut Rng) -> Cut {
+pub fn cut(rng: &mut Rng) -> Cut {
     match rng.weighted(&[40, 40, 15, 5]) {
         0 => Cut::Chunks,
         1 => Cut::Within(*rng.pick(&[2, 5, 12, 40, 200, 3000, 20_000])),
@@ -78,7 +78,7 @@ fn cut(rng: &mut Rng) -> Cut {
 }
 
 /// The length of the next piece; `chunk` is what is left of the chunk it starts in.
-fn piece_len(rng: &mut Rng, cut: Cut, rest: &[u8], chunk: usize) -> usize {
+pub fn piece_len(rng: &mut Rng, cut: Cut, rest: &[u8], chunk: usize) -> usize {
     let len = match cut {
         Cut::Chunks => chunk,
         Cut::Within(most) => rng.within(1, most),

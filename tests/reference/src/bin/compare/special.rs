@@ -4,7 +4,7 @@
 use crate::bad_values;
 use crate::fields::{encoded, Fields};
 use crate::framing::framed;
-use crate::judge::{Case, Tally};
+use crate::judge::{Case, Tally, RECEIVER};
 use crate::{sequences, sizes};
 use reference::console::LONGEST_SCRIPT;
 use reference::script::{encode, Op};
@@ -12,7 +12,7 @@ use reference::script::{encode, Op};
 /// Judges them all, each in a run of its own.
 pub fn judge(tally: &mut Tally) {
     for case in scripts() {
-        tally.scripts(vec![case]);
+        tally.scripts(&RECEIVER, vec![case]);
     }
     for case in recordings() {
         tally.recording(&case, step(&case));
@@ -24,7 +24,7 @@ pub fn step(case: &Case) -> usize {
     1 + case.input.len() / 10_000
 }
 
-fn named(kind: &str, inputs: Vec<Vec<u8>>) -> Vec<Case> {
+pub fn named(kind: &str, inputs: Vec<Vec<u8>>) -> Vec<Case> {
     let inputs = inputs.into_iter().enumerate();
     inputs.map(|(i, input)| Case { name: format!("special-{kind}-{i}"), input }).collect()
 }

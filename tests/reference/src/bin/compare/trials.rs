@@ -1,8 +1,8 @@
 //! The quick run's inputs with what the reference makes of them, made once to try many programs on.
 
-use crate::judge::{batches, expected_of_recording, expected_of_script, Case};
+use crate::judge::{batches, expected_of_recording, Case, Scripted, RECEIVER, SENDER};
 use crate::programs;
-use crate::{special, work};
+use crate::{sender_special, special, work};
 use reference::console::LONGEST_SCRIPT;
 use std::path::Path;
 
@@ -17,7 +17,8 @@ pub struct Trial {
 /// The inputs of the seeds, scripts and recordings in turn so that each kind comes early, then the special ones.
 pub fn quick() -> Vec<Trial> {
     let scripts: Vec<Case> = (0..work::QUICK.0).map(work::script_case).collect();
-    let mut scripts = batches(scripts).into_iter().map(scripts_together);
+    let together = |cases| scripts_together(&RECEIVER, cases);
+    let mut scripts = batches(scripts).into_iter().map(together);
     let mut all: Vec<Trial> = Vec::new();
     for seed in 0..work::QUICK.1 {
         if seed % 5 == 0 {
@@ -28,7 +29,7 @@ pub fn quick() -> Vec<Trial> {
         all.push(a_recording(case, step));
     }
     all.extend(scripts);
-    all.extend(special::scripts().into_iter().map(|case| scripts_together(vec![case])));
+    all.extend(special::scripts().into_iter().map(|case| together(vec![case])));
     all.extend(special::recordings().into_iter().map(|case| {
         let step = special::step(&case);
         a_recording(case, step)
@@ -36,13 +37,21 @@ pub fn quick() -> Vec<Trial> {
     all
 }
 
-fn scripts_together(cases: Vec<Case>) -> Trial {
+/// The same for senders.
+pub fn senders() -> Vec<Trial> {
+    let scripts: Vec<Case> = (0..work::SENDERS).map(work::sender_case).collect();
+    let together = |cases| scripts_together(&SENDER, cases);
+    let alone = sender_special::scripts().into_iter().map(|case| vec![case]);
+    batches(scripts).into_iter().chain(alone).map(together).collect()
+}
+
+fn scripts_together(program: &Scripted, cases: Vec<Case>) -> Trial {
     let judged = |case: Case| {
-        let expected = expected_of_script(&case.input);
+        let expected = program.expected(&case.input);
         (case, expected)
     };
     let cases = cases.into_iter().map(judged).collect();
-    Trial { program: "drive", step: LONGEST_SCRIPT, cases }
+    Trial { program: program.name, step: LONGEST_SCRIPT, cases }
 }
 
 fn a_recording(case: Case, step: usize) -> Trial {

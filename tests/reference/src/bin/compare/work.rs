@@ -1,10 +1,12 @@
 //! Shares the cases out to two threads.
 
-use crate::judge::{Case, Tally};
+use crate::judge::{Case, Tally, RECEIVER, SENDER};
 use crate::mutate::{mutated_recording, mutated_script, raw_script, Stored};
 use crate::recordings::recording;
 use crate::scripts::script;
+use crate::sender_scripts::sender_script;
 use reference::script::encode;
+use reference::sender;
 use std::sync::atomic::{AtomicU64, Ordering};
 use std::thread;
 use std::time::{Duration, Instant};
@@ -12,6 +14,8 @@ use std::time::{Duration, Instant};
 /// The scripts and recordings of the quick run and of the long one.
 pub const QUICK: (u64, u64) = (2_000, 500);
 pub const LONG: (u64, u64) = (100_000, 20_000);
+/// The senders' scripts where no number is given.
+pub const SENDERS: u64 = 2_000;
 
 const THREADS: usize = 2;
 /// Cases taken at a time.
@@ -60,12 +64,22 @@ pub fn generated((scripts, recordings): (u64, u64)) -> Tally {
         let a = seeds(&next_script, scripts, SCRIPTS);
         let b = seeds(&next_recording, recordings, RECORDINGS);
         let cases: Vec<Case> = a.clone().map(script_case).collect();
-        tally.scripts(cases);
+        tally.scripts(&RECEIVER, cases);
         for seed in b.clone() {
             let case = recording_case(seed);
             tally.recording(&case, step(seed, case.input.len()));
         }
         !a.is_empty() || !b.is_empty()
+    })
+}
+
+/// The senders' scripts of the first seeds.
+pub fn senders(count: u64) -> Tally {
+    let next = AtomicU64::new(0);
+    share(|tally| {
+        let seeds = seeds(&next, count, SCRIPTS);
+        tally.scripts(&SENDER, seeds.clone().map(sender_case).collect());
+        !seeds.is_empty()
     })
 }
 
@@ -79,10 +93,10 @@ pub fn fuzzed(time: Duration, seed: u64, stored: &Stored) -> Tally {
             (from..from + SCRIPTS / 2).map(|seed| mutated_script_case(seed, stored)).collect();
         // What may be no proper script ends a run, so it stands last in one.
         let raw = cases.split_off(cases.len() - 5);
-        tally.scripts(cases);
+        tally.scripts(&RECEIVER, cases);
         for (i, case) in raw.into_iter().enumerate() {
             let bad = raw_script_case(from + i as u64, stored);
-            tally.scripts(vec![case, bad]);
+            tally.scripts(&RECEIVER, vec![case, bad]);
         }
         for seed in from..from + SCRIPTS / 4 {
             let case = mutated_recording_case(seed, stored);
@@ -94,6 +108,10 @@ pub fn fuzzed(time: Duration, seed: u64, stored: &Stored) -> Tally {
 
 pub fn script_case(seed: u64) -> Case {
     Case { name: format!("script-{seed}"), input: encode(&script(seed)) }
+}
+
+pub fn sender_case(seed: u64) -> Case {
+    Case { name: format!("sender-{seed}"), input: sender::script::encode(&sender_script(seed)) }
 }
 
 pub fn recording_case(seed: u64) -> Case {

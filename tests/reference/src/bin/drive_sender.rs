@@ -1,0 +1,11 @@
+//! The scripted office on standard input and output.
+
+use std::io::{self, Read, Write};
+
+fn main() -> io::Result<()> {
+    let mut script = Vec::new();
+    io::stdin().lock().read_to_end(&mut script)?;
+    let mut out = Vec::new();
+    reference::sender::console::run(&script, &mut out);
+    io::stdout().lock().write_all(&out)
+}

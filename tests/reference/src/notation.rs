@@ -1,0 +1,71 @@
+//! The notation of the papers' examples.
+
+use crate::receiver::base64;
+use crate::sender::script::Op;
+
+/// The bytes of an example: `^[` is 1B, `<hh>` the byte hh, `{A*n}` A n times. Panics at what is no notation.
+pub fn bytes(notation: &str) -> Vec<u8> {
+    let mut out = Vec::new();
+    let mut rest = notation.as_bytes();
+    while let Some(&first) = rest.first() {
+        let end = |closer| rest.iter().position(|&b| b == closer);
+        let inner = |end: usize| std::str::from_utf8(&rest[1..end]).unwrap();
+        let taken = match first {
+            b'^' if rest.get(1) == Some(&b'[') => {
+                out.push(0x1b);
+                2
+            }
+            b'<' => {
+                out.push(u8::from_str_radix(inner(3), 16).unwrap());
+                4
+            }
+            b'{' => {
+                let end = end(b'}').unwrap();
+                let (byte, count) = inner(end).split_once('*').unwrap();
+                out.resize(out.len() + count.parse::<usize>().unwrap(), byte.as_bytes()[0]);
+                end + 1
+            }
+            _ => {
+                out.push(first);
+                1
+            }
+        };
+        rest = &rest[taken..];
+    }
+    out
+}
+
+/// The call of an item of order 1's page; the session of a status is `m`. Panics at what is no item.
+pub fn sender_call(item: &str) -> Op {
+    let (word, operand) = item.split_once(' ').unwrap_or((item, ""));
+    match word {
+        "snd" => Op::Send(bytes(operand)),
+        "file" => {
+            let operands: Vec<&str> = operand.split(' ').collect();
+            let size = operands.get(2).map_or(0, |size| size.parse().unwrap());
+            Op::File { fid: bytes(operands[0]), name: bytes(operands[1]), size }
+        }
+        "data" => Op::Piece(bytes(operand)),
+        "end" => Op::Last(bytes(operand)),
+        "fin" => Op::Finish,
+        "hear" => Op::Hear(status(operand)),
+        "raw" => Op::Hear(bytes(operand)),
+        _ => panic!("no such item: {item}"),
+    }
+}
+
+/// The frame of `WORD[/FID][=SZ]`.
+fn status(notation: &str) -> Vec<u8> {
+    let (status, size) = notation.split_once('=').unwrap_or((notation, ""));
+    let (word, fid) = status.split_once('/').unwrap_or((status, ""));
+    let mut encoded = vec![0; word.len().div_ceil(3) * 4];
+    base64::encode(word.as_bytes(), &mut encoded);
+    let encoded = String::from_utf8(encoded).unwrap();
+    let mut text = "5113;ac=status;id=m".to_string();
+    for (key, value) in [("fid", fid), ("sz", size), ("st", &encoded)] {
+        if !value.is_empty() {
+            text += &format!(";{key}={value}");
+        }
+    }
+    format!("\x1b]{text}\x1b\\").into_bytes()
+}
