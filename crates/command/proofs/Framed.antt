@@ -2,10 +2,10 @@
 use Prim.Native.Nat.{ℕ, _+_, _≤_}
 use mathlib.Core.Path.{_≡_, refl, ap, _∙_}
 use mathlib.Core.Bool.{Bool, true, false, cond}
-use mathlib.Core.List.{List, [], _∷_, _++_}
+use mathlib.Core.List.{List, [], _∷_}
 use native.Mathlib.Omega.{arith}
 use lib.ListN.{length, take, drop, length-append}
-use lib.Seq.{sets, sets-eq, take-append-seam}
+use lib.Seq.{sets-eq, take-append-seam}
 use lib.Dec.{ltb}
 use borrow.Author.Tests.{ltb-false, leb-true, eq-eqb, ne-eqb}
 use Rattle.bytes.specs.Bytes.{indexOf, indexAfter}
@@ -26,7 +26,7 @@ use Rattle.command.specs.Meaning.{Meaning, meant, blank, finished, meani
 use Rattle.command.specs.Canonical.{canonical}
 use Rattle.command.specs.Slots.{valuesOf}
 use Rattle.command.specs.Write.{Answer, writeOf}
-use Rattle.command.specs.Framed.{frameRoom, framedBy, framedOf, ReadsBack, FramedThenRead}
+use Rattle.command.specs.Framed.{frameRoom, framedBy, framedOf, FramedThenRead}
 use Rattle.command.proofs.Every.{every-cons}
 use Rattle.command.proofs.Accepted.{accepted-writes, writes-accepted}
 use Rattle.command.proofs.RoundTrip.{read-written}
@@ -97,8 +97,9 @@ framed-then-read c text scratch out n e carry ts f carry′ calls =
     let w = written-framed vs out n e in
     let t = canonical vs in
     let s = tells-the-stream carry _ ts f carry′ calls .0 in
+    let read = ap (λ (bs : List ℕ). stream Mode.outside bs) (w .stands) ∙ means-framed t vs (w .means) in
     record {
       text = t;
-      told = s ∙ ap (λ (r : List Told × Mode). r .0) (ap (λ (bs : List ℕ). stream Mode.outside bs) (w .stands) ∙ means-framed t vs (w .means));
+      told = s ∙ ap (λ (r : List Told × Mode). r .0) read;
       means = λ (lent : List ℕ) enough. read-means t lent enough ∙ w .means;
     }

@@ -2,15 +2,14 @@
 use Prim.Native.Nat.{ℕ, suc, _+_, _-_, _≤_, _<_}
 use mathlib.Core.Path.{_≡_, refl, sym, _∙_, ap}
 use mathlib.Core.Bool.{Bool, true, false, cond, _||_}
-use mathlib.Core.List.{List, [], _∷_, _++_, append-nil, append-assoc}
+use mathlib.Core.List.{List, [], _∷_, _++_}
 use native.Mathlib.Omega.{arith}
 use native.Mathlib.Nat.{zero-add}
 use lib.ListN.{length, take, drop, set, length-take, length-drop, take-append-drop}
-use lib.Seq.{sets, sets-eq, set-comm, take-length, drop-drop}
+use lib.Seq.{sets, sets-eq, set-comm, take-length}
 use lib.Dec.{ltb}
 use borrow.Author.Tests.{le-ltb, ltb-false}
 use Rattle.octets.specs.Outcome.{Outcome, outcome}
-use Rattle.octets.proofs.Lists.{drop-end, part-rest}
 use Rattle.octets.proofs.Stores.{sets-append, sets-part}
 use Rattle.frames.specs.Stream.{textLimit, framed}
 use Rattle.command.specs.Keys.{keys}
@@ -143,7 +142,7 @@ module _ (c : List Value) (out : List ℕ) (room : frameRoom ≤ length out) whe
           let s : m + 4 ≡ 4 + m = omega arith in (
             omega (arith, l .1),
             rw (framed-fate, q, b, stored-part (canonical c) out (omega (arith, l .1)), k, s, l .0)
-            (ap (outcome (Answer.written (4 + length (canonical c)))) (around (canonical c) out)),
+                (ap (outcome (Answer.written (4 + length (canonical c)))) (around (canonical c) out)),
           )
 
   -- and one that is refused

@@ -1,6 +1,6 @@
 -- A command text in its frame, as the stream reads it.
 use Prim.Native.Nat.{ℕ, suc}
-use mathlib.Core.Path.{_≡_, refl, sym, _∙_}
+use mathlib.Core.Path.{_≡_, refl, _∙_}
 use mathlib.Core.Bool.{Bool, true, false}
 use mathlib.Core.List.{List, [], _∷_, _++_, append-nil}
 use native.Mathlib.Omega.{arith}
@@ -9,8 +9,7 @@ use lib.Seq.{append-snoc}
 use lib.Dec.{eqb}
 use borrow.Author.Tests.{le-leb, eqb-true}
 use Rattle.bytes.specs.Bytes.{indexOf, indexAfter}
-use Rattle.octets.proofs.Finds.{index-le}
-use Rattle.frames.specs.Stream.{Mode, Told, closedTells, readByte, stream}
+use Rattle.frames.specs.Stream.{Mode, closedTells, readByte, stream}
 use Rattle.frames.specs.Claims.{FramedTells}
 
 -- the bytes of a text after those of `before`, none of them 1B, and its closer
