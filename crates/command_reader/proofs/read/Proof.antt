@@ -27,9 +27,6 @@ returns-2 : tie.Need-returns-2
 unfolding readOf textRead
 returns-2 c = (rw (le-ltb _ _ (c .before .if1 .left), lt-ltb _ _ (c .if2 .taken)), claims)
 
-all-requires : tie.Need-all-requires
-all-requires c κs = search needs
-
 returns-3 : tie.Need-returns-3
 unfolding readOf textRead
 returns-3 c =
@@ -38,12 +35,6 @@ returns-3 c =
     let room = short .before in
     let bad = not-true (all .all .result) (c .if3 .taken) in
     (rw (le-ltb _ _ (room .if1 .left), le-ltb _ _ (short .if2 .left), ← all .all .ensures, bad), claims)
-
-slice-aggregate-starts-with : tie.Need-slice-aggregate-starts-with
-slice-aggregate-starts-with c = search needs
-
-starts-with-requires : tie.Need-starts-with-requires
-starts-with-requires c κs = search needs
 
 -- a scratch with room and a text that passes the other tests: its mark decides
 left : (c : tie.After-starts-with) → let a = c .before .before .before .before .before .before .before .before .args in
@@ -80,9 +71,6 @@ read-fields-requires c κs =
     let mark = sym (starts .starts-with .ensures) ∙ not-false (starts .starts-with .result) (marked .if4 .left) in
     omega (arith, simp length-append at (ap length (starts-sound (a .text .now) (ascii "5113;") mark)))
 
-same-length : tie.Need-same-length
-same-length c = search needs
-
 returns-5 : tie.Need-returns-5
 returns-5 c =
     let read = c .before .before in
@@ -97,11 +85,11 @@ read-spec =
     (tie.spec
     returns
     returns-2
-    all-requires
+    (search needs)
     returns-3
-    slice-aggregate-starts-with
-    starts-with-requires
+    (search needs)
+    (search needs)
     returns-4
     read-fields-requires
-    same-length
+    (search needs)
     returns-5)

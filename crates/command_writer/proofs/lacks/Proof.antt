@@ -3,9 +3,6 @@ use borrow.Author.Needs.{needs}
 use Rattle.command_writer.proofs.lacks.Statement.{statement}
 use Rattle.command_writer.proofs.lacks.Tie as tie
 
-action-code-requires : tie.Need-action-code-requires
-action-code-requires c κs = search needs
-
 returns : tie.Need-returns
 returns c = rw (← c .before .action-code .ensures, eq-eqb _ _ (c .if1 .taken))
 
@@ -13,4 +10,4 @@ returns-2 : tie.Need-returns-2
 returns-2 c = rw (← c .before .before .action-code .ensures, ne-eqb _ _ (c .before .if1 .left))
 
 pub lacks-spec : {M : Type 1} → statement M
-lacks-spec = tie.close (tie.spec action-code-requires returns returns-2)
+lacks-spec = tie.close (tie.spec (search needs) returns returns-2)

@@ -10,15 +10,6 @@ use borrow.Author.Needs.{needs}
 use Rattle.command_writer.proofs.write.Statement.{statement}
 use Rattle.command_writer.proofs.write.Tie as tie
 
-slice-aggregate-put-fields : tie.Need-slice-aggregate-put-fields
-slice-aggregate-put-fields c = search needs
-
-put-fields-requires : tie.Need-put-fields-requires
-put-fields-requires c κs = search needs
-
-enum-known-n : tie.Need-enum-known-n
-enum-known-n c = search needs
-
 write-measured-requires : tie.Need-write-measured-requires
 write-measured-requires c κs =
     let n = c .before .before in
@@ -27,12 +18,6 @@ write-measured-requires c κs =
     let checked = checkedOf keys (valuesOf (a .command) (a .text .now) (a .scratch .now)) in
     let f = put-fine checked _ _ _ 0 (n .n .given .0 .0) (rw (n .n .given .1) at (put .put-fields .ensures)) in
     (f .0, omega (arith, f .1 .ends))
-
-enum-known-refusal : tie.Need-enum-known-refusal
-enum-known-refusal c = search needs
-
-same-length : tie.Need-same-length
-same-length c = search needs
 
 -- what the contract says of every command
 claims : WrittenThenRead × WritesCanonical
@@ -55,11 +40,11 @@ pub write-spec : {M : Type 1} → statement M
 write-spec =
     tie.close
     (tie.spec
-    slice-aggregate-put-fields
-    put-fields-requires
-    enum-known-n
+    (search needs)
+    (search needs)
+    (search needs)
     write-measured-requires
-    enum-known-refusal
-    same-length
+    (search needs)
+    (search needs)
     returns
     returns-2)

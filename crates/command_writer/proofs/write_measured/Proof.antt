@@ -4,12 +4,6 @@ use borrow.Author.Needs.{needs}
 use Rattle.command_writer.proofs.write_measured.Statement.{statement}
 use Rattle.command_writer.proofs.write_measured.Tie as tie
 
-lacks-requires : tie.Need-lacks-requires
-lacks-requires c κs = search needs
-
-no-room-requires : tie.Need-no-room-requires
-no-room-requires c κs = search needs
-
 returns : tie.Need-returns
 returns c =
     let lacks = c .before .before in
@@ -27,12 +21,6 @@ returns-2 c =
     let there = sym (lacks .lacks .ensures) ∙ c .before .if1 .left in
     let short = sym (room .no-room .ensures) ∙ c .if2 .taken in
     refused-room (a .command) (a .text .now) (a .scratch .now) (a .out .now) (entry .pre .0) there (a .n) (entry .pre .1) short
-
-put-fields-requires : tie.Need-put-fields-requires
-put-fields-requires c κs = search needs
-
-same-length : tie.Need-same-length
-same-length c = search needs
 
 returns-3 : tie.Need-returns-3
 returns-3 c =
@@ -52,10 +40,10 @@ pub write-measured-spec : {M : Type 1} → statement M
 write-measured-spec =
     tie.close
     (tie.spec
-    lacks-requires
-    no-room-requires
+    (search needs)
+    (search needs)
     returns
     returns-2
-    put-fields-requires
-    same-length
+    (search needs)
+    (search needs)
     returns-3)

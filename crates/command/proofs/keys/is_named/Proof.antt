@@ -32,12 +32,6 @@ returns-2 c =
     let start = same-start (given e) (own e) (len e) (e .if1 .left) (sized e) in
     rw (start, same-end (given e) (own e) (len e) (e .if1 .left) (sized e) 0 (omega arith))
 
-shared-slice-read-if3 : tie.Need-shared-slice-read-if3
-shared-slice-read-if3 c = search needs
-
-array-read-if3 : tie.Need-array-read-if3
-array-read-if3 c = search needs
-
 returns-3 : tie.Need-returns-3
 returns-3 c =
     let e = c .before .before .before in
@@ -52,12 +46,6 @@ returns-4 c =
     let end = same-end (given e) (own e) (len e) (e .if1 .left) (sized e) in
     let start = same-start (given e) (own e) (len e) (e .if1 .left) (sized e) in
     rw (start, at 0 (omega arith), eq-eqb _ _ (c .before .if3 .left), end 1 (omega arith))
-
-shared-slice-read-if5 : tie.Need-shared-slice-read-if5
-shared-slice-read-if5 c = search needs
-
-array-read-if5 : tie.Need-array-read-if5
-array-read-if5 c = search needs
 
 returns-5 : tie.Need-returns-5
 returns-5 c =
@@ -77,12 +65,6 @@ returns-6 c =
     let start = same-start (given e) (own e) (len e) (e .if1 .left) (sized e) in
     rw (start, at 0 (omega arith), first, at 1 (omega arith), second, end 2 (omega arith))
 
-shared-slice-read-result : tie.Need-shared-slice-read-result
-shared-slice-read-result c = search needs
-
-array-read-result : tie.Need-array-read-result
-array-read-result c = search needs
-
 returns-7 : tie.Need-returns-7
 returns-7 c =
     let e = c .before .before .before .before .before .before .before .before in
@@ -100,14 +82,14 @@ is-named-spec =
     (tie.spec
     returns
     returns-2
-    shared-slice-read-if3
-    array-read-if3
+    (search needs)
+    (search needs)
     returns-3
     returns-4
-    shared-slice-read-if5
-    array-read-if5
+    (search needs)
+    (search needs)
     returns-5
     returns-6
-    shared-slice-read-result
-    array-read-result
+    (search needs)
+    (search needs)
     returns-7)

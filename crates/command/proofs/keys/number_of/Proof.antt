@@ -28,12 +28,6 @@ told c =
 loop-holds : tie.Need-loop-holds Inv-loop μ-loop
 loop-holds c = (omega arith, omega arith)
 
-mul-is-named : tie.Need-mul-is-named Inv-loop μ-loop
-mul-is-named c = search needs
-
-array-copy-out-is-named : tie.Need-array-copy-out-is-named Inv-loop μ-loop
-array-copy-out-is-named c = search needs
-
 is-named-requires : tie.Need-is-named-requires Inv-loop μ-loop
 unfolding split onto
 is-named-requires c κs =
@@ -44,12 +38,6 @@ returns c =
     let l = c .before .before .before .before in
     let here = named-here (l .before .before .args .name .now) (l .loop .k) (omega arith) (sym (told (c .before)) ∙ c .if1 .taken) in
     omega (arith, l .loop .inv .1, here)
-
-add-k : tie.Need-add-k Inv-loop μ-loop
-add-k c = search needs
-
-loop-less : tie.Need-loop-less Inv-loop μ-loop
-loop-less c = search needs
 
 loop-again : tie.Need-loop-again Inv-loop μ-loop
 loop-again c =
@@ -71,11 +59,11 @@ number-of-spec =
     Inv-loop
     μ-loop
     loop-holds
-    mul-is-named
-    array-copy-out-is-named
+    (search needs)
+    (search needs)
     is-named-requires
     returns
-    add-k
-    loop-less
+    (search needs)
+    (search needs)
     loop-again
     returns-2)

@@ -8,15 +8,6 @@ use Rattle.command.proofs.Names.{row-words}
 use Rattle.command.proofs.keys.place_of.Statement.{statement}
 use Rattle.command.proofs.keys.place_of.Tie as tie
 
-slice-aggregate-part : tie.Need-slice-aggregate-part
-slice-aggregate-part c = search needs
-
-part-requires : tie.Need-part-requires
-part-requires c κs = search needs
-
-place-in-requires : tie.Need-place-in-requires
-place-in-requires c κs = search needs
-
 returns : tie.Need-returns
 unfolding split onto join
 returns c =
@@ -25,4 +16,4 @@ returns c =
     c .place-in .ensures ∙ ap (λ (ws : List (List ℕ)). placeIn ws (a .v .now)) (row-words (a .k) _ (part .part .ensures))
 
 pub place-of-spec : {M : Type 1} → statement M
-place-of-spec = tie.close (tie.spec slice-aggregate-part part-requires place-in-requires returns)
+place-of-spec = tie.close (tie.spec (search needs) (search needs) (search needs) returns)

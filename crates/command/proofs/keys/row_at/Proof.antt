@@ -8,15 +8,9 @@ use Rattle.command.proofs.keys.row_at.Tie as tie
 returns : tie.Need-returns
 returns c = row-none (c .before .before .before .args .k) (omega arith)
 
-mul-result : tie.Need-mul-result
-mul-result c = search needs
-
-array-copy-out-result : tie.Need-array-copy-out-result
-array-copy-out-result c = search needs
-
 returns-2 : tie.Need-returns-2
 unfolding split onto
 returns-2 c = row-there (c .before .before .args .k) _ (omega arith)
 
 pub row-at-spec : {M : Type 1} → statement M
-row-at-spec = tie.close (tie.spec returns mul-result array-copy-out-result returns-2)
+row-at-spec = tie.close (tie.spec returns (λ c. search needs) (λ c. search needs) returns-2)

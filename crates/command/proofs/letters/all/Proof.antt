@@ -16,21 +16,6 @@ Inv-loop class s all₀ i₀ all i = every (byteOf class) s ≡ (all && every (b
 abbrev μ-loop : tie.MeasureT-loop
 μ-loop class s all₀ i₀ all i = length s - i
 
-loop-holds : tie.Need-loop-holds Inv-loop μ-loop
-loop-holds c = refl
-
-shared-slice-read-is : tie.Need-shared-slice-read-is Inv-loop μ-loop
-shared-slice-read-is c = search needs
-
-is-requires : tie.Need-is-requires Inv-loop μ-loop
-is-requires c κs = search needs
-
-add-i : tie.Need-add-i Inv-loop μ-loop
-add-i c = search needs
-
-loop-less : tie.Need-loop-less Inv-loop μ-loop
-loop-less c = search needs
-
 loop-again : tie.Need-loop-again Inv-loop μ-loop
 loop-again c =
     let a = c .before .before .before .before .before .args in
@@ -46,4 +31,4 @@ returns c =
 pub all-spec : {M : Type 1} → statement M
 all-spec =
     tie.close
-    (tie.spec Inv-loop μ-loop loop-holds shared-slice-read-is is-requires add-i loop-less loop-again returns)
+    (tie.spec Inv-loop μ-loop (λ c. refl) (search needs) (search needs) (search needs) (search needs) loop-again returns)

@@ -5,24 +5,6 @@ use borrow.Author.Needs.{needs}
 use Rattle.command.proofs.letters.is.Statement.{statement}
 use Rattle.command.proofs.letters.is.Tie as tie
 
-enum-told : tie.Need-enum-told
-enum-told c = search needs
-
-is-text-requires : tie.Need-is-text-requires
-is-text-requires c κs = search needs
-
-enum-told-2 : tie.Need-enum-told-2
-enum-told-2 c = search needs
-
-in-ranges-requires : tie.Need-in-ranges-requires
-in-ranges-requires c κs = search needs
-
-enum-told-3 : tie.Need-enum-told-3
-enum-told-3 c = search needs
-
-in-ranges-requires-2 : tie.Need-in-ranges-requires-2
-in-ranges-requires-2 c κs = search needs
-
 returns : tie.Need-returns
 returns c = rw (c .before .enum-told .given .1) (c .is-text .ensures)
 
@@ -36,12 +18,12 @@ pub is-spec : {M : Type 1} → statement M
 is-spec =
     tie.close
     (tie.spec
-    enum-told
-    is-text-requires
-    enum-told-2
-    in-ranges-requires
-    enum-told-3
-    in-ranges-requires-2
+    (search needs)
+    (search needs)
+    (search needs)
+    (search needs)
+    (search needs)
+    (search needs)
     returns
     returns-2
     returns-3)

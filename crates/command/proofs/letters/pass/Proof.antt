@@ -15,15 +15,6 @@ Inv-loop class s from i₀ i = i + run (byteOf class) (drop i s) ≡ from + run 
 abbrev μ-loop : tie.MeasureT-loop
 μ-loop class s from i₀ i = length s - i
 
-loop-holds : tie.Need-loop-holds Inv-loop μ-loop
-loop-holds c = refl
-
-shared-slice-read-is : tie.Need-shared-slice-read-is Inv-loop μ-loop
-shared-slice-read-is c = search needs
-
-is-requires : tie.Need-is-requires Inv-loop μ-loop
-is-requires c κs = search needs
-
 returns : tie.Need-returns Inv-loop μ-loop
 returns c =
     let told = c .before in
@@ -32,12 +23,6 @@ returns c =
     let a = turn .before .before .before .args in
     let e = sym (told .is .ensures) ∙ not-true _ (c .if1 .taken) in
     omega (arith, l .inv, run-off (byteOf (a .class)) (a .s .now) (l .i) (omega arith) e)
-
-add-i : tie.Need-add-i Inv-loop μ-loop
-add-i c = search needs
-
-loop-less : tie.Need-loop-less Inv-loop μ-loop
-loop-less c = search needs
 
 loop-again : tie.Need-loop-again Inv-loop μ-loop
 loop-again c =
@@ -60,11 +45,11 @@ pass-spec =
     (tie.spec
     Inv-loop
     μ-loop
-    loop-holds
-    shared-slice-read-is
-    is-requires
+    (λ c. refl)
+    (search needs)
+    (search needs)
     returns
-    add-i
-    loop-less
+    (search needs)
+    (search needs)
     loop-again
     returns-2)

@@ -26,15 +26,6 @@ within c =
 loop-holds : tie.Need-loop-holds Inv-loop μ-loop
 loop-holds c = (omega arith, refl)
 
-find-requires : tie.Need-find-requires Inv-loop μ-loop
-find-requires c κs = search needs
-
-sub-result : tie.Need-sub-result Inv-loop μ-loop
-sub-result c = omega arith
-
-part-result-start : tie.Need-part-result-start Inv-loop μ-loop
-part-result-start c = omega arith
-
 part-result-end : tie.Need-part-result-end Inv-loop μ-loop
 part-result-end c = within (c .before)
 
@@ -45,9 +36,6 @@ returns c =
     let a = find .before .before .before .args in
     let first = cut-first (a .b) (a .s .now) (l .from) (find .find .result) (l .inv .0) (find .find .ensures) .1 in
     sym (ap (λ (ps : List (List ℕ)). getD ps 0 []) first) ∙ rw (c .before .if1 .taken) at (l .inv .1)
-
-slice-aggregate-result : tie.Need-slice-aggregate-result Inv-loop μ-loop
-slice-aggregate-result c = search needs
 
 returns-2 : tie.Need-returns-2 Inv-loop μ-loop
 returns-2 c =
@@ -60,12 +48,6 @@ returns-2 c =
 
 add-from : tie.Need-add-from Inv-loop μ-loop
 add-from c = omega (arith, within (c .before .before))
-
-sub-left : tie.Need-sub-left Inv-loop μ-loop
-sub-left c = omega arith
-
-loop-less : tie.Need-loop-less Inv-loop μ-loop
-loop-less c = omega arith
 
 loop-again : tie.Need-loop-again Inv-loop μ-loop
 loop-again c =
@@ -82,14 +64,14 @@ part-spec =
     Inv-loop
     μ-loop
     loop-holds
-    find-requires
-    sub-result
-    part-result-start
+    (search needs)
+    (omega arith)
+    (omega arith)
     part-result-end
     returns
-    slice-aggregate-result
+    (search needs)
     returns-2
     add-from
-    sub-left
-    loop-less
+    (omega arith)
+    (omega arith)
     loop-again)

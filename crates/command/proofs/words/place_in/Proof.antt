@@ -32,9 +32,6 @@ within c = cut-within 32 (words c) (c .before .loop .at) (c .find .result) (c .b
 loop-holds : tie.Need-loop-holds Inv-loop μ-loop
 loop-holds c = (omega arith, omega arith, omega arith)
 
-find-requires : tie.Need-find-requires Inv-loop μ-loop
-find-requires c κs = search needs
-
 sub-equal : tie.Need-sub-equal Inv-loop μ-loop
 sub-equal c = omega (arith, within c)
 
@@ -44,9 +41,6 @@ part-equal-start c = omega (arith, within c)
 part-equal-end : tie.Need-part-equal-end Inv-loop μ-loop
 part-equal-end c = omega (arith, within c)
 
-equal-requires : tie.Need-equal-requires Inv-loop μ-loop
-equal-requires c κs = search needs
-
 returns : tie.Need-returns Inv-loop μ-loop
 returns c =
     let equal = c .before in
@@ -54,9 +48,6 @@ returns c =
     let l = find .before .loop in
     let p = cut-first 32 (words find) (l .at) (find .find .result) (l .inv .0) (find .find .ensures) in
     omega (arith, place-here (word find) (p .1) (sym (equal .equal .ensures) ∙ c .if1 .taken))
-
-add-n : tie.Need-add-n Inv-loop μ-loop
-add-n c = omega arith
 
 returns-2 : tie.Need-returns-2 Inv-loop μ-loop
 unfolding placeIn
@@ -92,13 +83,13 @@ place-in-spec =
     Inv-loop
     μ-loop
     loop-holds
-    find-requires
+    (search needs)
     sub-equal
     part-equal-start
     part-equal-end
-    equal-requires
+    (search needs)
     returns
-    add-n
+    (omega arith)
     returns-2
     add-at
     loop-less

@@ -23,9 +23,6 @@ within p = omega (arith, p .pass .ensures, run-le keyByte (drop (at p) (text p))
 signed : (c : tie.Else3) → let p = c .before .before .before .before in (at p < p .pass .result) × (p .pass .result < length (text p))
 signed c = let p = c .before .before .before .before in (omega (arith, p .pass .ensures), omega (arith, within p))
 
-pass-requires : tie.Need-pass-requires
-pass-requires c κs = search needs
-
 returns : tie.Need-returns
 returns c =
     let p = c .before in
@@ -48,20 +45,8 @@ returns-3 c =
 add-from : tie.Need-add-from
 add-from c = omega (arith, within (c .before .before .before .before))
 
-find-requires : tie.Need-find-requires
-find-requires c κs = search needs
-
-sub-number-of : tie.Need-sub-number-of
-sub-number-of c = search needs
-
-part-number-of-start : tie.Need-part-number-of-start
-part-number-of-start c = search needs
-
 part-number-of-end : tie.Need-part-number-of-end
 part-number-of-end c = within (c .before .before .before .before .before)
-
-number-of-requires : tie.Need-number-of-requires
-number-of-requires c κs = search needs
 
 returns-4 : tie.Need-returns-4
 returns-4 c =
@@ -101,16 +86,16 @@ pub next-field-spec : {M : Type 1} → statement M
 next-field-spec =
     tie.close
     (tie.spec
-    pass-requires
+    (search needs)
     returns
     shared-slice-read-if2
     returns-2
     returns-3
     add-from
-    find-requires
-    sub-number-of
-    part-number-of-start
+    (search needs)
+    (search needs)
+    (search needs)
     part-number-of-end
-    number-of-requires
+    (search needs)
     returns-4
     returns-5)

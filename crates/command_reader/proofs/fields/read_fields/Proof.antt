@@ -76,22 +76,10 @@ loop-holds c =
     let a = c .before .before .args in
     (omega arith, refl, omega arith, rw (le-leb 5 (length (a .text .now)) (omega arith)))
 
-next-field-requires : tie.Need-next-field-requires Inv-loop μ-loop
-next-field-requires c κs = omega arith
-
-enum-told : tie.Need-enum-told Inv-loop μ-loop
-enum-told c = search needs
-
-same-length : tie.Need-same-length Inv-loop μ-loop
-same-length c = search needs
-
 returns : tie.Need-returns Inv-loop μ-loop
 returns c =
     let field = c .before .before in
     rw (← field .before .before .loop .inv .3, named field (c .enum-told .given .1) (so-far field))
-
-enum-known-end : tie.Need-enum-known-end Inv-loop μ-loop
-enum-known-end c = search needs
 
 add-at : tie.Need-add-at Inv-loop μ-loop
 add-at c = let end = c .before in omega (arith, named (end .before .before) (end .end .given .1) .1)
@@ -107,9 +95,6 @@ loop-again c =
     let k = named field (end .end .given .1) in
     (omega (arith, k .1), l .inv .1, omega (arith, k .0), sym (k .2 (so-far field)) ∙ l .inv .3)
 
-enum-known-n : tie.Need-enum-known-n Inv-loop μ-loop
-enum-known-n c = search needs
-
 mul-slot : tie.Need-mul-slot Inv-loop μ-loop
 mul-slot c =
     let key = c .before in
@@ -117,9 +102,6 @@ mul-slot c =
 
 array-copy-out-slot : tie.Need-array-copy-out-slot Inv-loop μ-loop
 array-copy-out-slot c = let key = c .before in named (key .before .before) (key .n .given .1) .0
-
-same-length-2 : tie.Need-same-length-2 Inv-loop μ-loop
-same-length-2 c = search needs
 
 returns-2 : tie.Need-returns-2 Inv-loop μ-loop
 unfolding kept
@@ -144,9 +126,6 @@ keep-requires c κs =
     let k = named field (key .n .given .1) in
     let from = key .n .given .0 .1 .0 in
     omega (arith, k .1, k .3, field .before .before .loop .inv, length-take (key .n .given .0 .1 .1 .0 - from) (drop from (text field)))
-
-enum-known-filled : tie.Need-enum-known-filled Inv-loop μ-loop
-enum-known-filled c = search needs
 
 mul-slots : tie.Need-mul-slots Inv-loop μ-loop
 mul-slots c =
@@ -192,12 +171,6 @@ loop-again-2 c =
       sym on ∙ l .inv .3,
     )
 
-enum-known-r : tie.Need-enum-known-r Inv-loop μ-loop
-enum-known-r c = search needs
-
-same-length-3 : tie.Need-same-length-3 Inv-loop μ-loop
-same-length-3 c = search needs
-
 returns-3 : tie.Need-returns-3 Inv-loop μ-loop
 returns-3 c =
     let refused = c .before in
@@ -205,12 +178,6 @@ returns-3 c =
     let key = keep .before .before .before .before .before .before in
     let field = key .before .before in
     rw (← field .before .before .loop .inv .3, named field (key .n .given .1) .4 (so-far field), ← told keep, refused .r .given .1)
-
-complete-requires : tie.Need-complete-requires Inv-loop μ-loop
-complete-requires c κs = search needs
-
-same-length-4 : tie.Need-same-length-4 Inv-loop μ-loop
-same-length-4 c = search needs
 
 returns-4 : tie.Need-returns-4 Inv-loop μ-loop
 unfolding left
@@ -226,33 +193,33 @@ read-fields-spec =
     Inv-loop
     μ-loop
     loop-holds
-    next-field-requires
-    enum-told
-    same-length
+    (omega arith)
+    (search needs)
+    (search needs)
     returns
-    enum-known-end
+    (search needs)
     add-at
     loop-less
     loop-again
-    enum-known-n
+    (search needs)
     mul-slot
     array-copy-out-slot
-    same-length-2
+    (search needs)
     returns-2
     sub-keep
     part-keep-start
     part-keep-end
     keep-requires
-    enum-known-filled
+    (search needs)
     mul-slots
     array-set-from-slots
     add-used
     add-at-2
     loop-less-2
     loop-again-2
-    enum-known-r
-    same-length-3
+    (search needs)
+    (search needs)
     returns-3
-    complete-requires
-    same-length-4
+    (search needs)
+    (search needs)
     returns-4)

@@ -4,99 +4,6 @@ use borrow.Author.Needs.{needs}
 use Rattle.command_reader.proofs.slots.command_of.Statement.{statement}
 use Rattle.command_reader.proofs.slots.command_of.Tie as tie
 
-array-copy-out-code : tie.Need-array-copy-out-code
-array-copy-out-code c = search needs
-
-code-requires : tie.Need-code-requires
-code-requires c κs = search needs
-
-action-of-requires : tie.Need-action-of-requires
-action-of-requires c κs = search needs
-
-array-copy-out-code-2 : tie.Need-array-copy-out-code-2
-array-copy-out-code-2 c = search needs
-
-code-requires-2 : tie.Need-code-requires-2
-code-requires-2 c κs = search needs
-
-file-type-of-requires : tie.Need-file-type-of-requires
-file-type-of-requires c κs = search needs
-
-array-copy-out-code-3 : tie.Need-array-copy-out-code-3
-array-copy-out-code-3 c = search needs
-
-code-requires-3 : tie.Need-code-requires-3
-code-requires-3 c κs = search needs
-
-transmission-of-requires : tie.Need-transmission-of-requires
-transmission-of-requires c κs = search needs
-
-array-copy-out-place : tie.Need-array-copy-out-place
-array-copy-out-place c = search needs
-
-place-requires : tie.Need-place-requires
-place-requires c κs = search needs
-
-array-copy-out-place-2 : tie.Need-array-copy-out-place-2
-array-copy-out-place-2 c = search needs
-
-place-requires-2 : tie.Need-place-requires-2
-place-requires-2 c κs = search needs
-
-array-copy-out-place-3 : tie.Need-array-copy-out-place-3
-array-copy-out-place-3 c = search needs
-
-place-requires-3 : tie.Need-place-requires-3
-place-requires-3 c κs = search needs
-
-array-copy-out-code-4 : tie.Need-array-copy-out-code-4
-array-copy-out-code-4 c = search needs
-
-code-requires-4 : tie.Need-code-requires-4
-code-requires-4 c κs = search needs
-
-array-copy-out-number : tie.Need-array-copy-out-number
-array-copy-out-number c = search needs
-
-number-requires : tie.Need-number-requires
-number-requires c κs = search needs
-
-array-copy-out-number-2 : tie.Need-array-copy-out-number-2
-array-copy-out-number-2 c = search needs
-
-number-requires-2 : tie.Need-number-requires-2
-number-requires-2 c κs = search needs
-
-array-copy-out-number-3 : tie.Need-array-copy-out-number-3
-array-copy-out-number-3 c = search needs
-
-number-requires-3 : tie.Need-number-requires-3
-number-requires-3 c κs = search needs
-
-array-copy-out-place-4 : tie.Need-array-copy-out-place-4
-array-copy-out-place-4 c = search needs
-
-place-requires-4 : tie.Need-place-requires-4
-place-requires-4 c κs = search needs
-
-array-copy-out-place-5 : tie.Need-array-copy-out-place-5
-array-copy-out-place-5 c = search needs
-
-place-requires-5 : tie.Need-place-requires-5
-place-requires-5 c κs = search needs
-
-array-copy-out-place-6 : tie.Need-array-copy-out-place-6
-array-copy-out-place-6 c = search needs
-
-place-requires-6 : tie.Need-place-requires-6
-place-requires-6 c κs = search needs
-
-array-copy-out-place-7 : tie.Need-array-copy-out-place-7
-array-copy-out-place-7 c = search needs
-
-place-requires-7 : tie.Need-place-requires-7
-place-requires-7 c κs = search needs
-
 returns : tie.Need-returns
 unfolding commandOf
 returns c =
@@ -134,35 +41,35 @@ pub command-of-spec : {M : Type 1} → statement M
 command-of-spec =
     tie.close
     (tie.spec
-    array-copy-out-code
-    code-requires
-    action-of-requires
-    array-copy-out-code-2
-    code-requires-2
-    file-type-of-requires
-    array-copy-out-code-3
-    code-requires-3
-    transmission-of-requires
-    array-copy-out-place
-    place-requires
-    array-copy-out-place-2
-    place-requires-2
-    array-copy-out-place-3
-    place-requires-3
-    array-copy-out-code-4
-    code-requires-4
-    array-copy-out-number
-    number-requires
-    array-copy-out-number-2
-    number-requires-2
-    array-copy-out-number-3
-    number-requires-3
-    array-copy-out-place-4
-    place-requires-4
-    array-copy-out-place-5
-    place-requires-5
-    array-copy-out-place-6
-    place-requires-6
-    array-copy-out-place-7
-    place-requires-7
+    (search needs)
+    (search needs)
+    (search needs)
+    (search needs)
+    (search needs)
+    (search needs)
+    (search needs)
+    (search needs)
+    (search needs)
+    (search needs)
+    (search needs)
+    (search needs)
+    (search needs)
+    (search needs)
+    (search needs)
+    (search needs)
+    (search needs)
+    (search needs)
+    (search needs)
+    (search needs)
+    (search needs)
+    (search needs)
+    (search needs)
+    (search needs)
+    (search needs)
+    (search needs)
+    (search needs)
+    (search needs)
+    (search needs)
+    (search needs)
+    (search needs)
     returns)

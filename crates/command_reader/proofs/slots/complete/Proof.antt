@@ -25,12 +25,6 @@ acts Action.Finish h = refl
 acts Action.Cancel h = refl
 acts Action.Status h = refl
 
-command-of-requires : tie.Need-command-of-requires
-command-of-requires c κs = search needs
-
-enum-told : tie.Need-enum-told
-enum-told c = search needs
-
 returns : tie.Need-returns
 returns c = rw (← c .before .before .command-of .ensures, c .enum-told .given .1)
 
@@ -45,4 +39,4 @@ returns-3 c =
     rw (← acting .before .command-of .ensures, acts _ (acting .match .keys2), ne-eqb _ _ (c .if1 .left))
 
 pub complete-spec : {M : Type 1} → statement M
-complete-spec = tie.close (tie.spec command-of-requires enum-told returns returns-2 returns-3)
+complete-spec = tie.close (tie.spec (search needs) (search needs) returns returns-2 returns-3)

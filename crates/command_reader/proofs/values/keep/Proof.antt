@@ -10,38 +10,8 @@ use Rattle.command_reader.proofs.values.keep.Tie as tie
 kinded : (c : tie.After-row-at) {d : Kind} → c .row-at .result .kind ≡ d → Kinded (c .before .before .before .args .k) d
 kinded c e = row-kind (c .before .before .before .args .k) (sym (ap (λ (r : Row). r .kind) (c .row-at .ensures)) ∙ e)
 
-row-at-requires : tie.Need-row-at-requires
-row-at-requires c κs = search needs
-
-enum-known-kind : tie.Need-enum-known-kind
-enum-known-kind c = search needs
-
-cast-word : tie.Need-cast-word
-cast-word c = search needs
-
-cast-word-2 : tie.Need-cast-word-2
-cast-word-2 c = search needs
-
 word-requires : tie.Need-word-requires
 word-requires c κs = let kind = c .before in kinded (kind .before .before) (kind .kind .given .1) .counts
-
-enum-known-kind-2 : tie.Need-enum-known-kind-2
-enum-known-kind-2 c = search needs
-
-safe-requires : tie.Need-safe-requires
-safe-requires c κs = search needs
-
-enum-told : tie.Need-enum-told
-enum-told c = search needs
-
-integer-requires : tie.Need-integer-requires
-integer-requires c κs = search needs
-
-enum-told-2 : tie.Need-enum-told-2
-enum-told-2 c = search needs
-
-base64-requires : tie.Need-base64-requires
-base64-requires c κs = search needs
 
 returns : tie.Need-returns
 returns c =
@@ -58,9 +28,6 @@ returns-3 c =
     let kind = c .before in
     rw (kinded (kind .before .before) (kind .enum-told .given .1) .kinded) (c .integer .ensures _ _ _)
 
-same-length : tie.Need-same-length
-same-length c = search needs
-
 returns-4 : tie.Need-returns-4
 returns-4 c =
     let decoded = c .before .before in
@@ -71,19 +38,19 @@ pub keep-spec : {M : Type 1} → statement M
 keep-spec =
     tie.close
     (tie.spec
-    row-at-requires
-    enum-known-kind
-    cast-word
-    cast-word-2
+    (search needs)
+    (search needs)
+    (search needs)
+    (search needs)
     word-requires
-    enum-known-kind-2
-    safe-requires
-    enum-told
-    integer-requires
-    enum-told-2
-    base64-requires
+    (search needs)
+    (search needs)
+    (search needs)
+    (search needs)
+    (search needs)
+    (search needs)
     returns
     returns-2
     returns-3
-    same-length
+    (search needs)
     returns-4)

@@ -5,9 +5,6 @@ use borrow.Author.Needs.{needs}
 use Rattle.command_reader.proofs.values.safe.Statement.{statement}
 use Rattle.command_reader.proofs.values.safe.Tie as tie
 
-all-requires : tie.Need-all-requires
-all-requires c κs = search needs
-
 returns : tie.Need-returns
 unfolding valueRead safeRead
 returns c = λ scratch used n slots. rw (← c .before .all .ensures, not-true (c .before .all .result) (c .if1 .taken))
@@ -21,9 +18,6 @@ returns-2 c =
     let each = not-false (all .all .result) (safe .if1 .left) in
     λ scratch used n slots. rw (← all .all .ensures, each, limit .if2 .taken, lt-ltb _ _ (c .if3 .taken))
 
-placed-requires : tie.Need-placed-requires
-placed-requires c κs = search needs
-
 returns-3 : tie.Need-returns-3
 unfolding valueRead safeRead
 returns-3 c =
@@ -35,4 +29,4 @@ returns-3 c =
     (⊎-elim (λ w. rw (w .0 .taken, le-ltb _ _ (w .1 .left))) (λ w. rw (w .left)) (limit .if2 .came))
 
 pub safe-spec : {M : Type 1} → statement M
-safe-spec = tie.close (tie.spec all-requires returns returns-2 placed-requires returns-3)
+safe-spec = tie.close (tie.spec (search needs) returns returns-2 (search needs) returns-3)

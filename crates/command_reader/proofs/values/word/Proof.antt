@@ -16,15 +16,6 @@ over c =
     let found = c .before in
     omega (arith, found .place-of .ensures, c .if1 .left, found .before .before .pre .1)
 
-place-of-requires : tie.Need-place-of-requires
-place-of-requires c κs = search needs
-
-add-coded : tie.Need-add-coded
-add-coded c = search needs
-
-coded-requires : tie.Need-coded-requires
-coded-requires c κs = search needs
-
 returns : tie.Need-returns
 returns c =
     let known = c .before in
@@ -33,15 +24,6 @@ returns c =
     let a = entry .args in
     let word = word-known (a .k) (a .unknown) (a .first) (a .v .now) (found .place-of .result) (found .place-of .ensures) in
     λ at scratch used n slots. rw (c .coded .ensures, word (omega (arith, known .if1 .taken, entry .pre .1)))
-
-slice-aggregate-equal : tie.Need-slice-aggregate-equal
-slice-aggregate-equal c = search needs
-
-equal-requires : tie.Need-equal-requires
-equal-requires c κs = search needs
-
-coded-requires-2 : tie.Need-coded-requires-2
-coded-requires-2 c κs = search needs
 
 returns-2 : tie.Need-returns-2
 returns-2 c =
@@ -70,13 +52,13 @@ pub word-spec : {M : Type 1} → statement M
 word-spec =
     tie.close
     (tie.spec
-    place-of-requires
-    add-coded
-    coded-requires
+    (search needs)
+    (search needs)
+    (search needs)
     returns
-    slice-aggregate-equal
-    equal-requires
-    coded-requires-2
+    (search needs)
+    (search needs)
+    (search needs)
     returns-2
     returns-3
     returns-4)

@@ -25,31 +25,16 @@ short c = let r = c .row-at .result in omega (arith, sized c, length-take (r .le
 kinded : (c : tie.After-row-at) {d : Kind} → c .row-at .result .kind ≡ d → Kinded (c .before .before .before .before .args .k) d
 kinded c e = row-kind (c .before .before .before .before .args .k) (sym (ap (λ (r : Row). r .kind) (c .row-at .ensures)) ∙ e)
 
-row-at-requires : tie.Need-row-at-requires
-row-at-requires c κs = search needs
-
-enum-known-kind : tie.Need-enum-known-kind
-enum-known-kind c = search needs
-
 array-share-prefix-name : tie.Need-array-share-prefix-name
 array-share-prefix-name c = short (c .before .before .before .before)
 
 slice-aggregate-word : tie.Need-slice-aggregate-word
 slice-aggregate-word c = sized (c .before .before .before .before .before)
 
-cast-word : tie.Need-cast-word
-cast-word c = search needs
-
-cast-word-2 : tie.Need-cast-word-2
-cast-word-2 c = search needs
-
 word-requires : tie.Need-word-requires
 word-requires c κs =
     let kind = c .before .before .before in
     let k = kinded (kind .before .before .before) (kind .kind .given .1) .counts in (k .0, k .1)
-
-enum-known-kind-2 : tie.Need-enum-known-kind-2
-enum-known-kind-2 c = search needs
 
 array-share-prefix-name-2 : tie.Need-array-share-prefix-name-2
 array-share-prefix-name-2 c = short (c .before .before .before .before)
@@ -57,35 +42,17 @@ array-share-prefix-name-2 c = short (c .before .before .before .before)
 slice-aggregate-safe : tie.Need-slice-aggregate-safe
 slice-aggregate-safe c = sized (c .before .before .before .before .before)
 
-safe-requires : tie.Need-safe-requires
-safe-requires c κs = search needs
-
-enum-told : tie.Need-enum-told
-enum-told c = search needs
-
 array-share-prefix-name-3 : tie.Need-array-share-prefix-name-3
 array-share-prefix-name-3 c = short (c .before .before .before)
 
 slice-aggregate-integer : tie.Need-slice-aggregate-integer
 slice-aggregate-integer c = sized (c .before .before .before .before)
 
-integer-requires : tie.Need-integer-requires
-integer-requires c κs = search needs
-
-enum-told-2 : tie.Need-enum-told-2
-enum-told-2 c = search needs
-
 array-share-prefix-name-4 : tie.Need-array-share-prefix-name-4
 array-share-prefix-name-4 c = short (c .before .before .before)
 
 slice-aggregate-base64 : tie.Need-slice-aggregate-base64
 slice-aggregate-base64 c = sized (c .before .before .before .before)
-
-base64-requires : tie.Need-base64-requires
-base64-requires c κs = search needs
-
-same-length : tie.Need-same-length
-same-length c = search needs
 
 returns : tie.Need-returns
 unfolding shown
@@ -95,18 +62,12 @@ returns c =
     let row = kind .before .before .before in
     rw (← named row, kinded row (kind .kind .given .1) .kinded) (word .word .ensures)
 
-same-length-2 : tie.Need-same-length-2
-same-length-2 c = search needs
-
 returns-2 : tie.Need-returns-2
 returns-2 c =
     let safe = c .before .before in
     let kind = safe .before .before .before .before in
     let row = kind .before .before .before in
     rw (← named row, kinded row (kind .kind2 .given .1) .kinded) (safe .safe .ensures)
-
-same-length-3 : tie.Need-same-length-3
-same-length-3 c = search needs
 
 returns-3 : tie.Need-returns-3
 unfolding shown
@@ -115,9 +76,6 @@ returns-3 c =
     let kind = integer .before .before .before in
     let row = kind .before .before .before in
     rw (← named row, kinded row (kind .enum-told .given .1) .kinded) (integer .integer .ensures)
-
-same-length-4 : tie.Need-same-length-4
-same-length-4 c = search needs
 
 returns-4 : tie.Need-returns-4
 returns-4 c =
@@ -130,30 +88,30 @@ pub put-field-spec : {M : Type 1} → statement M
 put-field-spec =
     tie.close
     (tie.spec
-    row-at-requires
-    enum-known-kind
+    (search needs)
+    (search needs)
     array-share-prefix-name
     slice-aggregate-word
-    cast-word
-    cast-word-2
+    (search needs)
+    (search needs)
     word-requires
-    enum-known-kind-2
+    (search needs)
     array-share-prefix-name-2
     slice-aggregate-safe
-    safe-requires
-    enum-told
+    (search needs)
+    (search needs)
     array-share-prefix-name-3
     slice-aggregate-integer
-    integer-requires
-    enum-told-2
+    (search needs)
+    (search needs)
     array-share-prefix-name-4
     slice-aggregate-base64
-    base64-requires
-    same-length
+    (search needs)
+    (search needs)
     returns
-    same-length-2
+    (search needs)
     returns-2
-    same-length-3
+    (search needs)
     returns-3
-    same-length-4
+    (search needs)
     returns-4)

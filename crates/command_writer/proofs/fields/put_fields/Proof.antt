@@ -24,35 +24,8 @@ Inv-loop text scratch out₀ slots at₀ k₀ out at k =
 abbrev μ-loop : tie.MeasureT-loop
 μ-loop text scratch out₀ slots at₀ k₀ out at k = 15 - k
 
-slots-requires : tie.Need-slots-requires Inv-loop μ-loop
-slots-requires c κs = search needs
-
-slice-aggregate-put : tie.Need-slice-aggregate-put Inv-loop μ-loop
-slice-aggregate-put c = search needs
-
-put-requires : tie.Need-put-requires Inv-loop μ-loop
-put-requires c κs = search needs
-
 loop-holds : tie.Need-loop-holds Inv-loop μ-loop
 loop-holds c = (omega arith, refl, refl, λ end after p. p)
-
-mul-put-field : tie.Need-mul-put-field Inv-loop μ-loop
-mul-put-field c = search needs
-
-array-copy-out-put-field : tie.Need-array-copy-out-put-field Inv-loop μ-loop
-array-copy-out-put-field c = search needs
-
-put-field-requires : tie.Need-put-field-requires Inv-loop μ-loop
-put-field-requires c κs = search needs
-
-enum-known-end : tie.Need-enum-known-end Inv-loop μ-loop
-enum-known-end c = search needs
-
-enum-known-refusal : tie.Need-enum-known-refusal Inv-loop μ-loop
-enum-known-refusal c = search needs
-
-same-length : tie.Need-same-length Inv-loop μ-loop
-same-length c = search needs
 
 returns : tie.Need-returns Inv-loop μ-loop
 returns c =
@@ -69,12 +42,6 @@ returns c =
     let t = off (l .out) (put .put-field .last .1 .1 .1 .1 .0) (l .at) (refused .refusal .given .0 .0) field in
     rw (values-all (a .command) (s .result) (s .ensures) (a .text .now) (a .scratch .now), sym (l .inv .2) ∙ t)
 
-add-k : tie.Need-add-k Inv-loop μ-loop
-add-k c = omega arith
-
-loop-less : tie.Need-loop-less Inv-loop μ-loop
-loop-less c = omega arith
-
 loop-again : tie.Need-loop-again Inv-loop μ-loop
 loop-again c =
     let on = c .before in
@@ -89,9 +56,6 @@ loop-again c =
     let field = rw (on .end .given .1) at (put .put-field .ensures) in
     let t = turn (l .out) (put .put-field .last .1 .1 .1 .1 .0) (l .at) (on .end .given .0 .0) field in
     (omega arith, omega arith, sym (t .0) ∙ l .inv .2, λ end after p. l .inv .3 end after (t .1 end after p))
-
-same-length-2 : tie.Need-same-length-2 Inv-loop μ-loop
-same-length-2 c = search needs
 
 returns-2 : tie.Need-returns-2 Inv-loop μ-loop
 unfolding checkedOf pieces
@@ -114,19 +78,19 @@ put-fields-spec =
     (tie.spec
     Inv-loop
     μ-loop
-    slots-requires
-    slice-aggregate-put
-    put-requires
+    (search needs)
+    (search needs)
+    (search needs)
     loop-holds
-    mul-put-field
-    array-copy-out-put-field
-    put-field-requires
-    enum-known-end
-    enum-known-refusal
-    same-length
+    (search needs)
+    (search needs)
+    (search needs)
+    (search needs)
+    (search needs)
+    (search needs)
     returns
-    add-k
-    loop-less
+    (omega arith)
+    (omega arith)
     loop-again
-    same-length-2
+    (search needs)
     returns-2)

@@ -4,15 +4,6 @@ use borrow.Author.Needs.{needs}
 use Rattle.command_writer.proofs.store.put.Statement.{statement}
 use Rattle.command_writer.proofs.store.put.Tie as tie
 
-copy-at-requires : tie.Need-copy-at-requires
-copy-at-requires c κs = search needs
-
-end-of-requires : tie.Need-end-of-requires
-end-of-requires c κs = search needs
-
-same-length : tie.Need-same-length
-same-length c = search needs
-
 returns : tie.Need-returns
 unfolding copyAt
 returns c =
@@ -21,4 +12,4 @@ returns c =
     put-stored _ _ (a .s .now) (a .out .now) (a .at) (c .end-of .result) (copy .copy-at .ensures) (c .end-of .ensures)
 
 pub put-spec : {M : Type 1} → statement M
-put-spec = tie.close (tie.spec copy-at-requires end-of-requires same-length returns)
+put-spec = tie.close (tie.spec (search needs) (search needs) (search needs) returns)

@@ -19,47 +19,14 @@ told c w end e s =
     let a = c .before .before .before .args in
     put-number (a .n) (a .out .now) _ (a .at) end w (rw e at (c .write .ensures .0)) s
 
-write-requires : tie.Need-write-requires
-write-requires c κs = search needs
-
-enum-known-end : tie.Need-enum-known-end
-enum-known-end c = search needs
-
-enum-told : tie.Need-enum-told
-enum-told c = search needs
-
-enum-told-2 : tie.Need-enum-told-2
-enum-told-2 c = search needs
-
-enum-told-3 : tie.Need-enum-told-3
-enum-told-3 c = search needs
-
-text-length-requires : tie.Need-text-length-requires
-text-length-requires c κs = search needs
-
-end-of-requires : tie.Need-end-of-requires
-end-of-requires c κs = search needs
-
-same-length : tie.Need-same-length
-same-length c = search needs
-
 returns : tie.Need-returns
 returns c = let end = c .before in told (end .before .before .before .before) _ _ (end .end .given .1) refl
-
-same-length-2 : tie.Need-same-length-2
-same-length-2 c = search needs
 
 returns-2 : tie.Need-returns-2
 returns-2 c = told (c .before .before .before .before) _ _ (c .enum-told .given .1) refl
 
-same-length-3 : tie.Need-same-length-3
-same-length-3 c = search needs
-
 returns-3 : tie.Need-returns-3
 returns-3 c = told (c .before .before .before .before) _ _ (c .enum-told2 .given .1) refl
-
-same-length-4 : tie.Need-same-length-4
-same-length-4 c = search needs
 
 returns-4 : tie.Need-returns-4
 returns-4 c =
@@ -72,18 +39,18 @@ pub put-number-spec : {M : Type 1} → statement M
 put-number-spec =
     tie.close
     (tie.spec
-    write-requires
-    enum-known-end
-    enum-told
-    enum-told-2
-    enum-told-3
-    text-length-requires
-    end-of-requires
-    same-length
+    (search needs)
+    (search needs)
+    (search needs)
+    (search needs)
+    (search needs)
+    (search needs)
+    (search needs)
+    (search needs)
     returns
-    same-length-2
+    (search needs)
     returns-2
-    same-length-3
+    (search needs)
     returns-3
-    same-length-4
+    (search needs)
     returns-4)

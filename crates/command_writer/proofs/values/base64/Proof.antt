@@ -19,9 +19,6 @@ inside : (c : tie.Else1) → let a = c .before .before .before .before .before .
     leb (a .place .start + a .place .len) (length (a .scratch .now)) ≡ true
 inside c = sym (c .before .fits2 .ensures) ∙ not-false (c .before .fits2 .result) (c .if1 .left)
 
-fits-requires : tie.Need-fits-requires
-fits-requires c κs = search needs
-
 returns : tie.Need-returns
 unfolding shown
 returns c =
@@ -36,17 +33,8 @@ returns-2 c =
     let a = within .before .before .before .before .before .args in
     rw (place-in (a .scratch .now) (a .place) (inside within), c .if2 .taken) (a .at, refl, put-none (a .out .now) (a .at))
 
-put-key-requires : tie.Need-put-key-requires
-put-key-requires c κs = search needs
-
 bytes-at-requires : tie.Need-bytes-at-requires
 bytes-at-requires c κs = leb-true _ _ (inside (c .before .before .before .before .before .before))
-
-put-base64-requires : tie.Need-put-base64-requires
-put-base64-requires c κs = search needs
-
-same-length : tie.Need-same-length
-same-length c = search needs
 
 returns-3 : tie.Need-returns-3
 returns-3 c =
@@ -66,11 +54,11 @@ pub base64-spec : {M : Type 1} → statement M
 base64-spec =
     tie.close
     (tie.spec
-    fits-requires
+    (search needs)
     returns
     returns-2
-    put-key-requires
+    (search needs)
     bytes-at-requires
-    put-base64-requires
-    same-length
+    (search needs)
+    (search needs)
     returns-3)

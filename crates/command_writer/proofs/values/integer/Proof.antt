@@ -7,15 +7,6 @@ use borrow.Author.Needs.{needs}
 use Rattle.command_writer.proofs.values.integer.Statement.{statement}
 use Rattle.command_writer.proofs.values.integer.Tie as tie
 
-put-key-requires : tie.Need-put-key-requires
-put-key-requires c κs = search needs
-
-put-number-requires : tie.Need-put-number-requires
-put-number-requires c κs = search needs
-
-same-length : tie.Need-same-length
-same-length c = search needs
-
 returns : tie.Need-returns
 returns c =
     let put = c .before .before in
@@ -36,4 +27,4 @@ returns-3 c =
 pub integer-spec : {M : Type 1} → statement M
 integer-spec =
     tie.close
-    (tie.spec put-key-requires put-number-requires same-length returns returns-2 returns-3)
+    (tie.spec (search needs) (search needs) (search needs) returns returns-2 returns-3)

@@ -44,9 +44,6 @@ shown-here : (c : tie.Else2) → let b = c .before .before in let a = start b .a
     ≡ cond (over (a .short) (bytes b)) (unshown Refusal.TooLong) (textOr (bytes b))
 shown-here c = let all = c .before in shown-by all ∙ rw (not-false (all .all .result) (c .if2 .left))
 
-fits-requires : tie.Need-fits-requires
-fits-requires c κs = search needs
-
 returns : tie.Need-returns
 unfolding shown
 returns c =
@@ -57,14 +54,8 @@ returns c =
 bytes-at-requires : tie.Need-bytes-at-requires
 bytes-at-requires c κs = leb-true _ _ (inside c)
 
-all-requires : tie.Need-all-requires
-all-requires c κs = search needs
-
 returns-2 : tie.Need-returns-2
 returns-2 c = let all = c .before in rw (shown-by all, not-true (all .all .result) (c .if2 .taken))
-
-over-requires : tie.Need-over-requires
-over-requires c κs = search needs
 
 returns-3 : tie.Need-returns-3
 returns-3 c = let over = c .before in rw (shown-here (over .before), ← over .over .ensures, c .if3 .taken)
@@ -78,15 +69,6 @@ returns-4 c =
     let a = start b .args in
     rw (shown-here here, ← over .over .ensures, short .if3 .left, text-none (bytes b) (c .if4 .taken))
     (a .at, refl, put-none (a .out .now) (a .at))
-
-put-key-requires : tie.Need-put-key-requires
-put-key-requires c κs = search needs
-
-put-requires : tie.Need-put-requires
-put-requires c κs = search needs
-
-same-length : tie.Need-same-length
-same-length c = search needs
 
 returns-5 : tie.Need-returns-5
 returns-5 c =
@@ -105,15 +87,15 @@ pub safe-spec : {M : Type 1} → statement M
 safe-spec =
     tie.close
     (tie.spec
-    fits-requires
+    (search needs)
     returns
     bytes-at-requires
-    all-requires
+    (search needs)
     returns-2
-    over-requires
+    (search needs)
     returns-3
     returns-4
-    put-key-requires
-    put-requires
-    same-length
+    (search needs)
+    (search needs)
+    (search needs)
     returns-5)

@@ -34,9 +34,6 @@ returns-2 c =
     let a = c .before .before .before .before .before .args in
     rw (c .before .before .if1 .left, eq-eqb _ _ (c .if2 .taken)) (a .at, refl, put-none (a .out .now) (a .at))
 
-sub-i : tie.Need-sub-i
-sub-i c = search needs
-
 returns-3 : tie.Need-returns-3
 unfolding wordShown
 returns-3 c =
@@ -44,24 +41,6 @@ returns-3 c =
     let positive = some .before .before in
     let entry = positive .before .before .before in
     rw (positive .if1 .left, ne-eqb _ _ (some .if2 .left), entry .pre .1, le-ltb _ _ (c .if3 .taken))
-
-put-key-requires : tie.Need-put-key-requires
-put-key-requires c κs = search needs
-
-slice-aggregate-part : tie.Need-slice-aggregate-part
-slice-aggregate-part c = search needs
-
-part-requires : tie.Need-part-requires
-part-requires c κs = search needs
-
-part-requires-2 : tie.Need-part-requires-2
-part-requires-2 c κs = search needs
-
-put-requires : tie.Need-put-requires
-put-requires c κs = search needs
-
-same-length : tie.Need-same-length
-same-length c = search needs
 
 returns-4 : tie.Need-returns-4
 unfolding wordShown
@@ -83,12 +62,12 @@ word-spec =
     (tie.spec
     returns
     returns-2
-    sub-i
+    (search needs)
     returns-3
-    put-key-requires
-    slice-aggregate-part
-    part-requires
-    part-requires-2
-    put-requires
-    same-length
+    (search needs)
+    (search needs)
+    (search needs)
+    (search needs)
+    (search needs)
+    (search needs)
     returns-4)
