@@ -69,18 +69,12 @@ fn lacks(command: Command) -> bool
     ensures { λ r. ⌜ r ≡ (eqb (actionCode (command .action)) 0 || eqb (command .id .len) 0) ⌝ }
 {
     let action = command.action;
-    if slots::action_code(action) == 0 {
-        return true;
-    }
-    command.id.len == 0
+    (slots::action_code(action) == 0) | (command.id.len == 0)
 }
 
 // Whether a text of n bytes passes the limit, or a buffer of this length is shorter.
 fn no_room(n: usize, len: usize) -> bool
     ensures { λ r. ⌜ r ≡ (ltb textLimit n || ltb len n) ⌝ }
 {
-    if n > Framing::TEXT_LIMIT {
-        return true;
-    }
-    n > len
+    (n > Framing::TEXT_LIMIT) | (n > len)
 }

@@ -99,10 +99,7 @@ pub(crate) fn safe(
 fn over(short: bool, len: usize) -> bool
     ensures { λ r. ⌜ r ≡ (short && ltb 32 len) ⌝ }
 {
-    if short {
-        return len > 32;
-    }
-    false
+    short & (len > 32)
 }
 
 // The Base64 of bytes, which stand in the scratch.
