@@ -1,10 +1,10 @@
 -- What the text of a value reads as, by its kind: the one place where the cases of `valueRead` are told apart.
 use Prim.Native.Nat.{ℕ, suc, _+_, _*_, _≤_, _<_, max}
-use mathlib.Core.Path.{_≡_, refl, sym, _∙_}
+use mathlib.Core.Path.{_≡_, refl}
 use mathlib.Core.Bool.{Bool, true, false, not, cond, _&&_}
 use mathlib.Core.List.{List, [], _∷_}
 use native.Mathlib.Omega.{arith}
-use lib.ListN.{length, List·getD-map}
+use lib.ListN.{length}
 use lib.Dec.{ltb, leb}
 use borrow.Author.Tests.{ltb-true}
 use Rattle.octets.specs.Members.{every}
@@ -19,7 +19,7 @@ use Rattle.decimal.specs.Read.{parseOf}
 use Rattle.decimal.specs.declared.Number.{Number}
 use Rattle.decimal.specs.declared.Parsed.{Parsed}
 use Rattle.decimal.specs.declared.Parsed.the-variants as Parsed
-use Rattle.command.specs.Keys.{Alias, Kind, Key, key, keys, placeIn, kindAt}
+use Rattle.command.specs.Keys.{Alias, Kind, keys, placeIn, kindAt}
 use Rattle.command.specs.Letters.{safeByte}
 use Rattle.command.specs.Refusals.{refusalNumber}
 use Rattle.command.specs.Values.{Value, count, Got, refuses, aliasRead, wordRead, over, safeRead}
@@ -27,6 +27,7 @@ use Rattle.command.specs.Values.{integerRead, base64Refusal, base64Read,
 use Rattle.command.specs.Read.{storedFor}
 use Rattle.command.specs.declared.Refusal.{Refusal}
 use Rattle.command.specs.declared.Refusal.the-variants as Refusal
+use Rattle.command.proofs.Names.{at-key}
 
 -- the codes of a kind's words lie below this: `end` is where those that count on from the first end
 abbrev pub codesEnd : ℕ → List Alias → ℕ
@@ -46,9 +47,7 @@ known Kind.base64 = true
 
 -- as that of each key is
 pub keys-known : (n : ℕ) → known (kindAt keys n) ≡ true
-keys-known n =
-    sym (List·getD-map (λ (k : Key). known (k .kind)) keys n (key "" Kind.integer))
-    ∙ List·getD-map (λ (k : Key). true) keys n (key "" Kind.integer)
+keys-known n = at-key (λ k. known (k .kind)) (λ k. true) refl refl n
 
 pub data Reads : Kind → List ℕ → Got → Type 0 where
   as-word : {unknown : Refusal} {first : ℕ} {ws : List (List ℕ)} {aliases : List Alias} {v : List ℕ} {c : ℕ}

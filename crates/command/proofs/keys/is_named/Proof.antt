@@ -1,95 +1,53 @@
-use Prim.Native.Nat.{ℕ}
 use mathlib.Core.Path.{_≡_, sym}
-use mathlib.Core.List.{List}
 use native.Mathlib.Omega.{arith}
-use lib.ListN.{length, take}
+use lib.ListN.{take}
 use borrow.Author.Needs.{needs}
-use borrow.Author.Tests.{eq-eqb, ne-eqb}
+use borrow.Author.Tests.{le-ltb, eq-eqb}
+use Rattle.octets.specs.Slices.{equals}
 use Rattle.octets.proofs.Compare.{equals-lengths}
-use Rattle.command.proofs.Names.{same-start, same-at, same-end, chosen}
+use Rattle.octets.proofs.Tests.{tests}
+use Rattle.command.proofs.Names.{compared, same-name}
 use Rattle.command.proofs.keys.is_named.Statement.{statement}
 use Rattle.command.proofs.keys.is_named.Tie as tie
-
--- the name and the row's, of one length
-abbrev given : tie.Else1 → List ℕ
-given c = c .before .before .args .name .now
-
-abbrev own : tie.Else1 → List ℕ
-own c = c .before .before .args .row .name
-
-abbrev len : tie.Else1 → ℕ
-len c = c .before .before .args .row .len
-
-abbrev sized : (c : tie.Else1) → length (take (len c) (own c)) ≡ len c
-sized c = c .before .before .pre .1
 
 returns : tie.Need-returns
 returns c = let s = c .before .before in sym (equals-lengths _ _ (λ e. c .if1 .taken (omega (arith, s .pre .1))))
 
-returns-2 : tie.Need-returns-2
-returns-2 c =
-    let e = c .before in
-    let start = same-start (given e) (own e) (len e) (e .if1 .left) (sized e) in
-    rw (start, same-end (given e) (own e) (len e) (e .if1 .left) (sized e) 0 (omega arith))
-
-returns-3 : tie.Need-returns-3
-returns-3 c =
-    let e = c .before .before .before in
-    let at = same-at (given e) (own e) (len e) (e .if1 .left) (sized e) in
-    let start = same-start (given e) (own e) (len e) (e .if1 .left) (sized e) in
-    rw (start, at 0 (omega arith), ne-eqb _ _ (c .if3 .taken))
-
-returns-4 : tie.Need-returns-4
-returns-4 c =
-    let e = c .before .before .before .before in
-    let at = same-at (given e) (own e) (len e) (e .if1 .left) (sized e) in
-    let end = same-end (given e) (own e) (len e) (e .if1 .left) (sized e) in
-    let start = same-start (given e) (own e) (len e) (e .if1 .left) (sized e) in
-    rw (start, at 0 (omega arith), eq-eqb _ _ (c .before .if3 .left), end 1 (omega arith))
-
-returns-5 : tie.Need-returns-5
-returns-5 c =
-    let e = c .before .before .before .before .before .before in
-    let at = same-at (given e) (own e) (len e) (e .if1 .left) (sized e) in
-    let first = eq-eqb _ _ (c .before .before .before .if3 .left) in
-    let start = same-start (given e) (own e) (len e) (e .if1 .left) (sized e) in
-    rw (start, at 0 (omega arith), first, at 1 (omega arith), ne-eqb _ _ (c .if5 .taken))
-
-returns-6 : tie.Need-returns-6
-returns-6 c =
-    let e = c .before .before .before .before .before .before .before in
-    let at = same-at (given e) (own e) (len e) (e .if1 .left) (sized e) in
-    let end = same-end (given e) (own e) (len e) (e .if1 .left) (sized e) in
-    let first = eq-eqb _ _ (c .before .before .before .before .if3 .left) in
-    let second = eq-eqb _ _ (c .before .if5 .left) in
-    let start = same-start (given e) (own e) (len e) (e .if1 .left) (sized e) in
-    rw (start, at 0 (omega arith), first, at 1 (omega arith), second, end 2 (omega arith))
+-- names of one length are compared byte by byte
+told : (c : tie.Else1) → let a = c .before .before .args in
+    equals (a .name .now) (take (a .row .len) (a .row .name)) ≡ compared (a .name .now) (a .row .name) (a .row .len)
+told c =
+    let s = c .before .before in
+    same-name (s .args .name .now) (s .args .row .name) (s .args .row .len) (c .if1 .left) (s .pre .1) (s .pre .0)
 
 returns-7 : tie.Need-returns-7
 returns-7 c =
-    let e = c .before .before .before .before .before .before .before .before in
-    let at = same-at (given e) (own e) (len e) (e .if1 .left) (sized e) in
-    let end = same-end (given e) (own e) (len e) (e .if1 .left) (sized e) 3 (omega arith) in
-    let first = eq-eqb _ _ (c .before .before .before .before .before .if3 .left) in
-    let second = eq-eqb _ _ (c .before .before .if5 .left) in
-    let start = same-start (given e) (own e) (len e) (e .if1 .left) (sized e) in
-    rw (start, at 0 (omega arith), first, at 1 (omega arith), second, at 2 (omega arith), end)
-    (chosen _)
+    let second = c .before .before in
+    let first = second .before .before .before in
+    let some = first .before .before in
+    rw (
+      told (some .before),
+      le-ltb _ _ (some .if2 .left),
+      eq-eqb _ _ (first .if3 .left),
+      le-ltb _ _ (second .before .before .if4 .left),
+      eq-eqb _ _ (second .if5 .left),
+      le-ltb _ _ (c .before .if6 .left),
+    )
 
 pub is-named-spec : {M : Type 1} → statement M
 is-named-spec =
     tie.close
     (tie.spec
     returns
-    returns-2
+    (λ c. rw (told (c .before)) (search tests))
     (search needs)
     (search needs)
-    returns-3
-    returns-4
+    (λ c. rw (told (c .before .before .before)) (search tests))
+    (λ c. rw (told (c .before .before .before .before)) (search tests))
     (search needs)
     (search needs)
-    returns-5
-    returns-6
+    (λ c. rw (told (c .before .before .before .before .before .before)) (search tests))
+    (λ c. rw (told (c .before .before .before .before .before .before .before)) (search tests))
     (search needs)
     (search needs)
     returns-7)

@@ -6,7 +6,8 @@ use borrow.Author.Needs.{needs}
 use Rattle.octets.specs.Slices.{equals}
 use Rattle.octets.specs.Split.{split, onto}
 use Rattle.command.specs.Keys.{keys, keyAt, names, placeIn, numberOf}
-use Rattle.command.proofs.Names.{row-name, row-short, row-there, named-here, named-later}
+use Rattle.command.proofs.Names.{row-name, row-short, row-there, names-next}
+use Rattle.command.proofs.WordPlaces.{place-here, place-later}
 use Rattle.command.proofs.keys.number_of.Statement.{statement}
 use Rattle.command.proofs.keys.number_of.Tie as tie
 
@@ -36,13 +37,13 @@ is-named-requires c κs =
 returns : tie.Need-returns Inv-loop μ-loop
 returns c =
     let l = c .before .before .before .before in
-    let here = named-here (l .before .before .args .name .now) (l .loop .k) (omega arith) (sym (told (c .before)) ∙ c .if1 .taken) in
+    let here = place-here (l .before .before .args .name .now) (names-next (l .loop .k) (omega arith)) (sym (told (c .before)) ∙ c .if1 .taken) in
     omega (arith, l .loop .inv .1, here)
 
 loop-again : tie.Need-loop-again Inv-loop μ-loop
 loop-again c =
     let l = c .before .before .before .before in
-    let later = named-later (l .before .before .args .name .now) (l .loop .k) (omega arith) (sym (told (c .before)) ∙ c .if1 .left) in
+    let later = place-later (l .before .before .args .name .now) (names-next (l .loop .k) (omega arith)) (sym (told (c .before)) ∙ c .if1 .left) in
     (omega arith, omega (arith, l .loop .inv .1, later))
 
 returns-2 : tie.Need-returns-2 Inv-loop μ-loop

@@ -1,14 +1,13 @@
-use mathlib.Core.Path.{_≡_, sym, _∙_, ap}
+use mathlib.Core.Path.{_≡_}
 use borrow.Author.Needs.{needs}
 use Rattle.command.specs.declared.keys.Kind.{Kind}
-use Rattle.command.specs.declared.keys.Row.{Row}
 use Rattle.command.proofs.Names.{Kinded, row-kind}
 use Rattle.command_reader.proofs.values.keep.Statement.{statement}
 use Rattle.command_reader.proofs.values.keep.Tie as tie
 
 -- the kind that the row tells is that of the key
 kinded : (c : tie.After-row-at) {d : Kind} → c .row-at .result .kind ≡ d → Kinded (c .before .before .before .args .k) d
-kinded c e = row-kind (c .before .before .before .args .k) (sym (ap (λ (r : Row). r .kind) (c .row-at .ensures)) ∙ e)
+kinded c e = row-kind (c .before .before .before .args .k) (c .row-at .ensures) e
 
 word-requires : tie.Need-word-requires
 word-requires c κs = let kind = c .before in kinded (kind .before .before) (kind .kind .given .1) .counts

@@ -1,11 +1,10 @@
 use Prim.Native.Nat.{_≤_}
-use mathlib.Core.Path.{_≡_, sym, _∙_, ap}
+use mathlib.Core.Path.{_≡_, sym, ap}
 use native.Mathlib.Omega.{arith}
 use lib.ListN.{length, take, length-take}
 use Rattle.command.specs.Keys.{keys, keyAt}
 use Rattle.command.specs.Values.{shown}
 use Rattle.command.specs.declared.keys.Kind.{Kind}
-use Rattle.command.specs.declared.keys.Row.{Row}
 use Rattle.command.proofs.Names.{Kinded, row-kind, row-name}
 use borrow.Author.Needs.{needs}
 use Rattle.command_writer.proofs.fields.put_field.Statement.{statement}
@@ -23,7 +22,7 @@ short : (c : tie.After-row-at) → let r = c .row-at .result in r .len ≤ lengt
 short c = let r = c .row-at .result in omega (arith, sized c, length-take (r .len) (r .name))
 
 kinded : (c : tie.After-row-at) {d : Kind} → c .row-at .result .kind ≡ d → Kinded (c .before .before .before .before .args .k) d
-kinded c e = row-kind (c .before .before .before .before .args .k) (sym (ap (λ (r : Row). r .kind) (c .row-at .ensures)) ∙ e)
+kinded c e = row-kind (c .before .before .before .before .args .k) (c .row-at .ensures) e
 
 array-share-prefix-name : tie.Need-array-share-prefix-name
 array-share-prefix-name c = short (c .before .before .before .before)
