@@ -2,7 +2,7 @@
 -- values that it takes.
 use Prim.Native.Nat.{ℕ, zero, suc, _≤_, _<_}
 use mathlib.Core.Path.{_≡_, refl, sym, _∙_, ap}
-use mathlib.Core.Bool.{Bool, true, false, not, _||_}
+use mathlib.Core.Bool.{Bool, true, false, not, _||_, true≢false, false≢true}
 use mathlib.Core.Logic.{_⊎_, inl, inr}
 use mathlib.Core.List.{List, [], _∷_, _++_}
 use native.Mathlib.Decide.{decLt}
@@ -19,7 +19,7 @@ use Rattle.command.specs.Canonical.{field, fieldsOf}
 use Rattle.command.specs.Grammar.{needed, CanonicalFields, no-more, left-out, there}
 use Rattle.command.specs.Write.{Checked, before, checkedOf}
 use Rattle.command.specs.declared.Refusal.{Refusal}
-use Rattle.command.proofs.Calm.{either-test}
+use Rattle.command.proofs.Calm.{either-test, either-false}
 use Rattle.command.proofs.WrittenValues.{Spelled, Met, met, spelled-shown, absent-shown}
 use Rattle.command.proofs.WrittenValues as Written
 use Rattle.command.proofs.CanonicalValues.{value-spelled, spelled-canonical}
@@ -31,10 +31,6 @@ pub data Fits : List Key → List Value → List (List ℕ) → Type 0 where
       → x ≡ absent (k .kind) → needed k ≡ false → Fits ks c fs → Fits (k ∷ ks) (x ∷ c) fs
   with-text : {k : Key} {ks : List Key} {x : Value} {c : List Value} {fs : List (List ℕ)} (v : List ℕ)
       → Spelled (k .kind) x v → Fits ks c fs → Fits (k ∷ ks) (x ∷ c) ((k .name ++ 61 ∷ v) ∷ fs)
-
--- a test does not hold and fail
-not-both : {A : Type 0} → true ≡ false → A
-not-both e = let z : _≡_ {A = ℕ} 0 1 = cc in absurd (omega arith)
 
 -- ---- the grammar's fields
 pub canonical-fits : {ks : List Key} {fs : List (List ℕ)} → CanonicalFields ks fs → (c : List Value) × Fits ks c fs
@@ -95,17 +91,11 @@ needed-at i e = go (decLt i 15)
 
     go : Dec (i < 15) → (i ≡ 0) ⊎ (i ≡ 4)
     go (yes h) = which (either-test _ _ (rw e at (at 15 (λ j. (not (needed (keyAt keys j)) || (eqb j 0 || eqb j 4))) refl i h)))
-    go (no h) = let l : 15 ≤ i = omega arith in not-both (sym (rw (List·getD-eq-default keys (key "" Kind.integer) l) at e))
+    go (no h) = let l : 15 ≤ i = omega arith in absurd (false≢true (rw (List·getD-eq-default keys (key "" Kind.integer) l) at e))
 
 -- what a command that lacks neither has
 whole-is : (c : List Value) → missing c ≡ false → (actionCode c ≡ 0 → ⊥) × (length (idOf c) ≡ 0 → ⊥)
-whole-is c m = go (eqb (actionCode c) 0) refl (eqb (length (idOf c)) 0) refl m
-  where
-    go : (x : Bool) → eqb (actionCode c) 0 ≡ x → (y : Bool) → eqb (length (idOf c)) 0 ≡ y → (x || y) ≡ false
-        → (actionCode c ≡ 0 → ⊥) × (length (idOf c) ≡ 0 → ⊥)
-    go true ex y ey q = not-both q
-    go false ex true ey q = not-both q
-    go false ex false ey q = (eqb-false _ _ ex, eqb-false _ _ ey)
+whole-is c m = let h = either-false _ _ m in (eqb-false _ _ (h .0), eqb-false _ _ (h .1))
 
 whole-given : (c : List Value) → missing c ≡ false → Given keys c
 whole-given c m i e a = go (needed-at i e)
@@ -122,8 +112,8 @@ taken-fits c e m = fields-fit keys c e (whole-given c m)
 spelled-at : {ks : List Key} {c : List Value} {fs : List (List ℕ)} → Fits ks c fs → (i : ℕ) → needed (keyAt ks i) ≡ true
     → (v : List ℕ) × Spelled (kindAt ks i) (getD c i Value.outside) v
 unfolding equals
-spelled-at none i e = not-both (sym e)
-spelled-at (out a n r) zero e = not-both (sym e ∙ n)
+spelled-at none i e = absurd (false≢true e)
+spelled-at (out a n r) zero e = absurd (false≢true (sym n ∙ e))
 spelled-at (out a n r) (suc i) e = spelled-at r i e
 spelled-at (with-text v s r) zero e = (v, s)
 spelled-at (with-text v s r) (suc i) e = spelled-at r i e
@@ -143,5 +133,5 @@ fits-whole {c} f =
 -- so that there is a field
 pub some-field : {c : List Value} {fs : List (List ℕ)} → Fits keys c fs → (f : List ℕ) × (r : List (List ℕ)) × (fs ≡ f ∷ r)
 unfolding equals
-some-field (out a n r) = not-both n
+some-field (out a n r) = absurd (true≢false n)
 some-field (with-text {fs} v s r) = (_, fs, refl)

@@ -3,7 +3,6 @@ mod Ranges
 pub mod Runs
 pub mod Names
 pub mod WordPlaces
-pub mod Parts
 pub mod Calm
 pub mod Table
 pub mod WrittenValues

@@ -3,7 +3,6 @@ ghost use Prim.Native.Nat.{_+_};
 ghost use mathlib.Core.Path.{_≡_};
 ghost use lib.ListN.{drop};
 ghost use Rattle.octets.specs.Members.{every};
-ghost use Rattle.command.specs.Letters.{textByte};
 ghost use Rattle.command.specs.Classes.{byteOf, inRanges, run};
 
 // The bytes of a text, of a key, and of a safe string.
@@ -47,19 +46,10 @@ fn is(class: Class, c: u8) -> bool
     ensures { λ r. ⌜ r ≡ byteOf class c ⌝ }
 {
     match class {
-        Class::Text => is_text(c),
+        Class::Text => (c >= 0x20) & (c <= 0x7E),
         Class::Key => in_ranges(b'0', b'9', b'A', c),
         Class::Safe => in_ranges(b'-', b':', b'@', c),
     }
-}
-
-fn is_text(c: u8) -> bool
-    ensures { λ r. ⌜ r ≡ textByte c ⌝ }
-{
-    if c < 0x20 {
-        return false;
-    }
-    c <= 0x7E
 }
 
 // Whether c is from `low` to `high`, from `capital` to Z, `_`, or from a to z.

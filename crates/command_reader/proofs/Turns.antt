@@ -1,7 +1,7 @@
 -- The field at a place of a text: its key, found in one pass over the key's bytes, and its value.
 use Prim.Native.Nat.{ℕ, zero, suc, _+_, _-_, _≤_, _<_}
 use mathlib.Core.Path.{_≡_, refl, sym, _∙_, ap}
-use mathlib.Core.Bool.{Bool, true, false, cond, not, _&&_}
+use mathlib.Core.Bool.{Bool, true, false, cond, not, _&&_, and-false}
 use mathlib.Core.List.{List, [], _∷_}
 use native.Mathlib.Omega.{arith}
 use native.Mathlib.Decide.{decLt}
@@ -68,10 +68,6 @@ ltb-suc a b = go (ltb a b) refl
     go : (t : Bool) → ltb a b ≡ t → ltb (suc a) (suc b) ≡ t
     go true e = lt-ltb (suc a) (suc b) (omega (arith, ltb-true a b e))
     go false e = le-ltb (suc a) (suc b) (omega (arith, ltb-false a b e))
-
-and-false : (a : Bool) → (a && false) ≡ false
-and-false true = refl
-and-false false = refl
 
 abbrev Unsigned : List ℕ → Type 0
 Unsigned l = (run keyByte l < length l → getD l (run keyByte l) 0 ≡ 61 → ⊥) → keyed (fieldIn l) ≡ false

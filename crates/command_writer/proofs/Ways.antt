@@ -21,13 +21,10 @@ use Rattle.command.specs.declared.Command.{Command}
 use Rattle.command.specs.declared.Place.{Place}
 use Rattle.command.specs.declared.Refusal.{Refusal}
 use Rattle.command.specs.declared.Written.{Written}
+use Rattle.command.proofs.Calm.{either-false}
 use Rattle.command_writer.specs.Stores.{spare, PutOr}
 use Rattle.command_writer.specs.Pieces.{whole}
 use Rattle.command_writer.proofs.Canons.{fine-at, canonical-pieces}
-
-either-false : (a b : Bool) → (a || b) ≡ false → (a ≡ false) × (b ≡ false)
-either-false true b e = let z : _≡_ {A = ℕ} 0 1 = cc in absurd (omega arith)
-either-false false b e = (refl, e)
 
 -- ---- an action and an id
 module _ (l : List ℕ) (p : Place) where

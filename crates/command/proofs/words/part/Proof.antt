@@ -6,7 +6,7 @@ use lib.ListN.{length, getD, drop}
 use borrow.Author.Needs.{needs}
 use Rattle.octets.specs.Split.{split}
 use Rattle.octets.proofs.Cuts.{cut-within, cut-last, cut-more, cut-first}
-use Rattle.command.proofs.Parts.{part-later}
+use Rattle.command.proofs.WordPlaces.{part-later}
 use Rattle.command.proofs.words.part.Statement.{statement}
 use Rattle.command.proofs.words.part.Tie as tie
 

@@ -47,7 +47,7 @@ returns c =
     let find = equal .before .before in
     let l = find .before .loop in
     let p = cut-first 32 (words find) (l .at) (find .find .result) (l .inv .0) (find .find .ensures) in
-    omega (arith, place-here (word find) (p .1) (sym (equal .equal .ensures) ∙ c .if1 .taken))
+    omega (arith, place-here (p .1) (word find) (sym (equal .equal .ensures) ∙ c .if1 .taken))
 
 returns-2 : tie.Need-returns-2 Inv-loop μ-loop
 unfolding placeIn
@@ -57,7 +57,7 @@ returns-2 c =
     let find = equal .before .before in
     let l = find .before .loop in
     let p = cut-last 32 (words find) (l .at) (find .find .result) (l .inv .0) (find .find .ensures) (c .if2 .taken) in
-    omega (arith, place-later (word find) p (sym (equal .equal .ensures) ∙ other .if1 .left))
+    omega (arith, place-later p (word find) (sym (equal .equal .ensures) ∙ other .if1 .left))
 
 add-at : tie.Need-add-at Inv-loop μ-loop
 add-at c = omega (arith, within (c .before .before .before .before))
@@ -73,7 +73,7 @@ loop-again c =
     let l = find .before .loop in
     let p = cut-more 32 (words find) (l .at) (find .find .result) (l .inv .0) (find .find .ensures) (c .if2 .left) in
     let w = within find in
-    let later = place-later (word find) p (sym (equal .equal .ensures) ∙ other .if1 .left) in
+    let later = place-later p (word find) (sym (equal .equal .ensures) ∙ other .if1 .left) in
     (omega arith, omega arith, omega (arith, later))
 
 pub place-in-spec : {M : Type 1} → statement M
