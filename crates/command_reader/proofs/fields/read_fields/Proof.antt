@@ -6,10 +6,11 @@ use lib.ListN.{length, take, drop, length-take}
 use borrow.Author.Needs.{needs}
 use borrow.Author.Tests.{le-leb, lt-leb}
 use Rattle.octets.specs.Split.{split}
-use Rattle.command.specs.Fields.{fieldsRead}
+use Rattle.command.specs.Fields.{Turn, fieldsRead}
 use Rattle.command.specs.Read.{Reader, begun, kept}
 use Rattle.command.specs.declared.Slot.{Slot}
 use Rattle.command_reader.specs.declared.fields.Named.{Named}
+use Rattle.command_reader.specs.declared.fields.Named.the-variants as Named
 use Rattle.command_reader.specs.Keeping.{keptIn}
 use Rattle.command_reader.specs.States.{left, Names}
 use Rattle.command_reader.proofs.Room.{Within, known-within}
@@ -37,38 +38,43 @@ so-far c = let l = c .before .before .loop in reader (l .slots) (l .scratch) (l 
 named : (c : tie.After-next-field Inv-loop μ-loop) {d : Named} → c .next-field .result ≡ d → Names d (text c) (c .before .before .loop .at)
 named c e = rw e at (c .next-field .ensures)
 
--- what is kept of a value is what `keep` answered
-told : (c : tie.After-keep Inv-loop μ-loop) → let key = c .before .before .before .before .before .before in
-    let field = key .before .before in
-    let n = key .n .given .0 .0 in let from = key .n .given .0 .1 .0 in let end = key .n .given .0 .1 .1 .0 in
-    keptIn n (so-far field) (c .keep .last .1 .1 .1 .0) (c .keep .result)
-    ≡ kept n from (take (end - from) (drop from (text field))) (so-far field)
-unfolding kept
-told c =
-    let key = c .before .before .before .before .before .before in
-    rw (c .before .before .before .if1 .left) (c .keep .ensures (key .n .given .0 .0) (so-far (key .before .before) .slots))
+-- of a known key: the field, the key's number, where its value starts and ends, and the value
+abbrev field : tie.After-n Inv-loop μ-loop → tie.After-next-field Inv-loop μ-loop
+field k = k .before .before
 
-room : (c : tie.After-keep Inv-loop μ-loop) → let key = c .before .before .before .before .before .before in
-    let field = key .before .before in
-    let n = key .n .given .0 .0 in let from = key .n .given .0 .1 .0 in let end = key .n .given .0 .1 .1 .0 in
-    Within (4 * so-far field .used + 3 * length (take (end - from) (drop from (text field))))
-    (keptIn n (so-far field) (c .keep .last .1 .1 .1 .0) (c .keep .result))
-room c =
-    let key = c .before .before .before .before .before .before in
-    let field = key .before .before in
-    let from = key .n .given .0 .1 .0 in
-    rw (told c) (known-within (key .n .given .0 .0) from (take (key .n .given .0 .1 .1 .0 - from) (drop from (text field))) (so-far field))
+abbrev num : tie.After-n Inv-loop μ-loop → ℕ
+num k = k .n .given .0 .0
+
+abbrev from : tie.After-n Inv-loop μ-loop → ℕ
+from k = k .n .given .0 .1 .0
+
+abbrev end : tie.After-n Inv-loop μ-loop → ℕ
+end k = k .n .given .0 .1 .1 .0
+
+abbrev value : tie.After-n Inv-loop μ-loop → List ℕ
+value k = take (end k - from k) (drop (from k) (text (field k)))
+
+known : (k : tie.After-n Inv-loop μ-loop) → Names (Named.Key (num k) (from k) (end k)) (text (field k)) (field k .before .before .loop .at)
+known k = named (field k) (k .n .given .1)
 
 -- a value is shorter than its field
-size : (c : tie.After-keep Inv-loop μ-loop) → let key = c .before .before .before .before .before .before in
-    let field = key .before .before in let from = key .n .given .0 .1 .0 in let end = key .n .given .0 .1 .1 .0 in
-    length (take (end - from) (drop from (text field))) + field .before .before .loop .at + 1 ≤ end
-size c =
-    let key = c .before .before .before .before .before .before in
-    let field = key .before .before in
-    let from = key .n .given .0 .1 .0 in
-    let k = named field (key .n .given .1) in
-    omega (arith, k .1, k .2, length-take (key .n .given .0 .1 .1 .0 - from) (drop from (text field)))
+size : (k : tie.After-n Inv-loop μ-loop) → length (value k) + field k .before .before .loop .at + 1 ≤ end k
+size k = omega (arith, known k .1, known k .2, length-take (end k - from k) (drop (from k) (text (field k))))
+
+-- what is kept of it is what `keep` answered
+told : (c : tie.After-keep Inv-loop μ-loop) → let k = c .before .before .before .before .before .before in
+    keptIn (num k) (so-far (field k)) (c .keep .last .1 .1 .1 .0) (c .keep .result) ≡ kept (num k) (from k) (value k) (so-far (field k))
+unfolding kept
+told c =
+    let k = c .before .before .before .before .before .before in
+    rw (c .before .before .before .if1 .left) (c .keep .ensures (num k) (so-far (field k) .slots))
+
+room : (c : tie.After-keep Inv-loop μ-loop) → let k = c .before .before .before .before .before .before in
+    Within (4 * so-far (field k) .used + 3 * length (value k))
+    (keptIn (num k) (so-far (field k)) (c .keep .last .1 .1 .1 .0) (c .keep .result))
+room c =
+    let k = c .before .before .before .before .before .before in
+    rw (told c) (known-within (num k) (from k) (value k) (so-far (field k)))
 
 loop-holds : tie.Need-loop-holds Inv-loop μ-loop
 unfolding left
@@ -96,78 +102,60 @@ loop-again c =
     (omega (arith, k .1), l .inv .1, omega (arith, k .0), sym (k .2 (so-far field)) ∙ l .inv .3)
 
 mul-slot : tie.Need-mul-slot Inv-loop μ-loop
-mul-slot c =
-    let key = c .before in
-    let i : key .n .given .0 .0 < 15 = named (key .before .before) (key .n .given .1) .0 in search needs
+mul-slot c = let i = known (c .before) .0 in search needs
 
 array-copy-out-slot : tie.Need-array-copy-out-slot Inv-loop μ-loop
-array-copy-out-slot c = let key = c .before in named (key .before .before) (key .n .given .1) .0
+array-copy-out-slot c = known (c .before) .0
 
 returns-2 : tie.Need-returns-2 Inv-loop μ-loop
 unfolding kept
 returns-2 c =
-    let key = c .before .before .before in
-    let field = key .before .before in
-    rw (← field .before .before .loop .inv .3, named field (key .n .given .1) .4 (so-far field), c .if1 .taken)
+    let k = c .before .before .before in
+    rw (← field k .before .before .loop .inv .3, known k .4 (so-far (field k)), c .if1 .taken)
 
 sub-keep : tie.Need-sub-keep Inv-loop μ-loop
-sub-keep c = let key = c .before .before .before in omega (arith, named (key .before .before) (key .n .given .1) .2)
+sub-keep c = omega (arith, known (c .before .before .before) .2)
 
 part-keep-start : tie.Need-part-keep-start Inv-loop μ-loop
-part-keep-start c = let key = c .before .before .before in omega (arith, named (key .before .before) (key .n .given .1) .2)
+part-keep-start c = omega (arith, known (c .before .before .before) .2)
 
 part-keep-end : tie.Need-part-keep-end Inv-loop μ-loop
-part-keep-end c = let key = c .before .before .before in omega (arith, named (key .before .before) (key .n .given .1) .3)
+part-keep-end c = omega (arith, known (c .before .before .before) .3)
 
 keep-requires : tie.Need-keep-requires Inv-loop μ-loop
 keep-requires c κs =
-    let key = c .before .before .before .before .before in
-    let field = key .before .before in
-    let k = named field (key .n .given .1) in
-    let from = key .n .given .0 .1 .0 in
-    omega (arith, k .1, k .3, field .before .before .loop .inv, length-take (key .n .given .0 .1 .1 .0 - from) (drop from (text field)))
+    let k = c .before .before .before .before .before in
+    omega (arith, size k, known k .3, field k .before .before .loop .inv)
 
 mul-slots : tie.Need-mul-slots Inv-loop μ-loop
-mul-slots c =
-    let key = c .before .before .before .before .before .before .before .before .before .before .before in
-    let i : key .n .given .0 .0 < 15 = named (key .before .before) (key .n .given .1) .0 in search needs
+mul-slots c = let i = known (c .before .before .before .before .before .before .before .before .before .before .before) .0 in search needs
 
 array-set-from-slots : tie.Need-array-set-from-slots Inv-loop μ-loop
-array-set-from-slots c =
-    let key = c .before .before .before .before .before .before .before .before .before .before .before in
-    named (key .before .before) (key .n .given .1) .0
+array-set-from-slots c = known (c .before .before .before .before .before .before .before .before .before .before .before) .0
 
 add-used : tie.Need-add-used Inv-loop μ-loop
 add-used c =
     let filled = c .before in
     let keep = filled .before .before .before .before in
-    let key = keep .before .before .before .before .before .before in
-    let field = key .before .before in
-    let within = named field (key .n .given .1) .3 in
-    omega (arith, rw (filled .filled .given .1) at (room keep), size keep, field .before .before .loop .inv .2, within)
+    let k = keep .before .before .before .before .before .before in
+    omega (arith, rw (filled .filled .given .1) at (room keep), size k, field k .before .before .loop .inv .2, known k .3)
 
 add-at-2 : tie.Need-add-at-2 Inv-loop μ-loop
-add-at-2 c =
-    let key = c .before .before .before .before .before .before .before .before .before .before .before in
-    omega (arith, named (key .before .before) (key .n .given .1) .3)
+add-at-2 c = omega (arith, known (c .before .before .before .before .before .before .before .before .before .before .before) .3)
 
 loop-less-2 : tie.Need-loop-less-2 Inv-loop μ-loop
-loop-less-2 c =
-    let key = c .before .before .before .before .before .before .before .before .before .before .before in
-    let k = named (key .before .before) (key .n .given .1) in omega (arith, k .1, k .2, k .3)
+loop-less-2 c = let k = known (c .before .before .before .before .before .before .before .before .before .before .before) in omega (arith, k .1, k .2, k .3)
 
 loop-again-2 : tie.Need-loop-again-2 Inv-loop μ-loop
 loop-again-2 c =
     let filled = c .before in
     let keep = filled .before .before .before .before in
-    let key = keep .before .before .before .before .before .before in
-    let field = key .before .before in
-    let l = field .before .before .loop in
-    let k = named field (key .n .given .1) in
-    let on = rw (← told keep, filled .filled .given .1) at (k .4 (so-far field)) in (
-      omega (arith, k .3),
+    let k = keep .before .before .before .before .before .before in
+    let l = field k .before .before .loop in
+    let on = rw (← told keep, filled .filled .given .1) at (known k .4 (so-far (field k))) in (
+      omega (arith, known k .3),
       search needs,
-      omega (arith, rw (filled .filled .given .1) at (room keep), size keep, l .inv .2),
+      omega (arith, rw (filled .filled .given .1) at (room keep), size k, l .inv .2),
       sym on ∙ l .inv .3,
     )
 
@@ -175,9 +163,8 @@ returns-3 : tie.Need-returns-3 Inv-loop μ-loop
 returns-3 c =
     let refused = c .before in
     let keep = refused .before .before .before .before in
-    let key = keep .before .before .before .before .before .before in
-    let field = key .before .before in
-    rw (← field .before .before .loop .inv .3, named field (key .n .given .1) .4 (so-far field), ← told keep, refused .r .given .1)
+    let k = keep .before .before .before .before .before .before in
+    rw (← field k .before .before .loop .inv .3, known k .4 (so-far (field k)), ← told keep, refused .r .given .1)
 
 returns-4 : tie.Need-returns-4 Inv-loop μ-loop
 unfolding left
