@@ -21,7 +21,8 @@ use Rattle.command.specs.Letters.{keyByte, textByte}
 use Rattle.command.specs.Fields.{Turn, andThen, isKey, known, fieldRead, fieldsRead}
 use Rattle.command.specs.Read.{Reader, kept}
 use Rattle.command.proofs.Calm.{calm, plain, key-plain}
-use Rattle.command_reader.specs.States.{left}
+use Rattle.command_reader.specs.States.{left, Names}
+use Rattle.command_reader.specs.declared.fields.Named.the-variants as Named
 
 -- ---- a field, cut off what is left of a text
 -- a key's byte is neither `;` nor `=`
@@ -159,7 +160,7 @@ module _ (t : List ℕ) (at sign : ℕ) (h : at ≤ length t) (q : sign ≡ at +
       ends : end ≡ at + indexOf 59 l
       ends = omega (arith, rw rest at (s61 .ends))
 
-      pub end-within : end ≤ length t
+      end-within : end ≤ length t
       end-within = cut-within 59 t (sign + 1) end (omega arith) g
 
       -- the key by which the field is known, and its value
@@ -193,11 +194,10 @@ module _ (t : List ℕ) (at sign : ℕ) (h : at ≤ length t) (q : sign ≡ at +
             value,
           )
 
-      module _ (n : ℕ) (m : n ≡ numberOf keys (take (sign - at) l)) where
-        pub unknown-left : 15 ≤ n → (s : Reader) → left at t s ≡ left (end + 1) t s
-        unknown-left k s = left-next t at end h ends s ∙ rw (here s, ← m, le-ltb n 15 k)
-
-        pub known-left : n < 15 → (s : Reader)
-            → left at t s
-            ≡ andThen (kept n (sign + 1) (take (end - (sign + 1)) (drop (sign + 1) t)) s) (λ (s′ : Reader). left (end + 1) t s′)
-        known-left k s = left-next t at end h ends s ∙ rw (here s, ← m, lt-ltb n 15 k)
+      -- which is that of key n, or of none
+      pub field-named : (n : ℕ) → n ≡ numberOf keys (take (sign - at) l)
+          → (15 ≤ n → Names (Named.Unknown end) t at) × (n < 15 → Names (Named.Key n (sign + 1) end) t at)
+      field-named n m = (
+        λ k. (omega arith, end-within, λ s. left-next t at end h ends s ∙ rw (here s, ← m, le-ltb n 15 k)),
+        λ k. (k, omega arith, omega arith, end-within, λ s. left-next t at end h ends s ∙ rw (here s, ← m, lt-ltb n 15 k)),
+      )

@@ -1,11 +1,13 @@
-use Prim.Native.Nat.{ℕ, _≤_, _<_}
+use Prim.Native.Nat.{ℕ, _+_, _≤_, _<_}
 use mathlib.Core.List.{List}
 use native.Mathlib.Omega.{arith}
 use lib.ListN.{length, drop, length-drop}
 use borrow.Author.Needs.{needs}
 use Rattle.command.specs.Letters.{keyByte}
 use Rattle.command.proofs.Runs.{run-le}
-use Rattle.command_reader.proofs.Turns.{unsigned-left, empty-left, end-within, unknown-left, known-left}
+use Rattle.command_reader.specs.States.{Names}
+use Rattle.command_reader.specs.declared.fields.Named.the-variants as Named
+use Rattle.command_reader.proofs.Turns.{unsigned-left, empty-left, field-named}
 use Rattle.command_reader.proofs.fields.next_field.Statement.{statement}
 use Rattle.command_reader.proofs.fields.next_field.Tie as tie
 
@@ -48,39 +50,25 @@ add-from c = omega (arith, within (c .before .before .before .before))
 part-number-of-end : tie.Need-part-number-of-end
 part-number-of-end c = within (c .before .before .before .before .before)
 
-returns-4 : tie.Need-returns-4
-returns-4 c =
-    let number = c .before in
-    let find = number .before .before in
+-- the field, known by the number of its key
+told : (c : tie.After-number-of) → let find = c .before .before in
+    let p = find .before .before .before .before .before in
+    let end = find .find .result in
+    let n = c .number-of .result in
+    (15 ≤ n → Names (Named.Unknown end) (text p) (at p)) × (n < 15 → Names (Named.Key n (p .pass .result + 1) end) (text p) (at p))
+told c =
+    let find = c .before .before in
     let some = find .before in
     let p = some .before .before .before .before in
     let i = signed some in
-    let e = some .before .if2 .left in
-    let h = p .before .before .pre .0 in
-    let inside = end-within (text p) (at p) (p .pass .result) h (p .pass .ensures) (i .1) e (i .0) in
-    let unknown = unknown-left (text p) (at p) (p .pass .result) h (p .pass .ensures) (i .1) e (i .0) in (
-      omega (arith, i .0, find .find .ensures),
-      inside (find .find .result) (find .find .ensures),
-      unknown (find .find .result) (find .find .ensures) (number .number-of .result) (number .number-of .ensures) (c .if4 .taken),
-    )
+    let field = field-named (text p) (at p) (p .pass .result) (p .before .before .pre .0) (p .pass .ensures) (i .1) (some .before .if2 .left) in
+    field (i .0) (find .find .result) (find .find .ensures) (c .number-of .result) (c .number-of .ensures)
+
+returns-4 : tie.Need-returns-4
+returns-4 c = told (c .before) .0 (c .if4 .taken)
 
 returns-5 : tie.Need-returns-5
-returns-5 c =
-    let number = c .before in
-    let find = number .before .before in
-    let some = find .before in
-    let p = some .before .before .before .before in
-    let i = signed some in
-    let e = some .before .if2 .left in
-    let h = p .before .before .pre .0 in
-    let inside = end-within (text p) (at p) (p .pass .result) h (p .pass .ensures) (i .1) e (i .0) in
-    let known = known-left (text p) (at p) (p .pass .result) h (p .pass .ensures) (i .1) e (i .0) in (
-      c .if4 .left,
-      omega (arith, i .0),
-      omega (arith, find .find .ensures),
-      inside (find .find .result) (find .find .ensures),
-      known (find .find .result) (find .find .ensures) (number .number-of .result) (number .number-of .ensures) (c .if4 .left),
-    )
+returns-5 c = told (c .before) .1 (c .if4 .left)
 
 pub next-field-spec : {M : Type 1} → statement M
 next-field-spec =

@@ -1,4 +1,4 @@
-use Prim.Native.Nat.{ℕ, _+_, _-_, _*_, _≤_, _<_}
+use Prim.Native.Nat.{ℕ, _+_, _-_, _*_, _≤_}
 use mathlib.Core.Path.{_≡_, refl, sym, _∙_}
 use mathlib.Core.List.{List}
 use native.Mathlib.Omega.{arith}
@@ -6,7 +6,7 @@ use lib.ListN.{length, take, drop, length-take}
 use borrow.Author.Needs.{needs}
 use borrow.Author.Tests.{le-leb, lt-leb}
 use Rattle.octets.specs.Split.{split}
-use Rattle.command.specs.Fields.{Turn, fieldsRead}
+use Rattle.command.specs.Fields.{fieldsRead}
 use Rattle.command.specs.Read.{Reader, begun, kept}
 use Rattle.command.specs.declared.Slot.{Slot}
 use Rattle.command_reader.specs.declared.fields.Named.{Named}

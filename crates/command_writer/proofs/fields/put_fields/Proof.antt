@@ -5,10 +5,11 @@ use native.Mathlib.Omega.{arith}
 use lib.ListN.{length}
 use borrow.Author.Needs.{needs}
 use Rattle.command.specs.Write.{checkedOf}
+use Rattle.command.specs.declared.Written.{Written}
 use Rattle.command_writer.specs.Pieces.{pieces}
 use Rattle.command_writer.specs.Stores.{Put}
 use Rattle.command_writer.proofs.Puts.{put-none, put-then}
-use Rattle.command_writer.proofs.Turns.{checkedFrom, piecesFrom, turn-on, turn-off, slots-length, values-all}
+use Rattle.command_writer.proofs.Turns.{checkedFrom, piecesFrom, Turned, turned, slots-length, values-all}
 use Rattle.command_writer.proofs.fields.put_fields.Statement.{statement}
 use Rattle.command_writer.proofs.fields.put_fields.Tie as tie
 
@@ -27,6 +28,20 @@ abbrev μ-loop : tie.MeasureT-loop
 loop-holds : tie.Need-loop-holds Inv-loop μ-loop
 loop-holds c = (omega arith, refl, refl, λ end after p. p)
 
+-- what a turn of the loop tells
+told : (c : tie.After-put-field Inv-loop μ-loop) {r : Written} → c .put-field .result ≡ r → let loop = c .before .before .before .before in
+    let slots = loop .before .before .before .before .before .before in
+    let a = slots .before .before .before .before .args in
+    Turned (slots .slots .result) (a .text .now) (a .scratch .now) (loop .loop .k) (loop .loop .out) (c .put-field .last .1 .1 .1 .1 .0) (loop .loop .at) r
+told c e =
+    let loop = c .before .before .before .before in
+    let slots = loop .before .before .before .before .before .before in
+    let a = slots .before .before .before .before .args in
+    let s = slots .slots in
+    let n = slots-length (a .command) (s .result) (s .ensures) in
+    turned (s .result) (a .text .now) (a .scratch .now) (loop .loop .k) (omega arith) (omega arith) (loop .loop .out) _ (loop .loop .at) _
+    (rw e at (c .put-field .ensures))
+
 returns : tie.Need-returns Inv-loop μ-loop
 returns c =
     let refused = c .before in
@@ -34,27 +49,15 @@ returns c =
     let loop = put .before .before .before .before in
     let slots = loop .before .before .before .before .before .before in
     let a = slots .before .before .before .before .args in
-    let s = slots .slots in
-    let l = loop .loop in
-    let n = slots-length (a .command) (s .result) (s .ensures) in
-    let off = turn-off (s .result) (a .text .now) (a .scratch .now) (l .k) (omega arith) (omega arith) in
-    let field = rw (refused .refusal .given .1) at (put .put-field .ensures) in
-    let t = off (l .out) (put .put-field .last .1 .1 .1 .1 .0) (l .at) (refused .refusal .given .0 .0) field in
-    rw (values-all (a .command) (s .result) (s .ensures) (a .text .now) (a .scratch .now), sym (l .inv .2) ∙ t)
+    let all = values-all (a .command) (slots .slots .result) (slots .slots .ensures) (a .text .now) (a .scratch .now) in
+    rw (all, sym (loop .loop .inv .2) ∙ told put (refused .refusal .given .1))
 
 loop-again : tie.Need-loop-again Inv-loop μ-loop
 loop-again c =
     let on = c .before in
     let put = on .before .before .before .before in
-    let loop = put .before .before .before .before in
-    let slots = loop .before .before .before .before .before .before in
-    let a = slots .before .before .before .before .args in
-    let s = slots .slots in
-    let l = loop .loop in
-    let n = slots-length (a .command) (s .result) (s .ensures) in
-    let turn = turn-on (s .result) (a .text .now) (a .scratch .now) (l .k) (omega arith) (omega arith) in
-    let field = rw (on .end .given .1) at (put .put-field .ensures) in
-    let t = turn (l .out) (put .put-field .last .1 .1 .1 .1 .0) (l .at) (on .end .given .0 .0) field in
+    let l = put .before .before .before .before .loop in
+    let t = told put (on .end .given .1) in
     (omega arith, omega arith, sym (t .0) ∙ l .inv .2, λ end after p. l .inv .3 end after (t .1 end after p))
 
 returns-2 : tie.Need-returns-2 Inv-loop μ-loop
