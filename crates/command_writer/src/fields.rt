@@ -60,13 +60,14 @@ fn put_field<'a>(
         (now (out .entry)) at r (now (out .exit)) ⌝ }
 {
     let row = row_at(k);
-    let name = row.name;
+    let bytes = row.name;
     let len = row.len;
+    let name = &bytes[..len];
     let kind = row.kind;
     match kind {
         Kind::Word(unknown, first, count) => {
             word(
-                &name[..len],
+                name,
                 k,
                 unknown,
                 first as u64,
@@ -76,8 +77,8 @@ fn put_field<'a>(
                 at,
             )
         },
-        Kind::Safe(short) => safe(&name[..len], short, text, slot.place, out, at),
-        Kind::Integer => integer(&name[..len], slot.number, out, at),
-        Kind::Base64 => base64(&name[..len], scratch, slot.place, out, at),
+        Kind::Safe(short) => safe(name, short, text, slot.place, out, at),
+        Kind::Integer => integer(name, slot.number, out, at),
+        Kind::Base64 => base64(name, scratch, slot.place, out, at),
     }
 }

@@ -1,4 +1,3 @@
-use Prim.Native.Nat.{_≤_}
 use mathlib.Core.Path.{_≡_, sym, ap}
 use native.Mathlib.Omega.{arith}
 use lib.ListN.{length, take, length-take}
@@ -18,69 +17,46 @@ named c = rw (c .row-at .ensures) (row-name (c .before .before .before .before .
 sized : (c : tie.After-row-at) → let r = c .row-at .result in r .len ≡ length (take (r .len) (r .name))
 sized c = rw (c .row-at .ensures) (sym (ap length (row-name (c .before .before .before .before .args .k))))
 
-short : (c : tie.After-row-at) → let r = c .row-at .result in r .len ≤ length (r .name)
-short c = let r = c .row-at .result in omega (arith, sized c, length-take (r .len) (r .name))
-
 kinded : (c : tie.After-row-at) {d : Kind} → c .row-at .result .kind ≡ d → Kinded (c .before .before .before .before .args .k) d
 kinded c e = row-kind (c .before .before .before .before .args .k) (c .row-at .ensures) e
 
-array-share-prefix-name : tie.Need-array-share-prefix-name
-array-share-prefix-name c = short (c .before .before .before .before)
-
-slice-aggregate-word : tie.Need-slice-aggregate-word
-slice-aggregate-word c = sized (c .before .before .before .before .before)
+array-share-prefix-bytes : tie.Need-array-share-prefix-bytes
+array-share-prefix-bytes c =
+    let r = c .before .row-at .result in omega (arith, sized (c .before), length-take (r .len) (r .name))
 
 word-requires : tie.Need-word-requires
 word-requires c κs =
-    let kind = c .before .before .before in
-    let k = kinded (kind .before .before .before) (kind .kind .given .1) .counts in (k .0, k .1)
-
-array-share-prefix-name-2 : tie.Need-array-share-prefix-name-2
-array-share-prefix-name-2 c = short (c .before .before .before .before)
-
-slice-aggregate-safe : tie.Need-slice-aggregate-safe
-slice-aggregate-safe c = sized (c .before .before .before .before .before)
-
-array-share-prefix-name-3 : tie.Need-array-share-prefix-name-3
-array-share-prefix-name-3 c = short (c .before .before .before)
-
-slice-aggregate-integer : tie.Need-slice-aggregate-integer
-slice-aggregate-integer c = sized (c .before .before .before .before)
-
-array-share-prefix-name-4 : tie.Need-array-share-prefix-name-4
-array-share-prefix-name-4 c = short (c .before .before .before)
-
-slice-aggregate-base64 : tie.Need-slice-aggregate-base64
-slice-aggregate-base64 c = sized (c .before .before .before .before)
+    let kind = c .before .before in
+    let k = kinded (kind .before .before .before .before) (kind .kind .given .1) .counts in (k .0, k .1)
 
 returns : tie.Need-returns
 unfolding shown
 returns c =
     let word = c .before .before in
-    let kind = word .before .before .before .before in
-    let row = kind .before .before .before in
+    let kind = word .before .before .before in
+    let row = kind .before .before .before .before in
     rw (← named row, kinded row (kind .kind .given .1) .kinded) (word .word .ensures)
 
 returns-2 : tie.Need-returns-2
 returns-2 c =
     let safe = c .before .before in
-    let kind = safe .before .before .before .before in
-    let row = kind .before .before .before in
+    let kind = safe .before .before .before in
+    let row = kind .before .before .before .before in
     rw (← named row, kinded row (kind .kind2 .given .1) .kinded) (safe .safe .ensures)
 
 returns-3 : tie.Need-returns-3
 unfolding shown
 returns-3 c =
     let integer = c .before .before in
-    let kind = integer .before .before .before in
-    let row = kind .before .before .before in
+    let kind = integer .before .before in
+    let row = kind .before .before .before .before in
     rw (← named row, kinded row (kind .enum-told .given .1) .kinded) (integer .integer .ensures)
 
 returns-4 : tie.Need-returns-4
 returns-4 c =
     let base64 = c .before .before in
-    let kind = base64 .before .before .before in
-    let row = kind .before .before .before in
+    let kind = base64 .before .before in
+    let row = kind .before .before .before .before in
     rw (← named row, kinded row (kind .enum-told2 .given .1) .kinded) (base64 .base64 .ensures)
 
 pub put-field-spec : {M : Type 1} → statement M
@@ -88,23 +64,17 @@ put-field-spec =
     tie.close
     (tie.spec
     (search needs)
+    array-share-prefix-bytes
+    (λ c. sized (c .before .before))
     (search needs)
-    array-share-prefix-name
-    slice-aggregate-word
     (search needs)
     (search needs)
     word-requires
     (search needs)
-    array-share-prefix-name-2
-    slice-aggregate-safe
     (search needs)
     (search needs)
-    array-share-prefix-name-3
-    slice-aggregate-integer
     (search needs)
     (search needs)
-    array-share-prefix-name-4
-    slice-aggregate-base64
     (search needs)
     (search needs)
     returns
