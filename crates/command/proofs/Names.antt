@@ -40,11 +40,11 @@ few Keys.Kind.integer = true
 few Keys.Kind.base64 = true
 
 module _ (k : ℕ) where
-  pub row-name : take (rowOf (keyAt keys k) .len) (rowOf (keyAt keys k) .name) ≡ keyAt keys k .name
-  row-name = at-key (λ x. take (rowOf x .len) (rowOf x .name)) (λ x. x .name) refl refl k
+  pub row-name : take (rowOf (keyAt keys k) .1) (rowOf (keyAt keys k) .0) ≡ keyAt keys k .name
+  row-name = at-key (λ x. take (rowOf x .1) (rowOf x .0)) (λ x. x .name) refl refl k
 
-  pub row-short : rowOf (keyAt keys k) .len ≤ 3
-  row-short = leb-true _ 3 (at-key (λ x. leb (rowOf x .len) 3) (λ x. true) refl refl k)
+  pub row-short : rowOf (keyAt keys k) .1 ≤ 3
+  row-short = leb-true _ 3 (at-key (λ x. leb (rowOf x .1) 3) (λ x. true) refl refl k)
 
   -- the words in the code's text are those of the key
   pub row-words : (t : List ℕ) → t ≡ getD (map wordText keys) k [] → split 32 t ≡ wordsOf (kindAt keys k)
@@ -85,7 +85,7 @@ pub record Kinded (k : ℕ) (d : Kind) : Type 0 where
   pub kinded : kindAt keys k ≡ kindFrom d (wordsOf (kindAt keys k)) (aliasesOf (kindAt keys k))
   pub counts : Counted d (wordsOf (kindAt keys k))
 
-pub row-kind : (k : ℕ) {r : Row} {d : Kind} → r ≡ rowOf (keyAt keys k) → r .kind ≡ d → Kinded k d
+pub row-kind : (k : ℕ) {r : Row} {d : Kind} → r ≡ rowOf (keyAt keys k) → r .2 ≡ d → Kinded k d
 unfolding split onto
 row-kind k q e =
     let t = kindAt keys k in

@@ -18,7 +18,7 @@ kindOf Keys.Kind.integer = Kind.Integer
 kindOf Keys.Kind.base64 = Kind.Base64
 
 abbrev pub rowOf : Key → Row
-rowOf k = record { name = take 3 (k .name ++ ascii "   "); len = length (k .name); kind = kindOf (k .kind) }
+rowOf k = (take 3 (k .name ++ ascii "   "), length (k .name), kindOf (k .kind))
 
 -- the words of a kind, as the code has them in a text, parted by blanks; an empty text has one part, which is empty
 abbrev pub wordsOf : Keys.Kind → List (List ℕ)

@@ -21,91 +21,27 @@ pub enum Kind {
 }
 
 // A key's name, its length, and its kind. Blanks follow a name that is shorter.
-pub struct Row {
-    pub name: [u8; 3],
-    pub len: usize,
-    pub kind: Kind,
-}
+pub struct Row(pub [u8; 3], pub usize, pub Kind);
 
 // How many keys there are.
 pub const COUNT: usize = 15;
 
 const ROWS: [Row; COUNT] = [
-    Row {
-        name: *b"ac ",
-        len: 2,
-        kind: Kind::Word(Refusal::UnknownWord, 1, 8),
-    },
-    Row {
-        name: *b"zip",
-        len: 3,
-        kind: Kind::Word(Refusal::UnknownWord, 0, 1),
-    },
-    Row {
-        name: *b"ft ",
-        len: 2,
-        kind: Kind::Word(Refusal::UnknownWord, 0, 4),
-    },
-    Row {
-        name: *b"tt ",
-        len: 2,
-        kind: Kind::Word(Refusal::UnknownWord, 0, 2),
-    },
-    Row {
-        name: *b"id ",
-        len: 2,
-        kind: Kind::Safe(true),
-    },
-    Row {
-        name: *b"fid",
-        len: 3,
-        kind: Kind::Safe(true),
-    },
-    Row {
-        name: *b"pw ",
-        len: 2,
-        kind: Kind::Safe(false),
-    },
-    Row {
-        name: *b"q  ",
-        len: 1,
-        kind: Kind::Word(Refusal::OutOfRange, 0, 3),
-    },
-    Row {
-        name: *b"mod",
-        len: 3,
-        kind: Kind::Integer,
-    },
-    Row {
-        name: *b"prm",
-        len: 3,
-        kind: Kind::Integer,
-    },
-    Row {
-        name: *b"sz ",
-        len: 2,
-        kind: Kind::Integer,
-    },
-    Row {
-        name: *b"n  ",
-        len: 1,
-        kind: Kind::Base64,
-    },
-    Row {
-        name: *b"st ",
-        len: 2,
-        kind: Kind::Base64,
-    },
-    Row {
-        name: *b"pr ",
-        len: 2,
-        kind: Kind::Safe(true),
-    },
-    Row {
-        name: *b"d  ",
-        len: 1,
-        kind: Kind::Base64,
-    },
+    Row(*b"ac ", 2, Kind::Word(Refusal::UnknownWord, 1, 8)),
+    Row(*b"zip", 3, Kind::Word(Refusal::UnknownWord, 0, 1)),
+    Row(*b"ft ", 2, Kind::Word(Refusal::UnknownWord, 0, 4)),
+    Row(*b"tt ", 2, Kind::Word(Refusal::UnknownWord, 0, 2)),
+    Row(*b"id ", 2, Kind::Safe(true)),
+    Row(*b"fid", 3, Kind::Safe(true)),
+    Row(*b"pw ", 2, Kind::Safe(false)),
+    Row(*b"q  ", 1, Kind::Word(Refusal::OutOfRange, 0, 3)),
+    Row(*b"mod", 3, Kind::Integer),
+    Row(*b"prm", 3, Kind::Integer),
+    Row(*b"sz ", 2, Kind::Integer),
+    Row(*b"n  ", 1, Kind::Base64),
+    Row(*b"st ", 2, Kind::Base64),
+    Row(*b"pr ", 2, Kind::Safe(true)),
+    Row(*b"d  ", 1, Kind::Base64),
 ];
 
 // The words of each key, parted by blanks; of most there are none.
@@ -124,11 +60,7 @@ pub fn row_at(k: usize) -> Row
     ensures { λ r. ⌜ r ≡ rowOf (Keys.keyAt Keys.keys k) ⌝ }
 {
     if k >= COUNT {
-        return Row {
-            name: *b"   ",
-            len: 0,
-            kind: Kind::Integer,
-        };
+        return Row(*b"   ", 0, Kind::Integer);
     }
     ROWS[k]
 }
@@ -150,11 +82,11 @@ pub fn number_of(name: &[u8]) -> usize
 
 // Whether a row has a name: by its length, and then by its bytes.
 fn is_named(row: Row, name: &[u8]) -> bool
-    requires { ⌜ (row .len ≤ 3) × (length (take (row .len) (row .name)) ≡ row .len) ⌝ }
-    ensures { λ r. ⌜ r ≡ equals (now (name .entry)) (take (row .len) (row .name)) ⌝ }
+    requires { ⌜ (row .1 ≤ 3) × (length (take (row .1) (row .0)) ≡ row .1) ⌝ }
+    ensures { λ r. ⌜ r ≡ equals (now (name .entry)) (take (row .1) (row .0)) ⌝ }
 {
-    let own = row.name;
-    let len = row.len;
+    let own = row.0;
+    let len = row.1;
     if name.len() != len {
         return false;
     }

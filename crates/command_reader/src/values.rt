@@ -31,7 +31,7 @@ pub(crate) fn keep(k: usize, at: usize, v: &[u8], scratch: &mut [u8], used: usiz
     ensures { λ r. ⌜ Keeps (Keys.kindAt Keys.keys k) at (now (v .entry)) (now (scratch .entry)) used r (now (scratch .exit)) ⌝ }
 {
     let row = row_at(k);
-    let kind = row.kind;
+    let kind = row.2;
     match kind {
         Kind::Word(unknown, first, count) => word(k, unknown, first as u64, count as u64, v),
         Kind::Safe(short) => safe(short, at, v),

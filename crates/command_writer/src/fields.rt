@@ -60,10 +60,10 @@ fn put_field<'a>(
         (now (out .entry)) at r (now (out .exit)) ⌝ }
 {
     let row = row_at(k);
-    let bytes = row.name;
-    let len = row.len;
+    let bytes = row.0;
+    let len = row.1;
     let name = &bytes[..len];
-    let kind = row.kind;
+    let kind = row.2;
     match kind {
         Kind::Word(unknown, first, count) => {
             word(

@@ -15,10 +15,10 @@ returns c = let s = c .before .before in sym (equals-lengths _ _ (λ e. c .if1 .
 
 -- names of one length are compared byte by byte
 told : (c : tie.Else1) → let a = c .before .before .args in
-    equals (a .name .now) (take (a .row .len) (a .row .name)) ≡ compared (a .name .now) (a .row .name) (a .row .len)
+    equals (a .name .now) (take (a .row .1) (a .row .0)) ≡ compared (a .name .now) (a .row .0) (a .row .1)
 told c =
     let s = c .before .before in
-    same-name (s .args .name .now) (s .args .row .name) (s .args .row .len) (c .if1 .left) (s .pre .1) (s .pre .0)
+    same-name (s .args .name .now) (s .args .row .0) (s .args .row .1) (c .if1 .left) (s .pre .1) (s .pre .0)
 
 returns-7 : tie.Need-returns-7
 returns-7 c =

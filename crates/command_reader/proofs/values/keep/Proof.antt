@@ -6,7 +6,7 @@ use Rattle.command_reader.proofs.values.keep.Statement.{statement}
 use Rattle.command_reader.proofs.values.keep.Tie as tie
 
 -- the kind that the row tells is that of the key
-kinded : (c : tie.After-row-at) {d : Kind} → c .row-at .result .kind ≡ d → Kinded (c .before .before .before .args .k) d
+kinded : (c : tie.After-row-at) {d : Kind} → c .row-at .result .2 ≡ d → Kinded (c .before .before .before .args .k) d
 kinded c e = row-kind (c .before .before .before .args .k) (c .row-at .ensures) e
 
 word-requires : tie.Need-word-requires

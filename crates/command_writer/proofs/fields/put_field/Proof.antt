@@ -11,18 +11,18 @@ use Rattle.command_writer.proofs.fields.put_field.Tie as tie
 
 -- the row has the key's name and tells its kind
 named : (c : tie.After-row-at) → let r = c .row-at .result in
-    take (r .len) (r .name) ≡ keyAt keys (c .before .before .before .before .args .k) .name
+    take (r .1) (r .0) ≡ keyAt keys (c .before .before .before .before .args .k) .name
 named c = rw (c .row-at .ensures) (row-name (c .before .before .before .before .args .k))
 
-sized : (c : tie.After-row-at) → let r = c .row-at .result in r .len ≡ length (take (r .len) (r .name))
+sized : (c : tie.After-row-at) → let r = c .row-at .result in r .1 ≡ length (take (r .1) (r .0))
 sized c = rw (c .row-at .ensures) (sym (ap length (row-name (c .before .before .before .before .args .k))))
 
-kinded : (c : tie.After-row-at) {d : Kind} → c .row-at .result .kind ≡ d → Kinded (c .before .before .before .before .args .k) d
+kinded : (c : tie.After-row-at) {d : Kind} → c .row-at .result .2 ≡ d → Kinded (c .before .before .before .before .args .k) d
 kinded c e = row-kind (c .before .before .before .before .args .k) (c .row-at .ensures) e
 
 array-share-prefix-bytes : tie.Need-array-share-prefix-bytes
 array-share-prefix-bytes c =
-    let r = c .before .row-at .result in omega (arith, sized (c .before), length-take (r .len) (r .name))
+    let r = c .before .row-at .result in omega (arith, sized (c .before), length-take (r .1) (r .0))
 
 word-requires : tie.Need-word-requires
 word-requires c κs =
