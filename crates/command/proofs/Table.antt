@@ -1,18 +1,19 @@
 -- What the round trips need of the table of keys: each key is found by its name, and each kind's words are told apart. One test,
 -- which the checker computes of `keys`; no theorem names a key.
-use Prim.Native.Nat.{ℕ, zero, suc, _≤_, _<_}
+use Prim.Native.Nat.{ℕ, suc, _≤_, _<_}
 use mathlib.Core.Path.{_≡_, refl, ap}
 use mathlib.Core.Bool.{Bool, true, _&&_}
 use mathlib.Core.List.{List, [], _∷_}
 use native.Mathlib.Omega.{arith}
-use lib.ListN.{length, getD, drop}
+use lib.ListN.{length, getD, drop, length-drop}
+use lib.Seq.{drop-cons}
 use lib.Dec.{ltb, leb, eqb}
 use borrow.Author.Tests.{eqb-true, leb-true}
 use Rattle.octets.specs.Members.{every}
 use Rattle.octets.specs.Split.{split, onto}
 use Rattle.octets.specs.Slices.{equals}
 use Rattle.octets.proofs.Below.{both-test, all, at}
-use Rattle.command.specs.Keys.{Alias, Kind, Key, key, keys, placeIn, numberOf, kindAt}
+use Rattle.command.specs.Keys.{Alias, Kind, Key, key, keys, placeIn, numberOf, keyAt, kindAt}
 use Rattle.command.specs.Letters.{keyByte, textByte}
 use Rattle.command.specs.Fields.{isKey}
 use Rattle.command.specs.declared.Refusal.{Refusal}
@@ -70,24 +71,18 @@ abbrev pub AllNamed : ℕ → List Key → Type 0
 AllNamed n [] = Unit {0}
 AllNamed n (k ∷ ks) = Named n k × AllNamed (suc n) ks
 
--- the first of what is left of a list from a place on
-left-first : (l : List Key) (n : ℕ) (d k : Key) (ks : List Key) → drop n l ≡ k ∷ ks
-    → (getD l n d ≡ k) × (n < length l) × (drop (suc n) l ≡ ks)
-left-first [] zero d k ks e = let z : _≡_ {A = ℕ} 0 1 = cc in absurd (omega arith)
-left-first [] (suc n) d k ks e = let z : _≡_ {A = ℕ} 0 1 = cc in absurd (omega arith)
-left-first (x ∷ l) zero d k ks e = (cc, omega arith, cc)
-left-first (x ∷ l) (suc n) d k ks e = let h = left-first l n d k ks e in (h .0, omega arith, h .2)
-
 all-named : (n : ℕ) (ks : List Key) → drop n keys ≡ ks → named n ks ≡ true → AllNamed n ks
 unfolding named
 all-named n [] e t = tt
 all-named n (k ∷ ks) e t =
-    let l = left-first keys n (key "" Kind.integer) k ks e in
+    let l : n < length keys = omega (arith, length-drop n keys, ap length e) in
+    let first = drop-cons keys n (key "" Kind.integer) l in
+    let here : keyAt keys n ≡ k = cc in
     let a = both-test _ _ t in
     let b = both-test _ _ (a .1) in
     let c = both-test _ _ (b .1) in (
-      record { found = eqb-true _ _ (a .0); inside = l .1; kinded = ap (λ (x : Key). x .kind) (l .0); letters = b .0; fits = c .0 },
-      all-named (suc n) ks (l .2) (c .1),
+      record { found = eqb-true _ _ (a .0); inside = l; kinded = ap (λ (x : Key). x .kind) here; letters = b .0; fits = c .0 },
+      all-named (suc n) ks (cc) (c .1),
     )
 
 pub table : AllNamed 0 keys

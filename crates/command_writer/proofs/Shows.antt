@@ -9,6 +9,7 @@ use lib.Seq.{append-snoc}
 use lib.Dec.{leb, eqb}
 use borrow.Author.Tests.{lt-ltb, ne-eqb, leb-true}
 use Rattle.octets.specs.Members.{every}
+use Rattle.octets.specs.Slices.{partOf}
 use Rattle.base64.specs.Encode as Base64
 use Rattle.base64.proofs.Lengths.{length-text}
 use Rattle.decimal.specs.Write.{textOf, negativeZero, outOfRange}
@@ -40,8 +41,8 @@ text-some [] h = absurd (h refl)
 text-some (x ∷ s) h = refl
 
 module _ (l : List ℕ) (p : Place) where
-  pub place-in : leb (p .start + p .len) (length l) ≡ true → bytesAt l p ≡ Value.bytes (take (p .len) (drop (p .start) l))
-  unfolding bytesAt
+  pub place-in : leb (p .start + p .len) (length l) ≡ true → bytesAt l p ≡ Value.bytes (partOf l (p .start) (p .len))
+  unfolding bytesAt partOf
   place-in h = rw h
 
   pub place-out : leb (p .start + p .len) (length l) ≡ false → bytesAt l p ≡ Value.outside
@@ -60,13 +61,13 @@ all-bytes (x ∷ l) zero (suc n) h = rw (lt-ltb x 256 (h 0)) (all-bytes l zero n
 all-bytes (x ∷ l) (suc m) n h = all-bytes l m n (λ i. h (suc i))
 
 pub base64-some : (l : List ℕ) (p : Place) → ((i : ℕ) → getD l i 0 < 256) → leb (p .start + p .len) (length l) ≡ true → (p .len ≡ 0 → ⊥)
-    → shown Kind.base64 (bytesAt l p) ≡ Shown.text (Base64.textOf (take (p .len) (drop (p .start) l)))
-unfolding shown base64Shown
+    → shown Kind.base64 (bytesAt l p) ≡ Shown.text (Base64.textOf (partOf l (p .start) (p .len)))
+unfolding shown base64Shown partOf
 base64-some l p b h n =
     let t = take (p .len) (drop (p .start) l) in
     let within = leb-true (p .start + p .len) (length l) h in
     let size : length t ≡ p .len = omega (arith, within, length-take (p .len) (drop (p .start) l), length-drop (p .start) l) in
-    rw (place-in l p h, all-bytes l (p .start) (p .len) b)
+    rw (place-in l p h, h, all-bytes l (p .start) (p .len) b)
     (text-some (Base64.textOf t) (λ e. n (omega (arith, length-text t, size))))
 
 -- ---- an integer that is not 0, put or refused

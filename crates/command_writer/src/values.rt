@@ -1,8 +1,8 @@
 // A field, by the kind of its value: it is put as `;key=value`, or left out, or refused.
 ghost use mathlib.Core.Bool.{_&&_};
 ghost use mathlib.Core.Path.{_≡_};
-ghost use Prim.Native.Nat.{_+_, _≤_};
-ghost use lib.ListN.{length, take, drop};
+ghost use Prim.Native.Nat.{_≤_};
+ghost use lib.ListN.{length};
 ghost use lib.Dec.{ltb};
 ghost use Rattle.command.specs.Keys.{Kind, keys, kindAt};
 ghost use Rattle.command.specs.Rows.{wordsOf};
@@ -81,7 +81,7 @@ pub(crate) fn safe(
     if !octets::fits(place.start, place.len, text.len()) {
         return Written::Refused(Refusal::UnsafeCharacter);
     }
-    let s = bytes_at(text, place);
+    let s = octets::part(text, place.start, place.len);
     if !letters::all(Class::Safe, s) {
         return Written::Refused(Refusal::UnsafeCharacter);
     }
@@ -120,15 +120,6 @@ pub(crate) fn base64(
         return Written::Length(at);
     }
     let value = put_key(name, out, at);
-    Written::Length(put_base64(bytes_at(scratch, place), out, value))
-}
-
-// The bytes of a place.
-fn bytes_at(buffer: &[u8], place: Place) -> &[u8]
-    requires { ⌜ place .start + place .len ≤ length (now buffer) ⌝ }
-    ensures { λ r. ⌜ now r ≡ take (place .len) (drop (place .start) (now (buffer .entry))) ⌝ }
-{
-    let start = place.start;
-    let end = start + place.len;
-    &buffer[start..end]
+    let bytes = octets::part(scratch, place.start, place.len);
+    Written::Length(put_base64(bytes, out, value))
 }

@@ -4,8 +4,9 @@ use mathlib.Core.Bool.{true}
 use native.Mathlib.Omega.{arith}
 use lib.ListN.{length}
 use lib.Dec.{leb}
-use borrow.Author.Tests.{leb-true, not-true, not-false}
+use borrow.Author.Tests.{not-true, not-false}
 use Rattle.octets.specs.Members.{every}
+use Rattle.octets.specs.Slices.{partOf}
 use Rattle.base64.specs.Encode.{textOf}
 use Rattle.command.specs.Values.{base64Shown, shown}
 use Rattle.command_writer.proofs.Puts.{put-none}
@@ -27,14 +28,11 @@ returns c =
     rw (place-out (a .scratch .now) (a .place) (sym (fits .fits2 .ensures) ∙ not-true (fits .fits2 .result) (c .if1 .taken)))
 
 returns-2 : tie.Need-returns-2
-unfolding shown base64Shown every textOf
+unfolding shown base64Shown every textOf partOf
 returns-2 c =
     let within = c .before .before in
     let a = within .before .before .before .before .before .args in
-    rw (place-in (a .scratch .now) (a .place) (inside within), c .if2 .taken) (a .at, refl, put-none (a .out .now) (a .at))
-
-bytes-at-requires : tie.Need-bytes-at-requires
-bytes-at-requires c κs = leb-true _ _ (inside (c .before .before .before .before .before .before))
+    rw (place-in (a .scratch .now) (a .place) (inside within), inside within, c .if2 .taken) (a .at, refl, put-none (a .out .now) (a .at))
 
 returns-3 : tie.Need-returns-3
 returns-3 c =
@@ -47,8 +45,8 @@ returns-3 c =
     let a = known .before .before .args in
     let byte = known .shared-slice-known2 .given in
     let shows = base64-some (a .scratch .now) (a .place) (λ i. omega (arith, byte i)) (inside within) (some .if2 .left) in
-    let field = field-put (a .name .now) (textOf (bytes .bytes-at .result .now)) (key .put-key .ensures) in
-    rw (shows, ← bytes .bytes-at .ensures) (put .put-base64 .result, refl, field (put .put-base64 .ensures))
+    let field = field-put (a .name .now) (textOf (bytes .part .result .now)) (key .put-key .ensures) in
+    rw (shows, ← bytes .part .ensures) (put .put-base64 .result, refl, field (put .put-base64 .ensures))
 
 pub base64-spec : {M : Type 1} → statement M
 base64-spec =
@@ -58,7 +56,7 @@ base64-spec =
     returns
     returns-2
     (search needs)
-    bytes-at-requires
+    (search needs)
     (search needs)
     (search needs)
     returns-3)

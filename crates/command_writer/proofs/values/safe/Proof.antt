@@ -4,7 +4,7 @@ use mathlib.Core.Bool.{true, cond}
 use mathlib.Core.List.{List}
 use lib.ListN.{length}
 use lib.Dec.{leb}
-use borrow.Author.Tests.{leb-true, not-true, not-false}
+use borrow.Author.Tests.{not-true, not-false}
 use Rattle.command.specs.Keys.{Kind}
 use Rattle.command.specs.Values.{unshown, over, textOr, safeShown, shown}
 use Rattle.command.specs.Slots.{bytesAt}
@@ -21,11 +21,11 @@ inside : (c : tie.Else1) → let a = c .before .before .before .before .before .
 inside c = sym (c .before .fits2 .ensures) ∙ not-false (c .before .fits2 .result) (c .if1 .left)
 
 -- the arguments, and the bytes at the place
-abbrev start : tie.After-bytes-at → tie.Start
+abbrev start : tie.After-part → tie.Start
 start c = c .before .before .before .before .before .before
 
-abbrev bytes : tie.After-bytes-at → List ℕ
-bytes c = c .bytes-at .result .now
+abbrev bytes : tie.After-part → List ℕ
+bytes c = c .part .result .now
 
 -- within, it is shown as its bytes are
 shown-by : (c : tie.After-all) → let b = c .before in let a = start b .args in
@@ -36,7 +36,7 @@ unfolding shown safeShown
 shown-by c =
     let b = c .before in
     let a = start b .args in
-    rw (place-in (a .text .now) (a .place) (inside (b .before)), ← b .bytes-at .ensures, ← c .all .ensures)
+    rw (place-in (a .text .now) (a .place) (inside (b .before)), ← b .part .ensures, ← c .all .ensures)
 
 -- past the second test its bytes are safe
 shown-here : (c : tie.Else2) → let b = c .before .before in let a = start b .args in
@@ -50,9 +50,6 @@ returns c =
     let fits = c .before in
     let a = fits .before .before .before .before .args in
     rw (place-out (a .text .now) (a .place) (sym (fits .fits2 .ensures) ∙ not-true (fits .fits2 .result) (c .if1 .taken)))
-
-bytes-at-requires : tie.Need-bytes-at-requires
-bytes-at-requires c κs = leb-true _ _ (inside c)
 
 returns-2 : tie.Need-returns-2
 returns-2 c = let all = c .before in rw (shown-by all, not-true (all .all .result) (c .if2 .taken))
@@ -89,7 +86,7 @@ safe-spec =
     (tie.spec
     (search needs)
     returns
-    bytes-at-requires
+    (search needs)
     (search needs)
     returns-2
     (search needs)
