@@ -55,12 +55,6 @@ finish =
     ∷ Value.bytes (1 ∷ 2 ∷ 3 ∷ [])
     ∷ []
 
-loose-read : meaningOf loose ≡ Meaning.command finish
-unfolding meaningOf textRead fieldsRead fieldRead isKey keyByte textByte safeByte every startsWith equals split onto
-    indexOf indexAfter placeIn valueRead wordRead aliasRead safeRead verdictOf scan ending bytesOf group valueOf
-    parseOf magnitudeOf digitsOf rangedOf
-loose-read = refl
-
 -- a text for each refusal of a value; then a `q` that is no number, and a string that is too long besides
 abbrev mistaken : List (List ℕ)
 mistaken =
@@ -75,11 +69,12 @@ mistaken =
     ∷ ascii "5113;ac=send;id=m;fid=012345678901234567890123456789012!"
     ∷ []
 
-mistaken-read : map meaningOf mistaken ≡ map Meaning.refused (61 ∷ 62 ∷ 63 ∷ 64 ∷ 65 ∷ 66 ∷ 67 ∷ 64 ∷ 62 ∷ [])
+texts-read : (meaningOf loose ≡ Meaning.command finish)
+    × (map meaningOf mistaken ≡ map Meaning.refused (61 ∷ 62 ∷ 63 ∷ 64 ∷ 65 ∷ 66 ∷ 67 ∷ 64 ∷ 62 ∷ []))
 unfolding meaningOf textRead fieldsRead fieldRead isKey keyByte textByte safeByte every startsWith equals split onto
     indexOf indexAfter placeIn valueRead wordRead aliasRead safeRead verdictOf scan ending bytesOf group valueOf
     parseOf magnitudeOf digitsOf rangedOf
-mistaken-read = refl
+texts-read = (refl, refl)
 
 finish-written : (canonical finish ≡ tight)
     × (writeOf finish (replicate 33 0) .answer ≡ Answer.written 33)

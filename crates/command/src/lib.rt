@@ -8,7 +8,9 @@ pub mod keys;
 pub mod letters;
 pub mod words;
 
+ghost use mathlib.Core.Bool.{_||_};
 ghost use mathlib.Core.Path.{_≡_};
+ghost use lib.Dec.{eqb};
 ghost use Rattle.command.specs.Refusals.{refusalNumber};
 ghost use Rattle.command.specs.Slots as Slots;
 use decimal::Number;
@@ -24,6 +26,32 @@ pub enum Action {
     Finish,
     Cancel,
     Status,
+}
+
+impl Action {
+    // Its code; 0 is that of none.
+    pub fn code(self) -> u64
+        ensures { λ r. ⌜ r ≡ Slots.actionCode self ⌝ }
+    {
+        match self {
+            Action::None => 0,
+            Action::Send => 1,
+            Action::Receive => 2,
+            Action::File => 3,
+            Action::Data => 4,
+            Action::EndData => 5,
+            Action::Finish => 6,
+            Action::Cancel => 7,
+            Action::Status => 8,
+        }
+    }
+}
+
+// Whether one of an action and an id, which a command must have, is lacking.
+pub fn lacks(action: Action, id: Place) -> bool
+    ensures { λ r. ⌜ r ≡ (eqb (Slots.actionCode action) 0 || eqb (id .len) 0) ⌝ }
+{
+    (action.code() == 0) | (id.len == 0)
 }
 
 // "file type"
@@ -45,6 +73,12 @@ pub struct Place {
     pub start: usize,
     pub len: usize,
 }
+
+// What an integer that is absent means.
+pub const ZERO: Number = Number {
+    negative: false,
+    magnitude: 0,
+};
 
 // A command. id, file_id, bypass and parent stand in the text; name, status and data, decoded,
 // in the scratch. Compression has one word only, so that it holds nothing.
@@ -78,18 +112,9 @@ impl Command {
         file_id: Place::NOWHERE,
         bypass: Place::NOWHERE,
         quiet: 0,
-        modified: Number {
-            negative: false,
-            magnitude: 0,
-        },
-        permissions: Number {
-            negative: false,
-            magnitude: 0,
-        },
-        size: Number {
-            negative: false,
-            magnitude: 0,
-        },
+        modified: ZERO,
+        permissions: ZERO,
+        size: ZERO,
         name: Place::NOWHERE,
         status: Place::NOWHERE,
         parent: Place::NOWHERE,
@@ -192,10 +217,7 @@ impl Slot {
     {
         Slot {
             stood: true,
-            number: Number {
-                negative: false,
-                magnitude: 0,
-            },
+            number: ZERO,
             place: place,
         }
     }

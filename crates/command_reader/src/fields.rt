@@ -15,11 +15,11 @@ use command::Place;
 use command::Reading;
 use command::Refusal;
 use command::Slot;
+use command::ZERO;
 use command::keys::COUNT;
 use command::keys::number_of;
 use command::letters;
 use command::letters::Class;
-use decimal::Number;
 
 // What a field names: nothing, where no key stands before a `=`; an unknown key, and where the field ends;
 // or the number of a key, where its value starts, and where it ends.
@@ -67,10 +67,7 @@ pub(crate) fn read_fields(text: &[u8], scratch: &mut [u8]) -> Reading
 // The slot of a key that has not stood.
 const FREE: Slot = Slot {
     stood: false,
-    number: Number {
-        negative: false,
-        magnitude: 0,
-    },
+    number: ZERO,
     place: Place::NOWHERE,
 };
 

@@ -10,6 +10,7 @@ use command::Reading;
 use command::Refusal;
 use command::Slot;
 use command::Transmission;
+use command::lacks;
 use decimal::Number;
 
 // The command of the slots, if it has an action and an id.
@@ -18,11 +19,8 @@ pub(crate) fn complete(slots: [Slot; 15]) -> Reading
 {
     let command = command_of(slots);
     let action = command.action;
-    if let Action::None = action {
-        return Reading::Refused(Refusal::Missing);
-    }
     let id = command.id;
-    if id.len == 0 {
+    if lacks(action, id) {
         return Reading::Refused(Refusal::Missing);
     }
     Reading::Read(command)

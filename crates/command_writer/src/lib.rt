@@ -11,11 +11,11 @@ mod values;
 ghost use mathlib.Core.Bool.{_||_};
 ghost use mathlib.Core.Path.{_≡_};
 ghost use lib.ListN.{length};
-ghost use lib.Dec.{ltb, eqb};
+ghost use lib.Dec.{ltb};
 ghost use Rattle.octets.specs.Outcome.{outcome};
 ghost use Rattle.frames.specs.Stream.{textLimit};
 ghost use Rattle.command.specs.Keys.{keys};
-ghost use Rattle.command.specs.Slots.{actionCode, valuesOf};
+ghost use Rattle.command.specs.Slots.{valuesOf};
 ghost use Rattle.command.specs.Write.{Checked, checkedOf, answered, writeOf};
 ghost use Rattle.command.specs.RoundTrips.{WrittenThenRead, WritesCanonical};
 ghost use Rattle.command_writer.specs.Pieces.{whole};
@@ -23,6 +23,7 @@ ghost use Rattle.command_writer.specs.Stores.{spare};
 use command::Command;
 use command::Refusal;
 use command::Written;
+use command::lacks;
 use frames::Framing;
 
 // Stores the canonical text of a command, whose places lie in text and scratch, at the start of out.
@@ -53,7 +54,9 @@ fn write_measured<'a>(
     ensures { λ r. ⌜ outcome (answered r) (now (out .exit))
         ≡ writeOf (valuesOf command (now (text .entry)) (now (scratch .entry))) (now (out .entry)) ⌝ }
 {
-    let missing = lacks(command);
+    let action = command.action;
+    let id = command.id;
+    let missing = lacks(action, id);
     let short = no_room(n, out.len());
     if missing {
         return Written::Refused(Refusal::Missing);
@@ -62,14 +65,6 @@ fn write_measured<'a>(
         return Written::Refused(Refusal::ShortBuffer);
     }
     fields::put_fields(command, text, scratch, out)
-}
-
-// Whether a command has no action or an empty id.
-fn lacks(command: Command) -> bool
-    ensures { λ r. ⌜ r ≡ (eqb (actionCode (command .action)) 0 || eqb (command .id .len) 0) ⌝ }
-{
-    let action = command.action;
-    (slots::action_code(action) == 0) | (command.id.len == 0)
 }
 
 // Whether a text of n bytes passes the limit, or a buffer of this length is shorter.

@@ -1,28 +1,10 @@
 // A command's slots, in writing order.
 ghost use mathlib.Core.Path.{_≡_};
-ghost use Rattle.command.specs.Slots.{slotsOf, actionCode, fileTypeCode, transmissionCode};
-use command::Action;
+ghost use Rattle.command.specs.Slots.{slotsOf, fileTypeCode, transmissionCode};
 use command::Command;
 use command::FileType;
 use command::Slot;
 use command::Transmission;
-
-// The code of an action; 0 is that of none.
-pub(crate) fn action_code(action: Action) -> u64
-    ensures { λ r. ⌜ r ≡ actionCode action ⌝ }
-{
-    match action {
-        Action::None => 0,
-        Action::Send => 1,
-        Action::Receive => 2,
-        Action::File => 3,
-        Action::Data => 4,
-        Action::EndData => 5,
-        Action::Finish => 6,
-        Action::Cancel => 7,
-        Action::Status => 8,
-    }
-}
 
 // The code of a file type; 0 is what absent means, as below.
 fn file_type_code(file_type: FileType) -> u64
@@ -54,7 +36,7 @@ pub(crate) fn slots(command: Command) -> [Slot; 15]
     let file_type = command.file_type;
     let transmission = command.transmission;
     [
-        Slot::coded(action_code(action)),
+        Slot::coded(action.code()),
         Slot::coded(0),
         Slot::coded(file_type_code(file_type)),
         Slot::coded(transmission_code(transmission)),

@@ -7,7 +7,7 @@ use Rattle.command_writer.proofs.write_measured.Tie as tie
 returns : tie.Need-returns
 returns c =
     let lacks = c .before .before in
-    let entry = lacks .before .before .before .before in
+    let entry = lacks .before .before .before .before .before in
     let a = entry .args in
     let missing = sym (lacks .lacks .ensures) ∙ c .if1 .taken in
     refused-missing (a .command) (a .text .now) (a .scratch .now) (a .out .now) (entry .pre .0) missing
@@ -16,7 +16,7 @@ returns-2 : tie.Need-returns-2
 returns-2 c =
     let room = c .before .before in
     let lacks = room .before in
-    let entry = lacks .before .before .before .before in
+    let entry = lacks .before .before .before .before .before in
     let a = entry .args in
     let there = sym (lacks .lacks .ensures) ∙ c .before .if1 .left in
     let short = sym (room .no-room .ensures) ∙ c .if2 .taken in
@@ -29,7 +29,7 @@ returns-3 c =
     let has = fits .before in
     let room = has .before in
     let lacks = room .before in
-    let entry = lacks .before .before .before .before in
+    let entry = lacks .before .before .before .before .before in
     let a = entry .args in
     let there = sym (lacks .lacks .ensures) ∙ has .if1 .left in
     let wide = sym (room .no-room .ensures) ∙ fits .if2 .left in

@@ -28,7 +28,7 @@ returns c =
       words .before .before .before .file-type-code .ensures,
       heads .coded2 .ensures,
       heads .before .coded .ensures,
-      heads .before .before .action-code .ensures,
+      heads .before .before .code .ensures,
     )
 
 pub slots-spec : {M : Type 1} → statement M
