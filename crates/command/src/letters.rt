@@ -1,7 +1,9 @@
-// Which bytes may stand where.
+// Which bytes may stand where, and how many.
 ghost use Prim.Native.Nat.{_+_};
+ghost use mathlib.Core.Bool.{_&&_};
 ghost use mathlib.Core.Path.{_≡_};
 ghost use lib.ListN.{drop};
+ghost use lib.Dec.{ltb};
 ghost use Rattle.octets.specs.Members.{every};
 ghost use Rattle.command.specs.Classes.{byteOf, inRanges, run};
 
@@ -38,6 +40,13 @@ pub fn pass(class: Class, s: &[u8], from: usize) -> usize
         i += 1;
     }
     i
+}
+
+// Whether a string is not "at most 32 bytes", where that is asked.
+pub fn over(short: bool, len: usize) -> bool
+    ensures { λ r. ⌜ r ≡ (short && ltb 32 len) ⌝ }
+{
+    short & (len > 32)
 }
 
 // Whether c is of the class. What safe strings have besides keys' bytes stands beside these: `-`, `.`

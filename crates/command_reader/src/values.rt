@@ -65,10 +65,8 @@ fn safe(short: bool, at: usize, v: &[u8]) -> Kept
     if !letters::all(Class::Safe, v) {
         return Kept::Refused(Refusal::UnsafeCharacter);
     }
-    if short {
-        if v.len() > 32 {
-            return Kept::Refused(Refusal::TooLong);
-        }
+    if letters::over(short, v.len()) {
+        return Kept::Refused(Refusal::TooLong);
     }
     let place = Place {
         start: at,

@@ -1,9 +1,7 @@
 // A field, by the kind of its value: it is put as `;key=value`, or left out, or refused.
-ghost use mathlib.Core.Bool.{_&&_};
 ghost use mathlib.Core.Path.{_≡_};
 ghost use Prim.Native.Nat.{_≤_};
 ghost use lib.ListN.{length};
-ghost use lib.Dec.{ltb};
 ghost use Rattle.command.specs.Keys.{Kind, keys, kindAt};
 ghost use Rattle.command.specs.Rows.{wordsOf};
 ghost use Rattle.command.specs.Values.{wordShown, integerShown, shown};
@@ -85,7 +83,7 @@ pub(crate) fn safe(
     if !letters::all(Class::Safe, s) {
         return Written::Refused(Refusal::UnsafeCharacter);
     }
-    if over(short, s.len()) {
+    if letters::over(short, s.len()) {
         return Written::Refused(Refusal::TooLong);
     }
     if s.len() == 0 {
@@ -93,13 +91,6 @@ pub(crate) fn safe(
     }
     let value = put_key(name, out, at);
     Written::Length(put(s, out, value))
-}
-
-// Whether a string is not "at most 32 bytes", where that is asked.
-fn over(short: bool, len: usize) -> bool
-    ensures { λ r. ⌜ r ≡ (short && ltb 32 len) ⌝ }
-{
-    short & (len > 32)
 }
 
 // The Base64 of bytes, which stand in the scratch.
