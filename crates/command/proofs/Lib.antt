@@ -1,3 +1,4 @@
+pub mod Cases
 pub mod Every
 mod Ranges
 pub mod Runs

@@ -1,7 +1,7 @@
 -- A value and the text that it is written as, by kind: the text reads as the same value, and is calm.
 use Prim.Native.Nat.{ℕ, _+_, _-_, _<_}
 use mathlib.Core.Path.{_≡_, refl, sym, _∙_, ap}
-use mathlib.Core.Bool.{Bool, true, false, cond, _&&_}
+use mathlib.Core.Bool.{Bool, true, false, _&&_}
 use mathlib.Core.List.{List, [], _∷_}
 use native.Mathlib.Omega.{arith}
 use lib.ListN.{length, getD}
@@ -20,9 +20,9 @@ use Rattle.decimal.proofs.Writes.{writable-is}
 use Rattle.command.specs.Keys.{Alias, Kind, placeIn}
 use Rattle.command.specs.Letters.{safeByte, isByte}
 use Rattle.command.specs.Values.{Value, count, absent, Got, wordRead, over, safeRead, valueRead}
-use Rattle.command.specs.Values.{Shown, unshown, textOr, wordShown, safeShown, integerShown, base64Shown, shown}
+use Rattle.command.specs.Values.{Shown, textOr, wordShown, safeShown, integerShown, base64Shown, shown}
 use Rattle.command.specs.declared.Refusal.{Refusal}
-use Rattle.command.specs.declared.Refusal.the-variants as Refusal
+use Rattle.command.proofs.Cases.{by-test}
 use Rattle.command.proofs.Every.{every-map, bytes-every, every-bytes}
 use Rattle.command.proofs.Calm.{calm, safe-calm, integer-calm, groups-calm}
 use Rattle.command.proofs.Table.{fit, Words, fit-words}
@@ -62,58 +62,42 @@ writable-nought n w z = go (n .negative) refl (rw z at (writable-is n w .0))
 met-word : (unknown : Refusal) (first : ℕ) (ws : List (List ℕ)) (aliases : List Alias) (n : Number)
     → Met (Kind.word unknown first ws aliases) (Value.number n) (wordShown unknown first ws n)
 unfolding wordShown
-met-word unknown first ws aliases n = go (n .negative) refl (eqb (n .magnitude) 0) refl (ltb (n .magnitude - first) (length ws)) refl
-  where
-    go : (x : Bool) → n .negative ≡ x → (y : Bool) → eqb (n .magnitude) 0 ≡ y → (z : Bool) → ltb (n .magnitude - first) (length ws) ≡ z
-        → Met (Kind.word unknown first ws aliases) (Value.number n)
-        (cond x (unshown unknown) (cond y Shown.leftOut (cond z (Shown.text (getD ws (n .magnitude - first) [])) (unshown unknown))))
-    go true ex y ey z ez = refused
-    go false ex true ey z ez = out (ap Value.number (nought n ex (eqb-true _ _ ey)))
-    go false ex false ey true ez = there (word ex (eqb-false _ _ ey) (ltb-true _ _ ez) refl)
-    go false ex false ey false ez = refused
+met-word unknown first ws aliases n =
+    let M : Shown → Type 0 = Met (Kind.word unknown first ws aliases) (Value.number n) in
+    by-test M (n .negative) (λ s. refused) (λ s.
+    by-test M (eqb (n .magnitude) 0) (λ z. out (ap Value.number (nought n s (eqb-true _ _ z)))) (λ z.
+    by-test M (ltb (n .magnitude - first) (length ws)) (λ i. there (word s (eqb-false _ _ z) (ltb-true _ _ i) refl)) (λ i. refused)))
 
 met-string : (short : Bool) (b : List ℕ) → Met (Kind.safe short) (Value.bytes b) (safeShown short b)
 unfolding safeShown
-met-string short b = go (every safeByte b) refl (over short b) refl
+met-string short b =
+    by-test M (every safeByte b) (λ s. by-test M (over short b) (λ l. refused) (λ l. spelled b s l)) (λ s. refused)
   where
+    M : Shown → Type 0
+    M = Met (Kind.safe short) (Value.bytes b)
+
     spelled : (b : List ℕ) → every safeByte b ≡ true → over short b ≡ false → Met (Kind.safe short) (Value.bytes b) (textOr b)
     spelled [] s l = out refl
     spelled (c ∷ b) s l = there (string s l)
 
-    go : (x : Bool) → every safeByte b ≡ x → (y : Bool) → over short b ≡ y
-        → Met (Kind.safe short) (Value.bytes b) (cond x (cond y (unshown Refusal.TooLong) (textOr b)) (unshown Refusal.UnsafeCharacter))
-    go true ex false ey = spelled b ex ey
-    go true ex true ey = refused
-    go false ex y ey = refused
-
 met-integer : (n : Number) → Met Kind.integer (Value.number n) (integerShown n)
 unfolding integerShown
-met-integer n = go (Decimal.negativeZero n) refl (Decimal.outOfRange n) refl (eqb (n .magnitude) 0) refl
-  where
-    ours : Decimal.negativeZero n ≡ false → Decimal.outOfRange n ≡ false → Decimal.writable n ≡ true
-    ours ez er = unfold Decimal.writable in rw (ez, er)
-
-    go : (z : Bool) → Decimal.negativeZero n ≡ z → (r : Bool) → Decimal.outOfRange n ≡ r → (y : Bool) → eqb (n .magnitude) 0 ≡ y
-        → Met Kind.integer (Value.number n)
-        (cond z (unshown Refusal.MalformedInteger)
-        (cond r (unshown Refusal.OutOfRange) (cond y Shown.leftOut (Shown.text (Decimal.textOf n)))))
-    go true ez r er y ey = refused
-    go false ez true er y ey = refused
-    go false ez false er true ey = out (ap Value.number (writable-nought n (ours ez er) (eqb-true _ _ ey)))
-    go false ez false er false ey = there (integer (ours ez er) (eqb-false _ _ ey) refl)
+met-integer n =
+    let M : Shown → Type 0 = Met Kind.integer (Value.number n) in
+    by-test M (Decimal.negativeZero n) (λ z. refused) (λ z.
+    by-test M (Decimal.outOfRange n) (λ r. refused) (λ r.
+    (let w : Decimal.writable n ≡ true = unfold Decimal.writable in rw (z, r) in
+    by-test M (eqb (n .magnitude) 0) (λ o. out (ap Value.number (writable-nought n w (eqb-true _ _ o))))
+    (λ o. there (integer w (eqb-false _ _ o) refl)))))
 
 met-base64 : (b : List ℕ) → Met Kind.base64 (Value.bytes b) (base64Shown b)
 unfolding base64Shown
-met-base64 b = go (every isByte b) refl
+met-base64 b =
+    by-test (Met Kind.base64 (Value.bytes b)) (every isByte b) (λ e. spelled (Base64.textOf b) refl (bytes-every b e)) (λ e. refused)
   where
     spelled : (t : List ℕ) → Base64.textOf b ≡ t → Bytes b → Met Kind.base64 (Value.bytes b) (textOr t)
     spelled [] e h = out (ap Value.bytes (sym (bytes-text b h) ∙ ap bytesOf e ∙ (unfold bytesOf in refl)))
     spelled (c ∷ t) e h = there (base64 h e)
-
-    go : (x : Bool) → every isByte b ≡ x
-        → Met Kind.base64 (Value.bytes b) (cond x (textOr (Base64.textOf b)) (unshown Refusal.Base64Length))
-    go true ex = spelled (Base64.textOf b) refl (bytes-every b ex)
-    go false ex = refused
 
 pub met : (k : Kind) (v : Value) → Met k v (shown k v)
 unfolding shown
