@@ -2,7 +2,7 @@
 -- check, and divides into them again.
 use Prim.Native.Nat.{ℕ, _≤_, _<_}
 use mathlib.Core.Path.{_≡_, refl}
-use mathlib.Core.Bool.{Bool, true, false, not, _&&_, _||_, true≢false}
+use mathlib.Core.Bool.{Bool, true, not, _&&_, _||_}
 use mathlib.Core.Logic.{_⊎_, inl, inr}
 use mathlib.Core.List.{List, [], _∷_}
 use native.Mathlib.Omega.{arith}
@@ -23,6 +23,7 @@ use Rattle.decimal.specs.Write as Decimal
 use Rattle.decimal.specs.declared.Number.{Number}
 use Rattle.decimal.proofs.Texts.{text-between}
 use Rattle.command.specs.Letters.{between, among, alphanumeric, keyByte, safeByte, textByte}
+use Rattle.command.proofs.Cases.{either-test}
 use Rattle.command.proofs.Every.{every-cons, every-map, every-append, every-at, each-every}
 
 -- ---- calm, and plain: no `=` either
@@ -49,14 +50,6 @@ unfolding calm
 calm-text c e = both-test (textByte c) _ e .0
 
 -- ---- what is calm
-pub either-test : (t u : Bool) → (t || u) ≡ true → (t ≡ true) ⊎ (u ≡ true)
-either-test true u e = inl refl
-either-test false u e = inr e
-
-pub either-false : (t u : Bool) → (t || u) ≡ false → (t ≡ false) × (u ≡ false)
-either-false true u e = absurd (true≢false e)
-either-false false u e = (refl, e)
-
 between-test : (l u c : ℕ) → between l u c ≡ true → (l ≤ c) × (c ≤ u)
 between-test l u c e = let h = both-test (leb l c) (leb c u) e in (leb-true l c (h .0), leb-true c u (h .1))
 

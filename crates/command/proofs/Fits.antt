@@ -19,7 +19,7 @@ use Rattle.command.specs.Canonical.{field, fieldsOf}
 use Rattle.command.specs.Grammar.{needed, CanonicalFields, no-more, left-out, there}
 use Rattle.command.specs.Write.{Checked, before, checkedOf}
 use Rattle.command.specs.declared.Refusal.{Refusal}
-use Rattle.command.proofs.Calm.{either-test, either-false}
+use Rattle.command.proofs.Cases.{either-test, either-false}
 use Rattle.command.proofs.WrittenValues.{Spelled, Met, met, spelled-shown, absent-shown}
 use Rattle.command.proofs.WrittenValues as Written
 use Rattle.command.proofs.CanonicalValues.{value-spelled, spelled-canonical}

@@ -1,7 +1,7 @@
 -- What the text of a value reads as, by its kind: the one place where the cases of `valueRead` are told apart.
 use Prim.Native.Nat.{ℕ, suc, _+_, _*_, _≤_, _<_, max}
 use mathlib.Core.Path.{_≡_, refl}
-use mathlib.Core.Bool.{Bool, true, false, not, cond, _&&_}
+use mathlib.Core.Bool.{Bool, true, false, not, _&&_}
 use mathlib.Core.List.{List, [], _∷_}
 use native.Mathlib.Omega.{arith}
 use lib.ListN.{length}
@@ -27,6 +27,7 @@ use Rattle.command.specs.Values.{integerRead, base64Refusal, base64Read,
 use Rattle.command.specs.Read.{storedFor}
 use Rattle.command.specs.declared.Refusal.{Refusal}
 use Rattle.command.specs.declared.Refusal.the-variants as Refusal
+use Rattle.command.proofs.Cases.{by-test}
 use Rattle.command.proofs.Names.{at-key}
 
 -- the codes of a kind's words lie below this: `end` is where those that count on from the first end
@@ -70,26 +71,16 @@ module _ (unknown : Refusal) (first : ℕ) (ws : List (List ℕ)) (aliases : Lis
       → ReadsWord (aliasRead unknown more v)
   unfolding aliasRead
   alias-reads [] h = refused unknown (λ e. e)
-  alias-reads (a ∷ more) h = go (equals v (a .text)) (alias-reads more (omega arith))
-    where
-      go : (b : Bool) → ReadsWord (aliasRead unknown more v)
-          → ReadsWord (cond b (Got.got (Value.number (count (a .code)))) (aliasRead unknown more v))
-      go true ih =
-          let l : a .code < codesEnd (first + length ws) aliases = omega arith in
-          as-word l
-      go false ih = ih
+  alias-reads (a ∷ more) h =
+      let l : a .code < codesEnd (first + length ws) aliases = omega arith in
+      by-test ReadsWord (equals v (a .text)) (λ e. as-word l) (λ e. alias-reads more (omega arith))
 
   word-reads : ReadsWord (wordRead unknown first ws aliases v)
   unfolding wordRead
-  word-reads = go (ltb (placeIn ws v) (length ws)) refl
+  word-reads = by-test ReadsWord (ltb (placeIn ws v) (length ws)) (λ e. as-word (below (ltb-true _ _ e))) (λ e. alias-reads aliases (omega arith))
     where
-      go : (b : Bool) → ltb (placeIn ws v) (length ws) ≡ b
-          → ReadsWord (cond b (Got.got (Value.number (count (first + placeIn ws v)))) (aliasRead unknown aliases v))
-      go true e =
-          let h : placeIn ws v < length ws = ltb-true _ _ e in
-          let l : first + placeIn ws v < codesEnd (first + length ws) aliases = omega (arith, end-le (first + length ws) aliases) in
-          as-word l
-      go false e = alias-reads aliases (omega arith)
+      below : placeIn ws v < length ws → first + placeIn ws v < codesEnd (first + length ws) aliases
+      below h = omega (arith, end-le (first + length ws) aliases)
 
 of-base64 : (f : Fault) → ofText (refusalNumber (base64Refusal f)) ≡ true
 of-base64 Fault.Length = refl
@@ -99,13 +90,13 @@ of-base64 Fault.UnusedBits = refl
 pub reads : (k : Kind) (v : List ℕ) → Reads k v (valueRead k v)
 unfolding valueRead safeRead
 reads (Kind.word unknown first ws aliases) v = word-reads unknown first ws aliases v
-reads (Kind.safe short) v = go (every safeByte v) refl (over short v) refl
+reads (Kind.safe short) v =
+    by-test R (every safeByte v)
+    (λ s. by-test R (over short v) (λ o. refused Refusal.TooLong (λ e. refl)) (λ o. as-string s o))
+    (λ s. refused Refusal.UnsafeCharacter (λ e. refl))
   where
-    go : (a : Bool) → every safeByte v ≡ a → (b : Bool) → over short v ≡ b
-        → Reads (Kind.safe short) v (cond a (cond b (refuses Refusal.TooLong) (Got.got (Value.bytes v))) (refuses Refusal.UnsafeCharacter))
-    go true p true q = refused Refusal.TooLong (λ e. refl)
-    go true p false q = as-string p q
-    go false p b q = refused Refusal.UnsafeCharacter (λ e. refl)
+    R : Got → Type 0
+    R = Reads (Kind.safe short) v
 reads Kind.integer v = go (parseOf v)
   where
     go : (p : Parsed) → Reads Kind.integer v (integerRead p)

@@ -1,12 +1,13 @@
 -- The bytes before one that does not pass a test, as a loop meets them.
 use Prim.Native.Nat.{ℕ, suc, _+_, _≤_, _<_}
 use mathlib.Core.Path.{_≡_}
-use mathlib.Core.Bool.{Bool, true, false, cond}
+use mathlib.Core.Bool.{Bool, true, false}
 use mathlib.Core.List.{List, [], _∷_}
 use native.Mathlib.Omega.{arith}
 use lib.ListN.{length, getD, drop}
 use Rattle.octets.proofs.Lists.{drop-at, drop-end}
 use Rattle.command.specs.Classes.{run}
+use Rattle.command.proofs.Cases.{by-test}
 
 module _ (f : ℕ → Bool) (s : List ℕ) (i : ℕ) where
   pub run-on : i < length s → f (getD s i 0) ≡ true → run f (drop i s) ≡ suc (run f (drop (i + 1) s))
@@ -24,8 +25,4 @@ module _ (f : ℕ → Bool) (s : List ℕ) (i : ℕ) where
 pub run-le : (f : ℕ → Bool) (s : List ℕ) → run f s ≤ length s
 unfolding run
 run-le f [] = omega arith
-run-le f (x ∷ s) = go (f x) (run-le f s)
-  where
-    go : (b : Bool) → run f s ≤ length s → cond b (suc (run f s)) 0 ≤ suc (length s)
-    go true h = omega arith
-    go false h = omega arith
+run-le f (x ∷ s) = let h = run-le f s in by-test (λ (n : ℕ). n ≤ suc (length s)) (f x) (λ e. omega arith) (λ e. omega arith)

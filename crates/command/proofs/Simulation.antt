@@ -9,7 +9,7 @@ use lib.ListN.{length, drop, length-take, length-drop}
 use lib.Seq.{length-sets}
 use lib.Dec.{ltb, eqb, lit<}
 use borrow.Author.Tests.{le-ltb, le-leb, ltb-false}
-use Rattle.octets.specs.Outcome.{outcome}
+use Rattle.octets.specs.Outcome.{Outcome, outcome}
 use Rattle.frames.specs.Stream.{textLimit}
 use Rattle.command.specs.Keys.{keys, keyAt, kindAt}
 use Rattle.command.specs.Values.{Got, valueRead}
@@ -22,6 +22,7 @@ use Rattle.command.specs.Read.{Reader, scratchRoom, storedFor, keptBy, k
 use Rattle.command.specs.declared.Place.{Place}
 use Rattle.command.specs.declared.Slot.{Slot}
 use Rattle.command.specs.declared.Command.{Command}
+use Rattle.command.proofs.Cases.{by-test}
 use Rattle.command.proofs.SimulationFields.{At, Agree, on, off, Related, text-agree}
 use Rattle.command.proofs.ReadValues.{Reads, reads, stored-room}
 use Rattle.command.proofs.SimulationValues.{Holds, empty, full, holds-later, holds-new}
@@ -111,14 +112,11 @@ read-means t scratch enough = rw (le-ltb _ _ enough) (finished-means enough (rea
 -- the scratch keeps its length
 pub read-length : (t scratch : List ℕ) → length (readOf t scratch .buffer) ≡ length scratch
 unfolding readOf
-read-length t scratch = go (ltb (length scratch) scratchRoom) refl
+read-length t scratch =
+    by-test (λ (o : Outcome Answer). length (o .buffer) ≡ length scratch) (ltb (length scratch) scratchRoom)
+    (λ e. refl) (λ e. ends (read-agree t scratch (ltb-false _ _ e)))
   where
     ends : {x : Turn Reader} {y : Turn (List Field)} → Agree (Alike t scratch (length t)) x y
         → length (Read.finished x .buffer) ≡ length scratch
     ends (on r) = r .size
     ends (off r) = r .size
-
-    go : (b : Bool) → ltb (length scratch) scratchRoom ≡ b
-        → length (cond b (outcome (Answer.refused 9) scratch) (Read.finished (textRead kept t (begun scratch))) .buffer) ≡ length scratch
-    go true e = refl
-    go false e = ends (read-agree t scratch (ltb-false _ _ e))

@@ -1,6 +1,5 @@
 -- The scratch always has room for a decoded value: three bytes for each four characters of a text of at most 8,192.
 use Prim.Native.Nat.{ℕ, _+_, _*_, _≤_}
-use mathlib.Core.Bool.{Bool, true, false, cond}
 use mathlib.Core.List.{List}
 use native.Mathlib.Omega.{arith}
 use lib.ListN.{length, getD}
@@ -9,6 +8,7 @@ use Rattle.command.specs.Values.{Got, valueRead}
 use Rattle.command.specs.Fields.{Turn}
 use Rattle.command.specs.Slots.{free}
 use Rattle.command.specs.Read.{Reader, keptBy, kept}
+use Rattle.command.proofs.Cases.{by-test}
 use Rattle.command.proofs.ReadValues.{Reads, reads, stored-room}
 
 -- after a turn that goes on, at most m quarters of a byte are used
@@ -24,9 +24,6 @@ module _ (n at : ℕ) (v : List ℕ) (s : Reader) where
   -- a value kept
   pub known-within : Within (4 * s .used + 3 * length v) (kept n at v s)
   unfolding kept
-  known-within = go (getD (s .slots) n free .stood)
-    where
-      go : (b : Bool) → let t = keptBy (kindAt keys n) n at s (valueRead (kindAt keys n) v) in
-          Within (4 * s .used + 3 * length v) (cond b (Turn.off 5 s) t)
-      go true = tt
-      go false = value-within (kindAt keys n) (valueRead (kindAt keys n) v) (reads (kindAt keys n) v)
+  known-within =
+      by-test (Within (4 * s .used + 3 * length v)) (getD (s .slots) n free .stood)
+      (λ e. tt) (λ e. value-within (kindAt keys n) (valueRead (kindAt keys n) v) (reads (kindAt keys n) v))

@@ -21,7 +21,7 @@ use Rattle.command.specs.declared.Command.{Command}
 use Rattle.command.specs.declared.Place.{Place}
 use Rattle.command.specs.declared.Refusal.{Refusal}
 use Rattle.command.specs.declared.Written.{Written}
-use Rattle.command.proofs.Calm.{either-false}
+use Rattle.command.proofs.Cases.{either-false}
 use Rattle.command_writer.specs.Stores.{spare, PutOr}
 use Rattle.command_writer.specs.Pieces.{whole}
 use Rattle.command_writer.proofs.Canons.{fine-at, canonical-pieces}
