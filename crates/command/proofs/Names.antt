@@ -100,12 +100,15 @@ no-alias (suc k) h = at-each (λ x. aliasesOf (x .kind)) (λ x. []) (drop 1 keys
 pub names-next : (k : ℕ) → k < 15 → names (drop k keys) ≡ keyAt keys k .name ∷ names (drop (k + 1) keys)
 names-next k h = rw (add-one, drop-cons keys k nokey h)
 
--- ---- a name compared with the first bytes of another, of one length
+-- ---- a name compared with the first bytes of another, of one length: byte by byte, up to the place that passes a test
+abbrev comparedBy : (ℕ → Bool) → List ℕ → List ℕ → Bool
+comparedBy ends s n =
+    cond (ends 0) true (cond (eqb (getD s 0 0) (getD n 0 0))
+    (cond (ends 1) true (cond (eqb (getD s 1 0) (getD n 1 0))
+    (cond (ends 2) true (eqb (getD s 2 0) (getD n 2 0))) false)) false)
+
 abbrev pub compared : List ℕ → List ℕ → ℕ → Bool
-compared s n len =
-    cond (ltb len 1) true (cond (eqb (getD s 0 0) (getD n 0 0))
-    (cond (ltb len 2) true (cond (eqb (getD s 1 0) (getD n 1 0))
-    (cond (ltb len 3) true (eqb (getD s 2 0) (getD n 2 0))) false)) false)
+compared s n len = comparedBy (λ i. eqb len i) s n
 
 chosen : (t : Bool) → cond t true false ≡ t
 chosen true = refl
@@ -124,10 +127,17 @@ module _ (s n : List ℕ) (len : ℕ) (l : length s ≡ len) (z : length (take l
       go (yes h) = rw (le-ltb len (i + 1) (omega arith), ← getD-take len n i 0 h) (starts-at s (take len n) i (omega arith) (omega arith))
       go (no h) = rw (lt-ltb len (i + 1) (omega arith)) (same-end i (omega arith))
 
-  pub same-name : len ≤ 3 → equals s (take len n) ≡ compared s n len
-  same-name h =
+  same-within : len ≤ 3 → equals s (take len n) ≡ comparedBy (λ i. ltb len (i + 1)) s n
+  same-within h =
       equals-starts s (take len n) (l ∙ sym z)
       ∙ same-at 0 ∙ rw (same-at 1, same-at 2, same-end 3 h, chosen (eqb (getD s 2 0) (getD n 2 0)))
+
+pub same-name : (s n : List ℕ) (len : ℕ) → length s ≡ len → length (take len n) ≡ len → len ≤ 3 → equals s (take len n) ≡ compared s n len
+same-name s n zero l z h = same-within s n 0 l z h
+same-name s n (suc zero) l z h = same-within s n 1 l z h
+same-name s n (suc (suc zero)) l z h = same-within s n 2 l z h
+same-name s n (suc (suc (suc zero))) l z h = same-within s n 3 l z h
+same-name s n (suc (suc (suc (suc len)))) l z h = absurd (omega arith)
 
 -- ---- a row at its place
 getD-any : {A : Type 0} (l : List A) (k : ℕ) (d e : A) → k < length l → getD l k d ≡ getD l k e

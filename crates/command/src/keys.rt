@@ -90,19 +90,19 @@ fn is_named(row: Row, name: &[u8]) -> bool
     if name.len() != len {
         return false;
     }
-    if len < 1 {
+    if len == 0 {
         return true;
     }
     if name[0] != own[0] {
         return false;
     }
-    if len < 2 {
+    if len == 1 {
         return true;
     }
     if name[1] != own[1] {
         return false;
     }
-    if len < 3 {
+    if len == 2 {
         return true;
     }
     name[2] == own[2]

@@ -2,7 +2,7 @@ use mathlib.Core.Path.{_≡_, sym}
 use native.Mathlib.Omega.{arith}
 use lib.ListN.{take}
 use borrow.Author.Needs.{needs}
-use borrow.Author.Tests.{le-ltb, eq-eqb}
+use borrow.Author.Tests.{eq-eqb, ne-eqb}
 use Rattle.octets.specs.Slices.{equals}
 use Rattle.octets.proofs.Compare.{equals-lengths}
 use Rattle.octets.proofs.Tests.{tests}
@@ -27,11 +27,11 @@ returns-7 c =
     let some = first .before .before in
     rw (
       told (some .before),
-      le-ltb _ _ (some .if2 .left),
+      ne-eqb _ _ (some .if2 .left),
       eq-eqb _ _ (first .if3 .left),
-      le-ltb _ _ (second .before .before .if4 .left),
+      ne-eqb _ _ (second .before .before .if4 .left),
       eq-eqb _ _ (second .if5 .left),
-      le-ltb _ _ (c .before .if6 .left),
+      ne-eqb _ _ (c .before .if6 .left),
     )
 
 pub is-named-spec : {M : Type 1} → statement M
