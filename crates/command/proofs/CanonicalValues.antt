@@ -7,24 +7,19 @@ use native.Mathlib.Omega.{arith}
 use lib.ListN.{length, getD}
 use borrow.Author.Tests.{le-ltb, ltb-false}
 use Rattle.octets.specs.Ascii.{ascii}
-use Rattle.octets.specs.Members.{every}
 use Rattle.octets.specs.Slices.{startsWith}
-use Rattle.base64.specs.Decode.{verdictOf, bytesOf}
-use Rattle.base64.specs.declared.Verdict.the-variants.{Valid}
+use Rattle.base64.specs.Decode.{bytesOf}
 use Rattle.base64.proofs.Lengths.{bytes-below}
 use Rattle.base64.proofs.RoundTrip.{paddingOf, valid-text, text-bytes}
-use Rattle.decimal.specs.Canonical.{Canonical}
 use Rattle.decimal.specs.Read.{parseOf, magnitudeOf, digitsOf, rangedOf}
 use Rattle.decimal.specs.Write as Decimal
 use Rattle.decimal.specs.declared.Number.{Number}
 use Rattle.decimal.specs.declared.Parsed.the-variants.{Integer}
 use Rattle.decimal.proofs.RoundTrip as decimal
 use Rattle.decimal.proofs.Texts.{canonical-text}
-use Rattle.command.specs.Keys.{Alias, Kind}
-use Rattle.command.specs.Letters.{safeByte}
+use Rattle.command.specs.Keys.{Kind}
 use Rattle.command.specs.Values.{Value, count, over}
 use Rattle.command.specs.Grammar.{CanonicalValue, a-word, a-string, an-integer, a-base64}
-use Rattle.command.specs.declared.Refusal.{Refusal}
 use Rattle.command.proofs.WrittenValues.{Spelled, writable-nought}
 use Rattle.command.proofs.WrittenValues as Spelled
 
@@ -33,39 +28,26 @@ use Rattle.command.proofs.WrittenValues as Spelled
 abbrev Spelling : Kind → List ℕ → Type 0
 Spelling k t = (x : Value) × Spelled k x t
 
-word-spelled : (unknown : Refusal) (first : ℕ) (ws : List (List ℕ)) (aliases : List Alias) (t : List ℕ) (i : ℕ) → i < length ws
-    → getD ws i [] ≡ t → (first + i ≡ 0 → ⊥) → Spelling (Kind.word unknown first ws aliases) t
-word-spelled unknown first ws aliases t i h w z =
-    let s : first + i - first ≡ i = omega arith in
-    let l : first + i - first < length ws = omega arith in
-    let g : getD ws (first + i - first) [] ≡ t = rw s w in
-    (Value.number (count (first + i)), Spelled.word refl z l g)
-
 not-over : (short : Bool) (t : List ℕ) → (short ≡ true → length t ≤ 32) → over short t ≡ false
 not-over true t h = le-ltb 32 (length t) (h refl)
 not-over false t h = refl
 
-string-spelled : (short : Bool) (t : List ℕ) → every safeByte t ≡ true → (short ≡ true → length t ≤ 32) → (t ≡ [] → ⊥)
-    → Spelling (Kind.safe short) t
-string-spelled short [] s l z = absurd (z refl)
-string-spelled short (x ∷ t) s l z = (Value.bytes (x ∷ t), Spelled.string s (not-over short (x ∷ t) l))
-
-integer-spelled : (t : List ℕ) (n : Number) → parseOf t ≡ Integer n → Canonical t → (t ≡ ascii "0" → ⊥) → Spelling Kind.integer t
-integer-spelled t n p c z =
-    let w = decimal.parse-writable t n p in
+pub value-spelled : {k : Kind} {t : List ℕ} → CanonicalValue k t → Spelling k t
+value-spelled (a-word {unknown} {first} {ws} {aliases} {v} i h w z) =
+    let s : first + i - first ≡ i = omega arith in
+    let l : first + i - first < length ws = omega arith in
+    let g : getD ws (first + i - first) [] ≡ v = rw s w in
+    (Value.number (count (first + i)), Spelled.word refl z l g)
+value-spelled (a-string {short} {v = []} s l z) = absurd (z refl)
+value-spelled (a-string {short} {v = x ∷ v} s l z) = (Value.bytes (x ∷ v), Spelled.string s (not-over short (x ∷ v) l))
+value-spelled (an-integer {v} n p c z) =
+    let w = decimal.parse-writable v n p in
     let e = decimal.written-read n c p in
     let o : Decimal.textOf (count 0) ≡ ascii "0" = unfold Decimal.textOf Decimal.fixed Decimal.widthFrom in refl in
     (Value.number n, Spelled.integer w (λ (q : n .magnitude ≡ 0). z (sym e ∙ ap Decimal.textOf (writable-nought n w q) ∙ o)) e)
-
-base64-spelled : (t : List ℕ) (padding : ℕ) → verdictOf t ≡ Valid padding → (t ≡ [] → ⊥) → Spelling Kind.base64 t
-base64-spelled [] padding d z = absurd (z refl)
-base64-spelled (x ∷ t) padding d z = (Value.bytes (bytesOf (x ∷ t)), Spelled.base64 (bytes-below (x ∷ t)) (text-bytes (x ∷ t) padding d))
-
-pub value-spelled : {k : Kind} {t : List ℕ} → CanonicalValue k t → Spelling k t
-value-spelled (a-word {unknown} {first} {ws} {aliases} {v} i h w z) = word-spelled unknown first ws aliases v i h w z
-value-spelled (a-string {short} {v} s l z) = string-spelled short v s l z
-value-spelled (an-integer {v} n p c z) = integer-spelled v n p c z
-value-spelled (a-base64 {v} padding d z) = base64-spelled v padding d z
+value-spelled (a-base64 {v = []} padding d z) = absurd (z refl)
+value-spelled (a-base64 {v = x ∷ v} padding d z) =
+    (Value.bytes (bytesOf (x ∷ v)), Spelled.base64 (bytes-below (x ∷ v)) (text-bytes (x ∷ v) padding d))
 
 -- ---- what a value is written as is canonical
 -- a number other than 0 is not written `0`

@@ -60,12 +60,6 @@ kindFrom (Kind.Safe short) ws aliases = Keys.Kind.safe short
 kindFrom Kind.Integer ws aliases = Keys.Kind.integer
 kindFrom Kind.Base64 ws aliases = Keys.Kind.base64
 
-kind-from : (t : Keys.Kind) → t ≡ kindFrom (kindOf t) (wordsOf t) (aliasesOf t)
-kind-from (Keys.Kind.word unknown first ws aliases) = refl
-kind-from (Keys.Kind.safe short) = refl
-kind-from Keys.Kind.integer = refl
-kind-from Keys.Kind.base64 = refl
-
 -- what the code asks of words
 abbrev pub Counted : Kind → List (List ℕ) → Type 0
 Counted (Kind.Word unknown first count) ws = (first ≤ 1) × (length ws ≡ count) × (count ≤ 8)
@@ -73,12 +67,12 @@ Counted (Kind.Safe short) ws = Unit {0}
 Counted Kind.Integer ws = Unit {0}
 Counted Kind.Base64 ws = Unit {0}
 
-counted : (t : Keys.Kind) → few t ≡ true → Counted (kindOf t) (wordsOf t)
-counted (Keys.Kind.word unknown first ws aliases) h =
-    let b = both-test _ _ h in (leb-true first 1 (b .0), refl, leb-true (length ws) 8 (b .1))
-counted (Keys.Kind.safe short) h = tt
-counted Keys.Kind.integer h = tt
-counted Keys.Kind.base64 h = tt
+kind-from : (t : Keys.Kind) → few t ≡ true → (t ≡ kindFrom (kindOf t) (wordsOf t) (aliasesOf t)) × Counted (kindOf t) (wordsOf t)
+kind-from (Keys.Kind.word unknown first ws aliases) h =
+    let b = both-test _ _ h in (refl, (leb-true first 1 (b .0), refl, leb-true (length ws) 8 (b .1)))
+kind-from (Keys.Kind.safe short) h = (refl, tt)
+kind-from Keys.Kind.integer h = (refl, tt)
+kind-from Keys.Kind.base64 h = (refl, tt)
 
 -- a row's kind is as good as that of the key
 pub record Kinded (k : ℕ) (d : Kind) : Type 0 where
@@ -88,8 +82,8 @@ pub record Kinded (k : ℕ) (d : Kind) : Type 0 where
 pub row-kind : (k : ℕ) {r : Row} {d : Kind} → r ≡ rowOf (keyAt keys k) → r .2 ≡ d → Kinded k d
 unfolding split onto
 row-kind k q e =
-    let t = kindAt keys k in
-    rw (← e, q) (record { kinded = kind-from t; counts = counted t (at-key (λ x. few (x .kind)) (λ x. true) refl refl k) })
+    let f = kind-from (kindAt keys k) (at-key (λ x. few (x .kind)) (λ x. true) refl refl k) in
+    rw (← e, q) (record { kinded = f .0; counts = f .1 })
 
 -- only the first key's words have an alias
 pub no-alias : (k : ℕ) → 0 < k → aliasesOf (kindAt keys k) ≡ []

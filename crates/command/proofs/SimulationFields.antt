@@ -13,6 +13,7 @@ use Rattle.octets.specs.Members.{every}
 use Rattle.octets.specs.Ascii.{ascii}
 use Rattle.octets.specs.Slices.{startsWith}
 use Rattle.octets.specs.Split.{split, join}
+use Rattle.octets.proofs.Below.{both-test}
 use Rattle.octets.proofs.Compare.{starts-sound}
 use Rattle.octets.proofs.Splits.{join-split}
 use Rattle.frames.specs.Stream.{textLimit}
@@ -62,6 +63,11 @@ pub data Agree {S S′ : Type 0} (R : S → S′ → Type 0) : Turn S → Turn S
   on : {s : S} {s′ : S′} → R s s′ → Agree R (Turn.on s) (Turn.on s′)
   off : {r : ℕ} {s : S} {s′ : S′} → R s s′ → Agree R (Turn.off r s) (Turn.off r s′)
 
+agree-test : {S S′ : Type 0} {R : S → S′ → Type 0} {x y : Turn S} {x′ y′ : Turn S′} (t : Bool)
+    → (t ≡ true → Agree R x x′) → (t ≡ false → Agree R y y′) → Agree R (cond t x y) (cond t x′ y′)
+agree-test true f g = f refl
+agree-test false f g = g refl
+
 -- R is what holds of two states when the text before a place is read; it goes on holding, and the steps keep it
 pub record Related (t : List ℕ) {S S′ : Type 0} (R : ℕ → S → S′ → Type 0) (step : Step S) (step′ : Step S′) : Type 0 where
   pub later : {a b : ℕ} {s : S} {s′ : S′} → a ≤ b → R a s s′ → R b s s′
@@ -82,21 +88,16 @@ module _ (t : List ℕ) {S S′ : Type 0} {R : ℕ → S → S′ → Type 0} {s
       → Agree (R (at + length f)) (fieldRead step at f s) (fieldRead step′ at f s′)
   unfolding fieldRead
   field-agree from at f {s} {s′} short h a r =
-      go (ltb (equalsSign f) (length f)) refl (isKey (keyOf f)) (ltb (numberOf keys (keyOf f)) (length keys)) refl
+      agree-test (ltb (equalsSign f) (length f) && isKey (keyOf f)) (λ k.
+      agree-test (ltb (numberOf keys (keyOf f)) (length keys)) (λ n. known (ltb-true _ _ (both-test _ _ k .0)) (ltb-true _ _ n))
+      (λ n. on (related .later (omega arith) r))) (λ k. off (related .later (omega arith) r))
     where
-      go : (x : Bool) → ltb (equalsSign f) (length f) ≡ x → (y z : Bool) → ltb (numberOf keys (keyOf f)) (length keys) ≡ z
-          → Agree (R (at + length f))
-          (cond (x && y) (cond z (step (numberOf keys (keyOf f)) (at + (equalsSign f + 1)) (valueOf f) s) (Turn.on s)) (Turn.off 4 s))
-          (cond (x && y) (cond z (step′ (numberOf keys (keyOf f)) (at + (equalsSign f + 1)) (valueOf f) s′) (Turn.on s′)) (Turn.off 4 s′))
-      go false ex y z ez = off (related .later (omega arith) r)
-      go true ex false z ez = off (related .later (omega arith) r)
-      go true ex true false ez = on (related .later (omega arith) r)
-      go true ex true true ez =
-          let l : equalsSign f < length f = ltb-true _ _ ex in
-          let k : equalsSign f + 1 ≤ length f = omega arith in
+      known : equalsSign f < length f → numberOf keys (keyOf f) < length keys → let n = numberOf keys (keyOf f) in
+          let v = at + (equalsSign f + 1) in Agree (R (at + length f)) (step n v (valueOf f) s) (step′ n v (valueOf f) s′)
+      known l n =
           agree-later (omega (arith, length-drop (equalsSign f + 1) f))
-          (related .steps (numberOf keys (keyOf f)) from (at + (equalsSign f + 1)) (valueOf f) short (ltb-true _ _ ez) (omega arith)
-          (value-at t at f (equalsSign f + 1) k a) r)
+          (related .steps (numberOf keys (keyOf f)) from (at + (equalsSign f + 1)) (valueOf f) short n (omega arith)
+          (value-at t at f (equalsSign f + 1) (omega arith) a) r)
 
   fields-agree : (from at : ℕ) (fs : List (List ℕ)) {s : S} {s′ : S′} → length t ≤ textLimit → from ≤ at → from ≤ length t
       → Stand t at fs → R from s s′
@@ -109,16 +110,11 @@ module _ (t : List ℕ) {S S′ : Type 0} {R : ℕ → S → S′ → Type 0} {s
 
   pub text-agree : {s : S} {s′ : S′} → R 0 s s′ → Agree (R (length t)) (textRead step t s) (textRead step′ t s′)
   unfolding textRead
-  text-agree {s} {s′} r = go (ltb textLimit (length t)) refl (every textByte t) (startsWith t (ascii "5113;")) refl
-    where
-      go : (x : Bool) → ltb textLimit (length t) ≡ x → (y z : Bool) → startsWith t (ascii "5113;") ≡ z
-          → Agree (R (length t))
-          (cond x (Turn.off 1 s) (cond y (cond z (fieldsRead step 5 (split 59 (drop 5 t)) s) (Turn.off 4 s)) (Turn.off 3 s)))
-          (cond x (Turn.off 1 s′) (cond y (cond z (fieldsRead step′ 5 (split 59 (drop 5 t)) s′) (Turn.off 4 s′)) (Turn.off 3 s′)))
-      go true ex y z ez = off (related .later (omega arith) r)
-      go false ex false z ez = off (related .later (omega arith) r)
-      go false ex true false ez = off (related .later (omega arith) r)
-      go false ex true true ez =
-          let l : 5 ≤ length t = omega (arith, ap length (starts-sound t (ascii "5113;") ez)) in
-          fields-agree 5 5 (split 59 (drop 5 t)) (ltb-false _ _ ex) (omega arith) l
-          (stand t (split 59 (drop 5 t)) 5 l (sym (join-split 59 (drop 5 t)))) (related .later (omega arith) r)
+  text-agree {s} {s′} r =
+      agree-test (ltb textLimit (length t)) (λ l. off (related .later (omega arith) r)) (λ l.
+      agree-test (every textByte t) (λ b.
+      agree-test (startsWith t (ascii "5113;")) (λ m.
+      (let l5 : 5 ≤ length t = omega (arith, ap length (starts-sound t (ascii "5113;") m)) in
+      fields-agree 5 5 (split 59 (drop 5 t)) (ltb-false _ _ l) (omega arith) l5
+      (stand t (split 59 (drop 5 t)) 5 l5 (sym (join-split 59 (drop 5 t)))) (related .later (omega arith) r)))
+      (λ m. off (related .later (omega arith) r))) (λ b. off (related .later (omega arith) r)))

@@ -1,5 +1,5 @@
 -- A value and the text that it is written as, by kind: the text reads as the same value, and is calm.
-use Prim.Native.Nat.{ℕ, _+_, _-_, _<_}
+use Prim.Native.Nat.{ℕ, _-_, _<_}
 use mathlib.Core.Path.{_≡_, refl, sym, _∙_, ap}
 use mathlib.Core.Bool.{Bool, true, false, _&&_}
 use mathlib.Core.List.{List, [], _∷_}
@@ -25,7 +25,7 @@ use Rattle.command.specs.declared.Refusal.{Refusal}
 use Rattle.command.proofs.Cases.{by-test}
 use Rattle.command.proofs.Every.{every-map, bytes-every, every-bytes}
 use Rattle.command.proofs.Calm.{calm, safe-calm, integer-calm, groups-calm}
-use Rattle.command.proofs.Table.{fit, Words, fit-words}
+use Rattle.command.proofs.Table.{fit, fit-words}
 
 -- ---- a value that is written as a text, by its kind
 pub data Spelled : Kind → Value → List ℕ → Type 0 where
@@ -132,22 +132,14 @@ absent-shown Kind.integer = refl
 absent-shown Kind.base64 = refl
 
 -- ---- written, then read
--- a word reads as its code
-word-reads : (unknown : Refusal) (first : ℕ) (ws : List (List ℕ)) (aliases : List Alias) → Words first ws
-    → (i : ℕ) (v : List ℕ) → i < length ws → getD ws i [] ≡ v
-    → wordRead unknown first ws aliases v ≡ Got.got (Value.number (count (first + i)))
-unfolding wordRead
-word-reads unknown first ws aliases f i v h e =
-    let p : placeIn ws v ≡ i = ap (placeIn ws) (sym e) ∙ f .found i h in
-    rw (p, lt-ltb i (length ws) h)
-
 pub spelled-reads : {k : Kind} {v : Value} {t : List ℕ} → Spelled k v t → fit k ≡ true → valueRead k t ≡ Got.got v
-unfolding valueRead
+unfolding valueRead wordRead
 spelled-reads (word {unknown} {first} {ws} {aliases} {n} {v} s z i e) f =
     let o = fit-words unknown first ws aliases f in
     let b = o .counted in
-    word-reads unknown first ws aliases o (n .magnitude - first) v i e
-    ∙ ap (λ (m : Number). Got.got (Value.number m)) (ap count (omega arith) ∙ sym (unsigned n s))
+    let p : placeIn ws v ≡ n .magnitude - first = ap (placeIn ws) (sym e) ∙ o .found (n .magnitude - first) i in
+    rw (p, lt-ltb (n .magnitude - first) (length ws) i)
+    (ap (λ (m : Number). Got.got (Value.number m)) (ap count (omega arith) ∙ sym (unsigned n s)))
 spelled-reads (string s l) f = unfold safeRead in rw (s, l)
 spelled-reads (integer {n} w z e) f = rw (← e, decimal.read-written n w)
 spelled-reads (base64 {b} h e) f = rw (← e, valid-text b h, bytes-text b h)
