@@ -25,17 +25,12 @@ both-fine Checked.fine c e = (refl, e)
 both-fine (Checked.fault n) c e = let z : _≡_ {A = ℕ} 0 1 = cc in absurd (omega arith)
 
 -- an end is answered exactly where nothing is at fault
-module _ (c : Checked) (t out after : List ℕ) (at : ℕ) where
-  pub put-fine : (end : ℕ) → PutOr c t out at (Written.Length end) after → (c ≡ Checked.fine) × Put t out at end after
-  put-fine = go c
-    where
-      go : (d : Checked) (end : ℕ) → PutOr d t out at (Written.Length end) after → (d ≡ Checked.fine) × Put t out at end after
-      go Checked.fine end (e, q, p) = let i : end ≡ e = cc in (refl, rw i p)
-      go (Checked.fault n) end q = let z : _≡_ {A = ℕ} 0 1 = cc in absurd (omega arith)
+pub put-fine : (c : Checked) (t out after : List ℕ) (at end : ℕ) → PutOr c t out at (Written.Length end) after
+    → (c ≡ Checked.fine) × Put t out at end after
+put-fine Checked.fine t out after at end (e, q, p) = let i : end ≡ e = cc in (refl, rw i p)
+put-fine (Checked.fault n) t out after at end q = let z : _≡_ {A = ℕ} 0 1 = cc in absurd (omega arith)
 
-  pub put-fault : (r : Refusal) → PutOr c t out at (Written.Refused r) after → c ≡ Checked.fault (refusalNumber r)
-  put-fault = go c
-    where
-      go : (d : Checked) (r : Refusal) → PutOr d t out at (Written.Refused r) after → d ≡ Checked.fault (refusalNumber r)
-      go Checked.fine r (e, q, p) = let z : _≡_ {A = ℕ} 0 1 = cc in absurd (omega arith)
-      go (Checked.fault n) r q = cc
+pub put-fault : (c : Checked) (t out after : List ℕ) (at : ℕ) (r : Refusal) → PutOr c t out at (Written.Refused r) after
+    → c ≡ Checked.fault (refusalNumber r)
+put-fault Checked.fine t out after at r (e, q, p) = let z : _≡_ {A = ℕ} 0 1 = cc in absurd (omega arith)
+put-fault (Checked.fault n) t out after at r q = cc

@@ -1,13 +1,13 @@
 -- A field put, by what becomes of its value.
 use Prim.Native.Nat.{ℕ, zero, suc, _+_, _<_}
 use mathlib.Core.Path.{_≡_, refl}
-use mathlib.Core.Bool.{Bool, true, false, cond}
+use mathlib.Core.Bool.{true, false}
 use mathlib.Core.List.{List, [], _∷_, _++_}
 use native.Mathlib.Omega.{arith}
 use lib.ListN.{length, getD, take, drop, length-take, length-drop}
 use lib.Seq.{append-snoc}
 use lib.Dec.{leb, eqb}
-use borrow.Author.Tests.{lt-ltb, ne-eqb, leb-true}
+use borrow.Author.Tests.{lt-ltb, eqb-true, leb-true}
 use Rattle.octets.specs.Members.{every}
 use Rattle.octets.specs.Slices.{partOf}
 use Rattle.base64.specs.Encode as Base64
@@ -16,12 +16,12 @@ use Rattle.decimal.specs.Write.{textOf, negativeZero, outOfRange}
 use Rattle.decimal.specs.declared.Number.{Number}
 use Rattle.command.specs.Keys.{Kind}
 use Rattle.command.specs.Letters.{isByte}
-use Rattle.command.specs.Values.{Value, Shown, unshown, textOr, integerShown, base64Shown, shown}
+use Rattle.command.specs.Values.{Value, Shown, textOr, integerShown, base64Shown, shown}
 use Rattle.command.specs.Slots.{bytesAt}
 use Rattle.command.specs.Write.{Checked, before}
 use Rattle.command.specs.declared.Place.{Place}
-use Rattle.command.specs.declared.Refusal.the-variants as Refusal
 use Rattle.command.specs.declared.Written.{Written}
+use Rattle.command.proofs.Cases.{by-test}
 use Rattle.command_writer.specs.Stores.{Put, PutOr}
 use Rattle.command_writer.specs.Pieces.{FieldPut}
 use Rattle.command_writer.proofs.Puts.{put-then}
@@ -76,16 +76,10 @@ pub integer-put : (name : List ℕ) (n : Number) {l m : List ℕ} {o p : ℕ} (a
     → FieldPut name (integerShown n) l o r after
 unfolding integerShown
 integer-put name n {l} {m} {o} {p} after r h f =
-    go (negativeZero n) (outOfRange n) (eqb (n .magnitude) 0) (ne-eqb (n .magnitude) 0 (λ e. omega arith))
+    by-test Puts (negativeZero n) (λ z q. q) (λ z.
+    by-test Puts (outOfRange n) (λ x q. q) (λ x.
+    by-test Puts (eqb (n .magnitude) 0) (λ y. absurd (omega (arith, eqb-true (n .magnitude) 0 y)))
+    (λ y q. (q .0, q .1, field-put name (textOf n) f (q .2)))))
   where
-    shows : (z x y : Bool) → Shown
-    shows z x y =
-        cond z (unshown Refusal.MalformedInteger)
-        (cond x (unshown Refusal.OutOfRange) (cond y Shown.leftOut (Shown.text (textOf n))))
-
-    go : (z x y : Bool) → y ≡ false → PutOr (before (shows z x y) Checked.fine) (textOf n) m p r after
-        → FieldPut name (shows z x y) l o r after
-    go true x y e q = q
-    go false true y e q = q
-    go false false true e q = let i : _≡_ {A = ℕ} 0 1 = cc in absurd (omega arith)
-    go false false false e (end, i, g) = (end, i, field-put name (textOf n) f g)
+    Puts : Shown → Type 0
+    Puts s = PutOr (before s Checked.fine) (textOf n) m p r after → FieldPut name s l o r after

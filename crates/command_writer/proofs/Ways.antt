@@ -1,11 +1,11 @@
 -- The ways of writing a command.
 use Prim.Native.Nat.{ℕ, _+_, _-_, _<_}
-use mathlib.Core.Path.{_≡_, refl, sym}
+use mathlib.Core.Path.{_≡_, sym}
 use mathlib.Core.Bool.{Bool, true, false, cond, _||_}
 use mathlib.Core.List.{List, []}
 use native.Mathlib.Omega.{arith}
 use native.Mathlib.Decide.{decLt}
-use lib.ListN.{length, getD, take, drop, length-take, length-drop}
+use lib.ListN.{length, getD, drop, length-take, length-drop}
 use lib.Dec.{ltb, leb, eqb}
 use borrow.Author.Tests.{lt-ltb, ltb-false, leb-true}
 use Rattle.octets.specs.Outcome.{outcome}
@@ -21,28 +21,21 @@ use Rattle.command.specs.declared.Command.{Command}
 use Rattle.command.specs.declared.Place.{Place}
 use Rattle.command.specs.declared.Refusal.{Refusal}
 use Rattle.command.specs.declared.Written.{Written}
-use Rattle.command.proofs.Cases.{either-false}
+use Rattle.command.proofs.Cases.{by-test, either-false}
 use Rattle.command_writer.specs.Stores.{spare, PutOr}
 use Rattle.command_writer.specs.Pieces.{whole}
 use Rattle.command_writer.proofs.Canons.{fine-at, canonical-pieces}
 
 -- ---- an action and an id
-module _ (l : List ℕ) (p : Place) where
-  -- what stands at a place, by whether it lies within
-  abbrev placed : Bool → Value
-  placed t = cond t (Value.bytes (take (p .len) (drop (p .start) l))) Value.outside
-
-  -- a place's bytes are as many as it says, if it is of its kind
-  place-length : before (shown (Kind.safe true) (bytesAt l p)) Checked.fine ≡ Checked.fine → length (bytesIn (bytesAt l p)) ≡ p .len
-  unfolding shown bytesAt
-  place-length e = go (leb (p .start + p .len) (length l)) refl e
-    where
-      go : (t : Bool) → leb (p .start + p .len) (length l) ≡ t → before (shown (Kind.safe true) (placed t)) Checked.fine ≡ Checked.fine
-          → length (bytesIn (placed t)) ≡ p .len
-      go true et f =
-          let within = leb-true (p .start + p .len) (length l) et in
-          omega (arith, within, length-take (p .len) (drop (p .start) l), length-drop (p .start) l)
-      go false et f = let z : _≡_ {A = ℕ} 0 1 = cc in absurd (omega arith)
+-- a place's bytes are as many as it says, if it is of its kind
+place-length : (l : List ℕ) (p : Place) → before (shown (Kind.safe true) (bytesAt l p)) Checked.fine ≡ Checked.fine
+    → length (bytesIn (bytesAt l p)) ≡ p .len
+unfolding shown bytesAt
+place-length l p =
+    by-test (λ (v : Value). before (shown (Kind.safe true) v) Checked.fine ≡ Checked.fine → length (bytesIn v) ≡ p .len)
+    (leb (p .start + p .len) (length l))
+    (λ t e. omega (arith, leb-true (p .start + p .len) (length l) t, length-take (p .len) (drop (p .start) l), length-drop (p .start) l))
+    (λ t e. (let z : _≡_ {A = ℕ} 0 1 = cc in absurd (omega arith)))
 
 word-there : (unknown : Refusal) (first : ℕ) (ws : List (List ℕ)) (n : Number) → eqb (n .magnitude) 0 ≡ false
     → wordShown unknown first ws n ≡ Shown.leftOut → ⊥
