@@ -7,13 +7,14 @@ use native.Mathlib.Omega.{arith}
 use native.Mathlib.Decide.{decLt}
 use native.Mathlib.Nat.{zero-sub, sub-zero, suc-sub-suc}
 use lib.ListN.{length, getD, take, drop, length-take, length-drop}
-use lib.Seq.{take-nil, take-take, drop-drop, getD-drop}
+use lib.Seq.{take-nil, take-take, drop-drop, getD-drop, getD-take}
 use lib.Dec.{ltb, eqb}
-use borrow.Author.Tests.{lt-ltb, le-ltb, le-leb, lt-leb, eqb-true, ltb-true, ltb-false, not-true}
+use borrow.Author.Tests.{lt-ltb, le-ltb, le-leb, lt-leb, ltb-true, not-true}
 use Rattle.bytes.specs.Bytes.{indexOf, indexAfter}
 use Rattle.octets.specs.Members.{every}
 use Rattle.octets.specs.Split.{split}
 use Rattle.octets.proofs.Below.{both-test}
+use Rattle.octets.proofs.Finds.{index-found}
 use Rattle.octets.proofs.Cuts.{cut-within, cut-length, cut-last, cut-more}
 use Rattle.command.specs.Classes.{run}
 use Rattle.command.specs.Keys.{keys, numberOf}
@@ -21,6 +22,7 @@ use Rattle.command.specs.Letters.{keyByte, textByte}
 use Rattle.command.specs.Fields.{Turn, andThen, isKey, known, fieldRead, fieldsRead}
 use Rattle.command.specs.Read.{Reader, kept}
 use Rattle.command.proofs.Calm.{calm, plain, key-plain}
+use Rattle.command.proofs.Runs.{run-is}
 use Rattle.command_reader.specs.States.{left, Names}
 use Rattle.command_reader.specs.declared.fields.Named.the-variants as Named
 
@@ -63,35 +65,25 @@ signed (x ∷ r) h e = go (keyByte x) refl h e (signed r)
 abbrev keyed : List ℕ → Bool
 keyed f = ltb (indexOf 61 f) (length f) && every keyByte (take (indexOf 61 f) f)
 
-ltb-suc : (a b : ℕ) → ltb (suc a) (suc b) ≡ ltb a b
-ltb-suc a b = go (ltb a b) refl
+no-letter : keyByte 61 ≡ false
+unfolding keyByte indexOf indexAfter
+no-letter = refl
+
+unsigned : (l : List ℕ) → (run keyByte l < length l → getD l (run keyByte l) 0 ≡ 61 → ⊥) → keyed (fieldIn l) ≡ false
+unsigned l n = go (keyed (fieldIn l)) refl
   where
-    go : (t : Bool) → ltb a b ≡ t → ltb (suc a) (suc b) ≡ t
-    go true e = lt-ltb (suc a) (suc b) (omega (arith, ltb-true a b e))
-    go false e = le-ltb (suc a) (suc b) (omega (arith, ltb-false a b e))
-
-abbrev Unsigned : List ℕ → Type 0
-Unsigned l = (run keyByte l < length l → getD l (run keyByte l) 0 ≡ 61 → ⊥) → keyed (fieldIn l) ≡ false
-
-unsigned : (l : List ℕ) → Unsigned l
-unfolding indexOf indexAfter run every
-unsigned [] n = refl
-unsigned (x ∷ r) n = at (eqb x 59) refl (unsigned r)
-  where
-    letter : (b : Bool) → keyByte x ≡ b → Unsigned r
-        → let i = indexOf 61 (fieldIn r) in
-        (ltb (suc i) (suc (length (fieldIn r))) && (b && every keyByte (take i (fieldIn r)))) ≡ false
-    letter true q ih = rw (ltb-suc (indexOf 61 (fieldIn r)) (length (fieldIn r))) (ih (λ h e. rw q at n (omega arith) e))
-    letter false q ih = and-false (ltb (suc (indexOf 61 (fieldIn r))) (suc (length (fieldIn r))))
-
-    sign : (b : Bool) → eqb x 61 ≡ b → Unsigned r → let f = x ∷ fieldIn r in
-        (ltb (indexAfter b (indexOf 61 (fieldIn r))) (length f) && every keyByte (take (indexAfter b (indexOf 61 (fieldIn r))) f)) ≡ false
-    sign true q ih = let e = eqb-true x 61 q in absurd (unfold keyByte in rw e at n (omega arith) refl)
-    sign false q ih = letter (keyByte x) refl ih
-
-    at : (b : Bool) → eqb x 59 ≡ b → Unsigned r → keyed (take (indexAfter b (indexOf 59 r)) (x ∷ r)) ≡ false
-    at true q ih = refl
-    at false q ih = sign (eqb x 61) refl ih
+    go : (b : Bool) → keyed (fieldIn l) ≡ b → b ≡ false
+    go false e = refl
+    go true e =
+        let f = fieldIn l in
+        let k = indexOf 61 f in
+        let t = both-test (ltb k (length f)) _ e in
+        let i : k < length f = ltb-true k (length f) (t .0) in
+        let m = length-take (indexOf 59 l) l in
+        let c : getD l k 0 ≡ 61 = sym (getD-take (indexOf 59 l) l k 0 (omega arith)) ∙ index-found 61 f i in
+        let q = rw (take-take k (indexOf 59 l) l (omega arith)) at (t .1) in
+        let r : run keyByte l ≡ k = run-is keyByte l k (omega arith) q (rw c no-letter) in
+        absurd (n (omega arith) (rw r c))
 
 -- ---- the text from a place on: its first field, and then the others
 module _ (t : List ℕ) (at end : ℕ) (h : at ≤ length t) (e : end ≡ at + indexOf 59 (drop at t)) where
