@@ -4,12 +4,11 @@ use mathlib.Core.Path.{_≡_, refl, sym, _∙_, ap}
 use mathlib.Core.Bool.{Bool, true, false, cond, _&&_}
 use mathlib.Core.List.{List, [], _∷_, map}
 use native.Mathlib.Omega.{arith}
-use native.Mathlib.Decide.{decLt}
 use native.Mathlib.Numerals.{add-one}
 use lib.ListN.{length, getD, take, drop, List·getD-map, List·getD-eq-default}
 use lib.Seq.{drop-cons, getD-take}
 use lib.Dec.{ltb, leb, eqb}
-use borrow.Author.Tests.{leb-true, lt-ltb, le-ltb}
+use borrow.Author.Tests.{leb-true, ltb-true, ltb-false}
 use Rattle.octets.specs.Slices.{equals, startsWith}
 use Rattle.octets.specs.Split.{split, onto, join}
 use Rattle.octets.proofs.Below.{both-test}
@@ -20,6 +19,7 @@ use Rattle.command.specs.Rows.{kindOf, rowOf, wordsOf, wordText, aliases
 use Rattle.command.specs.declared.keys.Kind.{Kind}
 use Rattle.command.specs.declared.keys.Kind.the-variants as Kind
 use Rattle.command.specs.declared.keys.Row.{Row}
+use Rattle.command.proofs.Cases.{by-test}
 
 abbrev nokey : Key
 nokey = key "" Keys.Kind.integer
@@ -114,12 +114,11 @@ module _ (s n : List ℕ) (len : ℕ) (l : length s ≡ len) (z : length (take l
 
   same-at : (i : ℕ) → startsWith (drop i s) (drop i (take len n))
       ≡ cond (ltb len (i + 1)) true (cond (eqb (getD s i 0) (getD n i 0)) (startsWith (drop (i + 1) s) (drop (i + 1) (take len n))) false)
-  same-at i = go (decLt i len)
-    where
-      go : Dec (i < len) → startsWith (drop i s) (drop i (take len n))
-          ≡ cond (ltb len (i + 1)) true (cond (eqb (getD s i 0) (getD n i 0)) (startsWith (drop (i + 1) s) (drop (i + 1) (take len n))) false)
-      go (yes h) = rw (le-ltb len (i + 1) (omega arith), ← getD-take len n i 0 h) (starts-at s (take len n) i (omega arith) (omega arith))
-      go (no h) = rw (lt-ltb len (i + 1) (omega arith)) (same-end i (omega arith))
+  same-at i =
+      by-test (λ (b : Bool). startsWith (drop i s) (drop i (take len n)) ≡ b) (ltb len (i + 1))
+      (λ e. same-end i (omega (arith, ltb-true len (i + 1) e)))
+      (λ e. (let h : i < len = omega (arith, ltb-false len (i + 1) e) in
+      rw (← getD-take len n i 0 h) (starts-at s (take len n) i (omega arith) (omega arith))))
 
   same-within : len ≤ 3 → equals s (take len n) ≡ comparedBy (λ i. ltb len (i + 1)) s n
   same-within h =

@@ -77,7 +77,9 @@ module _ (unknown : Refusal) (first : ℕ) (ws : List (List ℕ)) (aliases : Lis
 
   word-reads : ReadsWord (wordRead unknown first ws aliases v)
   unfolding wordRead
-  word-reads = by-test ReadsWord (ltb (placeIn ws v) (length ws)) (λ e. as-word (below (ltb-true _ _ e))) (λ e. alias-reads aliases (omega arith))
+  word-reads =
+      by-test ReadsWord (ltb (placeIn ws v) (length ws))
+      (λ e. as-word (below (ltb-true _ _ e))) (λ e. alias-reads aliases (omega arith))
     where
       below : placeIn ws v < length ws → first + placeIn ws v < codesEnd (first + length ws) aliases
       below h = omega (arith, end-le (first + length ws) aliases)

@@ -37,13 +37,13 @@ is-named-requires c κs =
 returns : tie.Need-returns Inv-loop μ-loop
 returns c =
     let l = c .before .before .before .before in
-    let here = place-here (names-next (l .loop .k) (omega arith)) (l .before .before .args .name .now) (sym (told (c .before)) ∙ c .if1 .taken) in
+    let here = place-here (names-next (l .loop .k) (omega arith)) _ (sym (told (c .before)) ∙ c .if1 .taken) in
     omega (arith, l .loop .inv .1, here)
 
 loop-again : tie.Need-loop-again Inv-loop μ-loop
 loop-again c =
     let l = c .before .before .before .before in
-    let later = place-later (names-next (l .loop .k) (omega arith)) (l .before .before .args .name .now) (sym (told (c .before)) ∙ c .if1 .left) in
+    let later = place-later (names-next (l .loop .k) (omega arith)) _ (sym (told (c .before)) ∙ c .if1 .left) in
     (omega arith, omega (arith, l .loop .inv .1, later))
 
 returns-2 : tie.Need-returns-2 Inv-loop μ-loop

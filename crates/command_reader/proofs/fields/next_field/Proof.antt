@@ -61,8 +61,8 @@ told c =
     let some = find .before in
     let p = some .before .before .before .before in
     let i = signed some in
-    let field = field-named (text p) (at p) (p .pass .result) (p .before .before .pre .0) (p .pass .ensures) (i .1) (some .before .if2 .left) in
-    field (i .0) (find .find .result) (find .find .ensures) (c .number-of .result) (c .number-of .ensures)
+    let field = field-named (text p) (at p) (p .pass .result) (p .before .before .pre .0) (p .pass .ensures) (i .1) in
+    field (some .before .if2 .left) (i .0) (find .find .result) (find .find .ensures) (c .number-of .result) (c .number-of .ensures)
 
 returns-4 : tie.Need-returns-4
 returns-4 c = told (c .before) .0 (c .if4 .taken)

@@ -32,7 +32,8 @@ loop-holds c = (omega arith, refl, refl, λ end after p. p)
 told : (c : tie.After-put-field Inv-loop μ-loop) {r : Written} → c .put-field .result ≡ r → let loop = c .before .before .before .before in
     let slots = loop .before .before .before .before .before .before in
     let a = slots .before .before .before .before .args in
-    Turned (slots .slots .result) (a .text .now) (a .scratch .now) (loop .loop .k) (loop .loop .out) (c .put-field .last .1 .1 .1 .1 .0) (loop .loop .at) r
+    let l = loop .loop in
+    Turned (slots .slots .result) (a .text .now) (a .scratch .now) (l .k) (l .out) (c .put-field .last .1 .1 .1 .1 .0) (l .at) r
 told c e =
     let loop = c .before .before .before .before in
     let slots = loop .before .before .before .before .before .before in
