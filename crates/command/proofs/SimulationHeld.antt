@@ -37,7 +37,7 @@ finished-held {t} {scratch} c enough (on {s} r) =
     let command = commandOf (s .slots) in
     by-test (λ (a : Answer). a ≡ Answer.read c → Held scratch c) (eqb (actionCode (command .action)) 0 || eqb (command .id .len) 0)
     (λ e. not-read)
-    (λ e w.
+    (λ e (w : Answer.read command ≡ Answer.read c).
     (let z : command ≡ c = cc in
     rw (← z) (record {
       payload-in = omega (arith, r .fits, bytes-slot (each-at 14 (lit< tt) (r .each)));
