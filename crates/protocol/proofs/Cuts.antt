@@ -14,11 +14,12 @@ use Rattle.frames.proofs.Follows.{stream-append}
 use Rattle.protocol.specs.Table.{emptyTable}
 use Rattle.protocol.specs.History.{bytesOf}
 use Rattle.protocol.specs.Machine.{ours, Call, World, start}
-use Rattle.protocol.specs.Cuts.{Move, isReportMove, Output, CutsAlike}
+use Rattle.protocol.specs.Cuts.{Move, isReportMove, Output, moves, CutsAlike}
 use Rattle.protocol.specs.declared.Table.{Table}
 use Rattle.protocol.specs.declared.Receiver.{Receiver}
 use Rattle.protocol.proofs.Ours.{step, allGiven, after, AllLent}
-use Rattle.protocol.proofs.CutsOrder.{moves, reports, same-order}
+use Rattle.protocol.proofs.Laws.{no-way}
+use Rattle.protocol.proofs.CutsOrder as Order
 use Rattle.protocol.proofs.CutsRun.{run, Moves, none, one}
 use Rattle.protocol.proofs.CutsCalls.{Kept, start-kept, consumed, toldBy, steps}
 
@@ -62,6 +63,9 @@ run-all w (c ∷ cs) ok lent =
     run-more (allGiven (step w c) cs) (allTold (step w c) cs) (s .moves) ∙ rw (run-all (step w c) cs (s .kept) (lent .1))
 
 -- ---- as many reports as things told
+abbrev reports : List Output → ℕ
+reports os = Order.reports isReportMove (moves os)
+
 told-reports : {t t′ : Table} {os : List Output} {ds : List Stream.Told} → Moves t t′ os ds → (more : List Output)
     → reports (os ++ more) ≡ length ds + reports more
 told-reports (none e) more = omega arith
@@ -90,6 +94,14 @@ pub calls-run : (carry : List ℕ) (cs : List Call) → AllLent (start carry) cs
 unfolding stream
 calls-run carry cs lent = rw (told-all (start carry) cs (start-kept carry) lent) (run-all (start carry) cs (start-kept carry) lent)
 
+report-is : (m : Move) → isReportMove m ≡ true → m ≡ Move.report
+report-is Move.report e = refl
+report-is (Move.allow id) e = no-way (sym e)
+report-is (Move.deny id) e = no-way (sym e)
+report-is (Move.drop id) e = no-way (sym e)
+report-is Move.done e = no-way (sym e)
+report-is (Move.failed code) e = no-way (sym e)
+
 same-runs : (t : Table) {ms₁ ms₂ : List Move} {ds₁ ds₂ : List Stream.Told} {x₁ x₂ : List Output × Table} → ms₁ ≡ ms₂ → ds₁ ≡ ds₂
     → run t ms₁ ds₁ ≡ x₁ → run t ms₂ ds₂ ≡ x₂ → x₁ ≡ x₂
 same-runs t m d e₁ e₂ = sym e₁ ∙ rw (m, d) e₂
@@ -106,7 +118,7 @@ cuts-alike carry₁ carry₂ cs₁ cs₂ lent₁ lent₂ bytes same =
     let told : tells (bytesOf (after w₁ cs₁ .history)) ≡ tells (bytesOf (after w₂ cs₂ .history)) = ap tells bytes in
     let as-many : reports (allGiven w₁ cs₁) ≡ reports (allGiven w₂ cs₂) =
     calls-reports carry₁ cs₁ lent₁ ∙ ap length told ∙ sym (calls-reports carry₂ cs₂ lent₂) in
-    let order = same-order 0 (allGiven w₁ cs₁) (allGiven w₂ cs₂) as-many same in
+    let order = Order.same-order isReportMove Move.report report-is 0 (moves (allGiven w₁ cs₁)) (moves (allGiven w₂ cs₂)) as-many same in
     let q = same-runs emptyTable order told (calls-run carry₁ cs₁ lent₁) (calls-run carry₂ cs₂ lent₂) in
     let f₁ = kept-all w₁ cs₁ (start-kept carry₁) lent₁ .follows .framing in
     let f₂ = kept-all w₂ cs₂ (start-kept carry₂) lent₂ .follows .framing in

@@ -63,10 +63,11 @@ unfolding readOf
 read-same t scratch scratch′ h h′ = rw (le-ltb _ _ h, le-ltb _ _ h′) (finished-same (same-read t scratch scratch′))
 
 -- ---- the command
--- of one command and two scratches: its values are the same, and so are its name and its payload
+-- of one command and two scratches: its values are the same, and so are its name, its status and its payload
 pub record SameCommand (t : List ℕ) (c : Command) (after after′ : List ℕ) : Type 0 where
   pub values : valuesOf c t after ≡ valuesOf c t after′
   pub name : stringIn after (c .name) ≡ stringIn after′ (c .name)
+  pub status : stringIn after (c .status) ≡ stringIn after′ (c .status)
   pub payload : stringIn after (c .payload) ≡ stringIn after′ (c .payload)
 
 same-command : (t after after′ : List ℕ) (c : Command) → valuesOf c t after ≡ valuesOf c t after′ → SameCommand t c after after′
@@ -76,6 +77,7 @@ same-command t after after′ c e =
     record {
       values = e;
       name = string-means after (c .name) ∙ ap (value 11) e ∙ sym (string-means after′ (c .name));
+      status = string-means after (c .status) ∙ ap (value 12) e ∙ sym (string-means after′ (c .status));
       payload = string-means after (c .payload) ∙ ap (value 14) e ∙ sym (string-means after′ (c .payload));
     }
 

@@ -120,10 +120,18 @@ abbrev pub AllLent : Machine → World → List Call → Type 0
 AllLent m w [] = Unit {0}
 AllLent m w (c ∷ cs) = Lent m w c × AllLent m (step m w c) cs
 
--- "the same console calls after the same reports": the console's calls alone, each with the number of reports before it, n of them so far
+-- the calls among moves, of which p are reports, each with the number of reports before it, n of them so far
+abbrev pub callsAmong : {M : Type 0} → (M → Bool) → ℕ → List M → List (ℕ × M)
+callsAmong p n [] = []
+callsAmong p n (m ∷ ms) = cond (p m) (callsAmong p (suc n) ms) ((n, m) ∷ callsAmong p n ms)
+
+abbrev pub moves : List Output → List Move
+moves [] = []
+moves (o ∷ os) = o .move ∷ moves os
+
+-- "the same console calls after the same reports": the console's calls alone
 abbrev pub consoleCalls : ℕ → List Output → List (ℕ × Move)
-consoleCalls n [] = []
-consoleCalls n (o ∷ os) = cond (isReportMove (o .move)) (consoleCalls (suc n) os) ((n, o .move) ∷ consoleCalls n os)
+consoleCalls n os = callsAmong isReportMove n (moves os)
 
 -- two lists of calls, from a fresh receiver and any first carry each, that consume the same bytes, and in which the console makes the same
 -- calls after as many reports: they give the same, reports and answers, and leave the same receiver
