@@ -30,13 +30,15 @@ use Rattle.sending.specs.Transfers as Transfers
 use Rattle.sending.specs.Calls.{sendOf, pieceOf, finishOf, isIdle, isBusy, isFound, unheard, listening, Listening}
 use Rattle.sending.specs.Calls.{scannedHear, hearOf}
 use Rattle.sending.specs.Story.{Call, Event, World, afterWriting, isUnheard, afterHearing}
-use Rattle.sending.specs.Story.{step, Lent, start, bytesOf, modeAfter, Mark, marksOf}
-use Rattle.sending.specs.Every.{sessionIn, Ready, PieceReady, Right, AllLent, AllRight, EverySender, isDiffers, toldDiffers}
+use Rattle.sending.specs.Story.{start, bytesOf, modeAfter, Mark, marksOf}
+use Rattle.sending.specs.Machine.{ours}
+use Rattle.sending.specs.Every.{sessionIn, Ready, PieceReady, EverySender, isDiffers, toldDiffers}
 use Rattle.sending.specs.declared.Stage.{Stage}
 use Rattle.sending.specs.declared.Stage.the-variants as Stage
 use Rattle.sending.specs.declared.Transfer.{Transfer}
 use Rattle.sending.specs.declared.Wrote.{Wrote}
 use Rattle.sending.specs.declared.Writing.the-variants as Writing
+use Rattle.sending.proofs.Ours.{step, Lent, Right, AllLent, AllRight}
 use Rattle.sending.proofs.Ways.{Way, call-way, FileWay, file-way}
 use Rattle.sending.proofs.ShortIds.{short-id}
 use Rattle.sending.proofs.Kept.{SessionOK, found, Kept, kept-fresh, idle-ready, sending-place, busy-ready}
@@ -44,14 +46,14 @@ use Rattle.sending.proofs.KeptWrites.{kept-sent, kept-finished, kept-fi
 use Rattle.sending.proofs.KeptPieces.{kept-pieced}
 use Rattle.sending.proofs.Hears.{report-heard}
 
-record Inv (w : World) : Type 0 where
-  follows : Follows (w .sender .framing) (w .carry) (modeAfter (w .story))
-  kept : Kept (w .sender .transfer) (marksOf (w .story))
+pub record Inv (w : World) : Type 0 where
+  pub follows : Follows (w .sender .framing) (w .carry) (modeAfter (w .story))
+  pub kept : Kept (w .sender .transfer) (marksOf (w .story))
 
 -- a call: right, and it keeps the invariant
-record Good (w : World) (c : Call) : Type 0 where
-  right : Right w c
-  inv : Inv (step w c)
+pub record Good (w : World) (c : Call) : Type 0 where
+  pub right : Right w c
+  pub inv : Inv (step w c)
 
 open-session : (id : List ℕ) (m : List Mark) (g : Stage) → SessionOK id m g → isOpen g ≡ true → sessionIn m ≡ Option.some id
 open-session id m Stage.Fresh o e = no-way (sym e)
@@ -191,7 +193,7 @@ module _ (w : World) (v : Inv w) where
         record { right = g .right; inv = g .inv }
 
 -- ---- every list of calls
-good : (w : World) → Inv w → (c : Call) → Lent w c → Good w c
+pub good : (w : World) → Inv w → (c : Call) → Lent w c → Good w c
 good w v (Call.send id out) l = send-good w v id out
 good w v (Call.file id name size out) l = file-good w v id name size out
 good w v (Call.piece contents last out) l = piece-good w v contents last out
@@ -202,6 +204,9 @@ all-right : (w : World) → Inv w → (cs : List Call) → AllLent w cs → AllR
 all-right w v [] l = tt
 all-right w v (c ∷ cs) l = let g = good w v c (l .0) in (g .right, all-right (step w c) (g .inv) cs (l .1))
 
-pub every-sender : EverySender
+pub start-inv : (carry : List ℕ) → Inv (start carry)
 unfolding marksOf stream
-every-sender carry cs l = all-right (start carry) (record { follows = fresh-follows carry; kept = kept-fresh }) cs l
+start-inv carry = record { follows = fresh-follows carry; kept = kept-fresh }
+
+pub every-sender : EverySender ours
+every-sender carry cs l = all-right (start carry) (start-inv carry) cs l

@@ -107,7 +107,7 @@ pub record Reported (m : List Mark) (ms : List Mark) (differs : Bool) (h : Heede
   pub right : isDiffers (h .news) ≡ differs
   pub taken : isUnheard (h .news) ≡ false
 
-or-left : (a b : Bool) → (a || b) ≡ false → a ≡ false
+pub or-left : (a b : Bool) → (a || b) ≡ false → a ≡ false
 or-left true b e = e
 or-left false b e = refl
 

@@ -1,3 +1,4 @@
+mod Ours
 mod Examples
 mod LongIds
 mod ShortIds
@@ -11,3 +12,8 @@ mod Sizes
 mod Heeds
 mod Hears
 mod EveryCall
+mod CutsRun
+mod CutsHeeds
+mod CutsWrites
+mod CutsCalls
+mod Cuts

@@ -1,4 +1,4 @@
--- What holds at each call of every list of calls on a fresh sender.
+-- What holds of a machine at each call of every list of calls on a fresh sender.
 use Prim.Native.Nat.{ℕ, _+_}
 use mathlib.Core.Path.{_≡_}
 use mathlib.Core.Bool.{Bool, true, false, not, cond, _&&_, _||_}
@@ -12,7 +12,7 @@ use Rattle.frames.specs.Stream as Stream
 use Rattle.command.specs.Values.{Value}
 use Rattle.command.specs.Meaning.{Meaning, meaningOf, actionCode, idOf, fileIdOf, sizeOf, statusOf}
 use Rattle.sending.specs.Heeding.{wordOf, isCount}
-use Rattle.sending.specs.Calls.{fileOf, pieceOf, finishOf, hearOf}
+use Rattle.sending.specs.Machine.{Machine}
 use Rattle.sending.specs.Story.{Call, World, Mark, marksOf, modeAfter, step, Lent, start}
 use Rattle.sending.specs.declared.Writing.the-variants as Writing
 use Rattle.sending.specs.declared.Wrote.{Wrote}
@@ -142,23 +142,24 @@ toldDiffers m (Stream.Told.command t ∷ ds) = commandDiffers m (meaningOf t)
 toldDiffers m (Stream.Told.tooLong ∷ ds) = false
 toldDiffers m (Stream.Told.abandoned ∷ ds) = false
 
-abbrev pub Right : World → Call → Type 0
-Right w (Call.send id out) = Unit {0}
-Right w (Call.file id name size out) = IfWritten (fileOf (w .sender) id name size out .answer) (Ready (marksOf (w .story)))
-Right w (Call.piece contents last out) = IfWritten (pieceOf (w .sender) contents last out .answer) (PieceReady (marksOf (w .story)))
-Right w (Call.finish out) = IfWritten (finishOf (w .sender) out .answer) (Ready (marksOf (w .story)))
-Right w (Call.hear bytes carry scratch) =
-    let l = hearOf (w .sender) bytes carry scratch .listened in
+abbrev pub Right : Machine → World → Call → Type 0
+Right m w (Call.send id out) = Unit {0}
+Right m w (Call.file id name size out) = IfWritten (m .files (w .sender) id name size out .answer) (Ready (marksOf (w .story)))
+Right m w (Call.piece contents last out) = IfWritten (m .pieces (w .sender) contents last out .answer) (PieceReady (marksOf (w .story)))
+Right m w (Call.finish out) = IfWritten (m .finishes (w .sender) out .answer) (Ready (marksOf (w .story)))
+Right m w (Call.hear bytes carry scratch) =
+    let l = m .hears (w .sender) bytes carry scratch .listened in
     isDiffers (l .news) ≡ toldDiffers (marksOf (w .story)) (stream (modeAfter (w .story)) (take (l .consumed) bytes) .0)
 
 -- ---- every list of calls, refused ones included
-abbrev pub AllLent : World → List Call → Type 0
-AllLent w [] = Unit {0}
-AllLent w (c ∷ cs) = Lent w c × AllLent (step w c) cs
+abbrev pub AllLent : Machine → World → List Call → Type 0
+AllLent m w [] = Unit {0}
+AllLent m w (c ∷ cs) = Lent m w c × AllLent m (step m w c) cs
 
-abbrev pub AllRight : World → List Call → Type 0
-AllRight w [] = Unit {0}
-AllRight w (c ∷ cs) = Right w c × AllRight (step w c) cs
+abbrev pub AllRight : Machine → World → List Call → Type 0
+AllRight m w [] = Unit {0}
+AllRight m w (c ∷ cs) = Right m w c × AllRight m (step m w c) cs
 
-abbrev pub EverySender : Type 0
-EverySender = (carry : List ℕ) (calls : List Call) → AllLent (start carry) calls → AllRight (start carry) calls
+-- the claim
+abbrev pub EverySender : Machine → Type 0
+EverySender m = (carry : List ℕ) (calls : List Call) → AllLent m (start carry) calls → AllRight m (start carry) calls

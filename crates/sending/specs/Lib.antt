@@ -2,7 +2,9 @@ pub mod Transfers
 pub mod Commands
 pub mod Heeding
 pub mod Calls
+pub mod Machine
 pub mod Examples
 pub mod Claims
 pub mod Story
 pub mod Every
+pub mod Cuts

@@ -10,7 +10,8 @@ use Rattle.frames.specs.Stream as Stream
 use Rattle.command.specs.Values.{Value}
 use Rattle.command.specs.Meaning.{Meaning, meaningOf}
 use Rattle.sending.specs.Transfers.{freshSender}
-use Rattle.sending.specs.Calls.{sendOf, fileOf, pieceOf, finishOf, Listening, hearOf}
+use Rattle.sending.specs.Calls.{Listening}
+use Rattle.sending.specs.Machine.{Machine}
 use Rattle.sending.specs.declared.Sender.{Sender}
 use Rattle.sending.specs.declared.Writing.{Writing}
 use Rattle.sending.specs.declared.Writing.the-variants as Writing
@@ -68,20 +69,21 @@ afterHearing w bytes l =
       story = Event.heard (take (l .listened .consumed) bytes) ∷ w .story;
     }
 
-abbrev pub step : World → Call → World
-step w (Call.send id out) = afterWriting w (Event.sent id) (sendOf (w .sender) id out .answer)
-step w (Call.file id name size out) = afterWriting w (Event.filed id) (fileOf (w .sender) id name size out .answer)
-step w (Call.piece contents last out) = afterWriting w (Event.pieced contents) (pieceOf (w .sender) contents last out .answer)
-step w (Call.finish out) = afterWriting w Event.finished (finishOf (w .sender) out .answer)
-step w (Call.hear bytes carry scratch) = afterHearing w bytes (hearOf (w .sender) bytes carry scratch)
+abbrev pub step : Machine → World → Call → World
+step m w (Call.send id out) = afterWriting w (Event.sent id) (m .sends (w .sender) id out .answer)
+step m w (Call.file id name size out) = afterWriting w (Event.filed id) (m .files (w .sender) id name size out .answer)
+step m w (Call.piece contents last out) = afterWriting w (Event.pieced contents) (m .pieces (w .sender) contents last out .answer)
+step m w (Call.finish out) = afterWriting w Event.finished (m .finishes (w .sender) out .answer)
+step m w (Call.hear bytes carry scratch) = afterHearing w bytes (m .hears (w .sender) bytes carry scratch)
 
 -- "each hear not refused with 9 lent the carry that the last such one left"
-abbrev pub Lent : World → Call → Type 0
-Lent w (Call.send id out) = Unit {0}
-Lent w (Call.file id name size out) = Unit {0}
-Lent w (Call.piece contents last out) = Unit {0}
-Lent w (Call.finish out) = Unit {0}
-Lent w (Call.hear bytes carry scratch) = isUnheard (hearOf (w .sender) bytes carry scratch .listened .news) ≡ false → carry ≡ w .carry
+abbrev pub Lent : Machine → World → Call → Type 0
+Lent m w (Call.send id out) = Unit {0}
+Lent m w (Call.file id name size out) = Unit {0}
+Lent m w (Call.piece contents last out) = Unit {0}
+Lent m w (Call.finish out) = Unit {0}
+Lent m w (Call.hear bytes carry scratch) =
+    isUnheard (m .hears (w .sender) bytes carry scratch .listened .news) ≡ false → carry ≡ w .carry
 
 -- "on a fresh sender", the first carry any
 abbrev pub start : List ℕ → World

@@ -7,7 +7,9 @@ ghost use mathlib.Core.Path.{_≡_};
 ghost use Rattle.sending.specs.Transfers.{freshSender};
 ghost use Rattle.sending.specs.Examples.{AllRun, examples};
 ghost use Rattle.sending.specs.Claims.{LongIdAsWritten};
+ghost use Rattle.sending.specs.Cuts.{SenderCutsAlike};
 ghost use Rattle.sending.specs.Every.{EverySender};
+ghost use Rattle.sending.specs.Machine.{ours};
 use command::Place;
 use decimal::Number;
 use frames::Framing;
@@ -137,7 +139,7 @@ impl Sender {
     // Nothing is written and nothing heard. What holds at each call of every list of calls from here, what
     // a long file id gets, and the examples stand here too, so that nobody can drop a theorem unseen.
     pub fn fresh() -> Sender
-        ensures { λ r. ⌜ (r ≡ freshSender) × EverySender × LongIdAsWritten × AllRun examples ⌝ }
+        ensures { λ r. ⌜ (r ≡ freshSender) × EverySender ours × SenderCutsAlike ours × LongIdAsWritten × AllRun examples ⌝ }
     {
         Sender {
             framing: Framing::Plain,
