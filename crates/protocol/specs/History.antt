@@ -7,7 +7,8 @@ use Rattle.octets.specs.Slices.{partOf}
 use Rattle.frames.specs.Stream.{Mode, stream}
 use Rattle.frames.specs.Stream as Stream
 use Rattle.command.specs.Values.{Value}
-use Rattle.command.specs.Meaning.{Meaning, meaningOf}
+use Rattle.command.specs.Meaning.{Meaning}
+use Rattle.protocol.specs.Readings as Readings
 use Rattle.protocol.specs.declared.Ask.{Ask}
 use Rattle.protocol.specs.declared.Ask.the-variants as Ask
 use Rattle.protocol.specs.declared.Told.{Told}
@@ -72,19 +73,11 @@ pub data Mark : Type 0 where
   -- with the ask told last, which it answers
   answer : Bool → Question → Mark
 
--- "its text .. reads without refusal"
 abbrev pub readMark : Meaning → List Mark → List Mark
-readMark (Meaning.command c) m = Mark.read c ∷ m
-readMark (Meaning.refused n) m = m
-
-abbrev pub toldMark : Stream.Told → List Mark → List Mark
-toldMark (Stream.Told.command t) m = readMark (meaningOf t) m
-toldMark Stream.Told.tooLong m = m
-toldMark Stream.Told.abandoned m = m
+readMark = Readings.readMark Mark.read
 
 abbrev pub toldMarks : List Stream.Told → List Mark → List Mark
-toldMarks [] m = m
-toldMarks (d ∷ ds) m = toldMarks ds (toldMark d m)
+toldMarks = Readings.toldMarks Mark.read
 
 -- "An ask then told is for its id and fid"
 abbrev pub hearingMark : Option Heard → List Mark → List Mark

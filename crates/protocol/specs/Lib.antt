@@ -7,6 +7,7 @@ pub mod Files
 pub mod Rule
 pub mod Sessions
 pub mod Calls
+pub mod Readings
 pub mod History
 pub mod Stretches
 pub mod Machine

@@ -26,7 +26,9 @@ use Rattle.sending.specs.Commands.{sendValues, pieceValues, finishValues
 use Rattle.sending.specs.Calls.{writes, fileWrites, sendOf, fileOf, pieceOf, finishOf, isIdle, isBusy, isTaken}
 use Rattle.sending.specs.Calls.{Listening, listening, unheard, reportHeed, scannedHear, hearOf}
 use Rattle.sending.specs.Story.{Call, Event, World, noted, isUnheard, bytesOf, modeAfter}
-use Rattle.sending.specs.Cuts.{saying, Move, Output, output, reportOf}
+use Rattle.sending.specs.Sayings.{saying}
+use Rattle.sending.specs.Every.{toldAfter}
+use Rattle.sending.specs.Cuts.{Move, Output, output, reportOf}
 use Rattle.sending.specs.declared.Stage.the-variants as Stage
 use Rattle.sending.specs.declared.Transfer.{Transfer}
 use Rattle.sending.specs.declared.Sender.{Sender}
@@ -38,10 +40,6 @@ use Rattle.sending.proofs.EveryCall.{Inv, good}
 use Rattle.sending.proofs.CutsRun.{heedOn, reported, Moves, none, one}
 use Rattle.sending.proofs.CutsHeeds.{SameHeed, read-heeds}
 use Rattle.sending.proofs.CutsWrites.{writes-alike, file-alike, call-moves}
-
--- what bytes tell after all that came before
-abbrev pub toldAfter : World → List ℕ → List Stream.Told
-toldAfter w bs = stream (modeAfter (w .story)) bs .0
 
 -- ---- a report
 abbrev reportedBy : List ℕ → Outcome Heeded → Output
@@ -160,7 +158,7 @@ module _ (w : World) (v : Inv w) where
   joined (Call.send id out) = noted-bytes (sendOf s id out .answer .writing) (Event.sent id) (w .story) refl
   joined (Call.file id name size out) = noted-bytes (fileOf s id name size out .answer .writing) (Event.filed id) (w .story) refl
   joined (Call.piece contents last out) =
-      noted-bytes (pieceOf s contents last out .answer .writing) (Event.pieced contents) (w .story) refl
+      noted-bytes (pieceOf s contents last out .answer .writing) (Event.pieced contents last) (w .story) refl
   joined (Call.finish out) = noted-bytes (finishOf s out .answer .writing) Event.finished (w .story) refl
   joined (Call.hear bytes carry scratch) = refl
 

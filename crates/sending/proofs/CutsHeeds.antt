@@ -19,7 +19,7 @@ use Rattle.sending.specs.Transfers.{fileAt, findFile, isWaiting, closedS
 use Rattle.sending.specs.Heeding.{heeded, wordOf, sessionHeed, isCount, okHeed, fileHeed, foundHeed, statusHeed, isOurs, heedOf}
 use Rattle.sending.specs.Calls.{readHeed}
 use Rattle.sending.specs.Story.{isUnheard}
-use Rattle.sending.specs.Cuts.{saying}
+use Rattle.sending.specs.Sayings.{saying}
 use Rattle.sending.specs.declared.Stage.the-variants as Stage
 use Rattle.sending.specs.declared.Transfer.{Transfer}
 use Rattle.sending.specs.declared.News.{News}

@@ -12,7 +12,8 @@ use Rattle.command.specs.Framed.{frameRoom}
 use Rattle.protocol.proofs.CutsRun.{zeros, textIn}
 use Rattle.sending.specs.Heeding.{heeded}
 use Rattle.sending.specs.Calls.{sendOf, fileOf, pieceOf, finishOf, readHeed}
-use Rattle.sending.specs.Cuts.{Saying, saying, Move, isReportMove, Output, output, answering}
+use Rattle.sending.specs.Sayings.{Saying, saying}
+use Rattle.sending.specs.Cuts.{Move, isReportMove, Output, output, answering}
 use Rattle.sending.specs.declared.Transfer.{Transfer}
 use Rattle.sending.specs.declared.Sender.{Sender}
 use Rattle.sending.specs.declared.Wrote.{Wrote}

@@ -1,54 +1,69 @@
--- A status of the session that is read: what is kept, and whether it is told to differ.
+-- A status of the session that is read: what is kept, and what is told of it.
 use Prim.Native.Nat.{ℕ, _<_}
 use mathlib.Core.Path.{_≡_, refl, sym, _∙_}
-use mathlib.Core.Bool.{Bool, true, false, not, cond}
-use mathlib.Core.Option.{Option}
+use mathlib.Core.Bool.{Bool, true, false, cond, _||_, and-false, or-true}
+use mathlib.Core.Option.{Option, Option·none-ne-some}
 use mathlib.Core.List.{List, _∷_}
 use lib.ListN.{length, getD}
 use lib.Dec.{eqb}
 use Rattle.octets.specs.Slices.{equals}
-use Rattle.octets.proofs.Compare.{equals-sound}
+use Rattle.octets.proofs.Below.{both-test}
+use Rattle.octets.proofs.Compare.{equals-refl, equals-sound}
 use Rattle.command.specs.Values.{Value}
-use Rattle.command.specs.Meaning.{Meaning, actionCode, idOf, fileIdOf, sizeOf, statusOf}
+use Rattle.command.specs.Meaning.{actionCode, idOf, fileIdOf, sizeOf, statusOf}
 use Rattle.command.specs.declared.Place.{Place}
+use Rattle.protocol.specs.Sessions.{stringIn}
 use Rattle.protocol.specs.declared.Found.{Found}
 use Rattle.protocol.specs.declared.Found.the-variants as Found
 use Rattle.protocol.proofs.Laws.{no-way, first-at}
-use Rattle.octets.proofs.Below.{both-test}
 use Rattle.sending.specs.Transfers as Transfers
 use Rattle.sending.specs.Transfers.{freeFile, isKnown, hasFileId, findFile, isWaiting, isSending, closedStage, withStage, sentLimit}
 use Rattle.sending.specs.Heeding.{heeded, wordOf, sessionHeed, isCount, okHeed, stopHeed, fileHeed, foundHeed, statusHeed}
 use Rattle.sending.specs.Story.{Mark}
-use Rattle.sending.specs.Every.{sessionIn, isSome, sumIn, isWord, isReply, forSession, forFile, someRead, stoppedIn, fileStoppedIn}
-use Rattle.sending.specs.Every.{commandDiffers}
+use Rattle.sending.specs.Telling.{sessionIn, pendingIn, equalsSome, sumIn, isWord, isReply, forSession, forFile}
+use Rattle.sending.specs.Telling.{someRead, allowedIn, stoppedIn, fileStoppedIn, sessionSaying, fileSaying, commandSaying}
 use Rattle.sending.specs.declared.Stage.{Stage}
 use Rattle.sending.specs.declared.Stage.the-variants as Stage
 use Rattle.sending.specs.declared.FileStage.{FileStage}
 use Rattle.sending.specs.declared.FileStage.the-variants as FileStage
+use Rattle.sending.specs.declared.SentFile.{SentFile}
 use Rattle.sending.specs.declared.Transfer.{Transfer}
 use Rattle.sending.specs.declared.News.the-variants as News
 use Rattle.sending.specs.declared.Word.{Word}
 use Rattle.sending.specs.declared.Word.the-variants as Word
-use Rattle.sending.proofs.Kept.{Counted, Unknown, SessionOK, found, Kept}
-use Rattle.sending.proofs.KeptWrites.{same-file}
-use Rattle.sending.proofs.KeptReads.{and-false, Heard, unmoved, kept-put}
+use Rattle.sending.proofs.Kept.{Counted, Unknown, Says, SessionOK, found, Kept}
+use Rattle.sending.proofs.KeptWrites.{same-file, AllowedAs, allowed-as}
+use Rattle.sending.proofs.KeptReads.{Marked, unmoved, kept-put}
 use Rattle.sending.proofs.Sizes.{count-or-sum}
 
 -- the session is the one that send began
-known-session : (id x : List ℕ) (m : List Mark) (g : Stage) → SessionOK id m g → isSome x (sessionIn m) ≡ true
+known-session : (id x : List ℕ) (m : List Mark) (g : Stage) → SessionOK id m g → equalsSome x (sessionIn m) ≡ true
     → sessionIn m ≡ Option.some id
-known-session id x m Stage.Fresh o e = no-way (sym (rw (o .0) at e))
-known-session id x m Stage.Waiting o e = o .0
-known-session id x m Stage.Open o e = o .0
-known-session id x m Stage.Finished o e = o
-known-session id x m Stage.Stopped o e = o
+known-session id x m Stage.Fresh o e = no-way (sym (rw (o .session) at e))
+known-session id x m Stage.Waiting o e = o .session
+known-session id x m Stage.Open o e = o .session
+known-session id x m Stage.Finished o e = o .session
+known-session id x m Stage.Stopped o e = o .0
 
-waiting-session : (id : List ℕ) (m : List Mark) (g : Stage) → SessionOK id m g → isWaiting g ≡ true → stoppedIn m ≡ false
-waiting-session id m Stage.Fresh o e = no-way (sym e)
-waiting-session id m Stage.Waiting o e = o .1
-waiting-session id m Stage.Open o e = no-way (sym e)
-waiting-session id m Stage.Finished o e = no-way (sym e)
-waiting-session id m Stage.Stopped o e = no-way (sym e)
+-- it waits for its OK; or it has one, or is stopped
+waiting-says : (id : List ℕ) (m : List Mark) (g : Stage) → SessionOK id m g → isWaiting g ≡ true → Says m (Option.some id) false false false
+waiting-says id m Stage.Fresh o e = no-way (sym e)
+waiting-says id m Stage.Waiting o e = o
+waiting-says id m Stage.Open o e = no-way (sym e)
+waiting-says id m Stage.Finished o e = no-way (sym e)
+waiting-says id m Stage.Stopped o e = no-way (sym e)
+
+record Decided (m : List Mark) (a : Bool) (g : Stage) : Type 0 where
+  allowed : AllowedAs (a || allowedIn m) (allowedIn m) g
+  told : (allowedIn m || stoppedIn m) ≡ true
+
+decided : (id : List ℕ) (m : List Mark) (a : Bool) (g : Stage) → SessionOK id m g → sessionIn m ≡ Option.some id → isWaiting g ≡ false
+    → Decided m a g
+decided id m a Stage.Fresh o s e = absurd (Option·none-ne-some id (sym (o .session) ∙ s))
+decided id m a Stage.Waiting o s e = no-way e
+decided id m a Stage.Open o s e = record { allowed = rw (o .allowed) (or-true a); told = rw (o .allowed) }
+decided id m a Stage.Finished o s e = record { allowed = rw (o .allowed) (or-true a); told = rw (o .allowed) }
+decided id m a Stage.Stopped o s e = record { allowed = tt; told = rw (o .1) (or-true (allowedIn m)) }
 
 closed-known : (g : FileStage) → isKnown (closedStage g) ≡ isKnown g
 closed-known FileStage.Free = refl
@@ -57,19 +72,19 @@ closed-known FileStage.Sent = refl
 closed-known FileStage.Closed = refl
 closed-known FileStage.Stopped = refl
 
-closed-sending : (g : FileStage) → isSending (closedStage g) ≡ true → isSending g ≡ true
-closed-sending FileStage.Free e = e
-closed-sending FileStage.Sending e = e
-closed-sending FileStage.Sent e = no-way (sym e)
-closed-sending FileStage.Closed e = e
-closed-sending FileStage.Stopped e = e
+closed-sending : (g : FileStage) → isSending (closedStage g) ≡ isSending g
+closed-sending FileStage.Free = refl
+closed-sending FileStage.Sending = refl
+closed-sending FileStage.Sent = refl
+closed-sending FileStage.Closed = refl
+closed-sending FileStage.Stopped = refl
 
-module _ {t : Transfer} {m : List Mark} (c : List Value) (k : Kept t m) (p : Place) (ours : isReply c m ≡ true)
-    (small : sizeOf c .magnitude < sentLimit) where
+module _ {t : Transfer} {m : List Mark} (c : List Value) (k : Kept t m) (p : Place) (after : List ℕ)
+    (status : stringIn after p ≡ statusOf c) (ours : isReply c m ≡ true) (small : sizeOf c .magnitude < sentLimit) where
   id-session : sessionIn m ≡ Option.some (Transfers.idOf t)
   id-session =
       known-session (Transfers.idOf t) (idOf c) m (t .stage) (k .session)
-      (both-test (eqb (actionCode c) 8) (isSome (idOf c) (sessionIn m)) ours .1)
+      (both-test (eqb (actionCode c) 8) (equalsSome (idOf c) (sessionIn m)) ours .1)
 
   -- ---- without fid
   module _ (e : eqb (length (fileIdOf c)) 0 ≡ true) where
@@ -79,6 +94,9 @@ module _ {t : Transfer} {m : List Mark} (c : List Value) (k : Kept t m) (p : Pla
     of-session : (x w : Word) → wordOf (statusOf c) ≡ w → forSession x c m ≡ isWord x w
     of-session x w q = rw (ours, e, q)
 
+    told-session : (w : Word) → wordOf (statusOf c) ≡ w → commandSaying m c ≡ sessionSaying m c w
+    told-session w q = rw (ours, e, q)
+
     -- the session in another stage
     moved-session : (g : Stage) → SessionOK (Transfers.idOf t) (Mark.read c ∷ m) g → Kept (withStage t g) (Mark.read c ∷ m)
     unfolding someRead
@@ -86,90 +104,127 @@ module _ {t : Transfer} {m : List Mark} (c : List Value) (k : Kept t m) (p : Pla
         record {
           sized = k .sized;
           session = s;
+          safe = k .safe;
+          short = k .short;
           files =
-              λ j. same-file m (Mark.read c ∷ m) j (t .files) refl refl (rw (no-file Word.Other, and-false (equals (fileIdOf c) j)))
+              λ j. same-file m (Mark.read c ∷ m) j (t .files) refl refl refl (rw (no-file Word.Other, and-false (equals (fileIdOf c) j)))
               (found (t .files) j) (k .files j);
           free = k .free;
-          current = λ d q. let o = k .current d q in record { filed = o .filed; there = o .there };
+          many = k .many;
+          none = k .none;
+          current = λ d q. let o = k .current d q in record { pending = o .pending; there = o .there };
         }
 
-    session-heard : (w : Word) → wordOf (statusOf c) ≡ w → Heard m c (sessionHeed t p w)
+    session-heard : (w : Word) → wordOf (statusOf c) ≡ w → Marked m c after (sessionHeed t p w)
     unfolding sessionHeed someRead
     session-heard Word.Ok q = go (isWaiting (t .stage)) refl
       where
         go : (b : Bool) → isWaiting (t .stage) ≡ b
-            → Heard m c (cond b (heeded (withStage t Stage.Open) News.Allowed) (heeded t News.Noted))
+            → Marked m c after (cond b (heeded (withStage t Stage.Open) News.Allowed) (heeded t News.Noted))
         go true r =
-            let s : stoppedIn m ≡ false = waiting-session (Transfers.idOf t) m (t .stage) (k .session) r in
+            let s = waiting-says (Transfers.idOf t) m (t .stage) (k .session) r in
             record {
-              kept = moved-session Stage.Open (id-session, rw (of-session Word.Other Word.Ok q) s, rw (of-session Word.Ok Word.Ok q));
-              right = rw (no-file Word.Ok);
+              kept =
+                  moved-session Stage.Open
+                  (record {
+                    session = id-session;
+                    allowed = rw (of-session Word.Ok Word.Ok q);
+                    stopped = rw (of-session Word.Other Word.Ok q) (s .stopped);
+                    finished = s .finished;
+                  });
+              said = rw (told-session Word.Ok q, s .allowed, s .stopped);
               taken = refl;
             }
         go false r =
-            record { kept = unmoved c k (of-session Word.Other Word.Ok q) (no-file Word.Other); right = rw (no-file Word.Ok); taken = refl }
+            let d = decided (Transfers.idOf t) m (forSession Word.Ok c m) (t .stage) (k .session) id-session r in
+            record {
+              kept = unmoved c k (of-session Word.Other Word.Ok q) (d .allowed) (no-file Word.Other);
+              said = rw (told-session Word.Ok q, d .told);
+              taken = refl;
+            }
     session-heard Word.Going q =
-        record { kept = unmoved c k (of-session Word.Other Word.Going q) (no-file Word.Other); right = rw (no-file Word.Ok); taken = refl }
-    session-heard Word.Other q = record { kept = moved-session Stage.Stopped id-session; right = rw (no-file Word.Ok); taken = refl }
+        let a : (forSession Word.Ok c m || allowedIn m) ≡ allowedIn m = rw (of-session Word.Ok Word.Going q) in
+        record {
+          kept = unmoved c k (of-session Word.Other Word.Going q) (allowed-as a (t .stage)) (no-file Word.Other);
+          said = rw (told-session Word.Going q);
+          taken = refl;
+        }
+    session-heard Word.Other q =
+        record {
+          kept = moved-session Stage.Stopped (id-session, rw (of-session Word.Other Word.Other q));
+          said = rw (told-session Word.Other q, status);
+          taken = refl;
+        }
 
   -- ---- with one
   module _ (e : eqb (length (fileIdOf c)) 0 ≡ false) where
     no-session : (x : Word) → forSession x c m ≡ false
     no-session x = rw (ours, e)
 
-    unknown-heard : found (t .files) (fileIdOf c) ≡ Found.Nowhere → Heard m c (heeded t News.Ignored)
+    as-before : AllowedAs (forSession Word.Ok c m || allowedIn m) (allowedIn m) (t .stage)
+    as-before = allowed-as (rw (no-session Word.Ok)) (t .stage)
+
+    unknown-heard : found (t .files) (fileIdOf c) ≡ Found.Nowhere → Marked m c after (heeded t News.Ignored)
     unknown-heard f =
         let u : Unknown m (fileIdOf c) = rw f at (k .files (fileIdOf c)) in
-        let none : (x : Word) → forFile x c m ≡ false = λ x. rw (ours, e, u .filed) in
-        record { kept = unmoved c k (no-session Word.Other) (none Word.Other); right = rw (none Word.Ok); taken = refl }
+        let none : forFile Word.Other c m ≡ false = rw (ours, e, u .filed) in
+        record { kept = unmoved c k (no-session Word.Other) as-before none; said = rw (ours, e, u .filed); taken = refl }
 
     module _ (i : ℕ) (f : found (t .files) (fileIdOf c) ≡ Found.At i) where
-      known : Counted m (fileIdOf c) (getD (t .files) i freeFile)
+      abbrev file : SentFile
+      file = getD (t .files) i freeFile
+
+      known : Counted m (fileIdOf c) i file
       known = rw f at (k .files (fileIdOf c))
 
-      there : (i < length (t .files)) × (hasFileId (fileIdOf c) (getD (t .files) i freeFile) ≡ true)
+      there : (i < length (t .files)) × (hasFileId (fileIdOf c) file ≡ true)
       there = first-at (hasFileId (fileIdOf c)) freeFile (t .files) i f
 
       of-file : (x w : Word) → wordOf (statusOf c) ≡ w → forFile x c m ≡ isWord x w
       of-file x w q = rw (ours, e, known .filed, q)
 
-      ok-heard : wordOf (statusOf c) ≡ Word.Ok → Heard m c (okHeed t i (sizeOf c))
+      told-file : (w : Word) → wordOf (statusOf c) ≡ w → commandSaying m c ≡ fileSaying m c w
+      told-file w q = rw (ours, e, known .filed, q)
+
+      ok-heard : wordOf (statusOf c) ≡ Word.Ok → Marked m c after (okHeed t i (sizeOf c))
       unfolding okHeed someRead
-      ok-heard q = go (isCount (sizeOf c) (getD (t .files) i freeFile .sent)) refl
+      ok-heard q = go (isCount (sizeOf c) (file .sent)) refl
         where
           quiet : (j : List ℕ) → fileStoppedIn j (Mark.read c ∷ m) ≡ fileStoppedIn j m
           quiet j = rw (of-file Word.Other Word.Ok q, and-false (equals (fileIdOf c) j))
 
-          told : (b : Bool) → isCount (sizeOf c) (getD (t .files) i freeFile .sent) ≡ b → not b ≡ commandDiffers m (Meaning.command c)
-          told b r = rw (of-file Word.Ok Word.Ok q, ← count-or-sum (sizeOf c) (sumIn (fileIdOf c) m) small, ← known .counted, r)
+          summed : (b : Bool) → isCount (sizeOf c) (file .sent) ≡ b → isCount (sizeOf c) (sumIn (fileIdOf c) m) ≡ b
+          summed b r = rw (← count-or-sum (sizeOf c) (sumIn (fileIdOf c) m) small, ← known .counted) r
 
-          go : (b : Bool) → isCount (sizeOf c) (getD (t .files) i freeFile .sent) ≡ b
-              → Heard m c (cond b (heeded (Transfers.putFile t i (Transfers.moved (getD (t .files) i freeFile)
-              (closedStage (getD (t .files) i freeFile .stage)) (getD (t .files) i freeFile .sent))) News.Noted)
-              (heeded t (News.Differs i (sizeOf c))))
+          go : (b : Bool) → isCount (sizeOf c) (file .sent) ≡ b
+              → Marked m c after (cond b (heeded (Transfers.putFile t i (Transfers.moved file (closedStage (file .stage)) (file .sent)))
+              News.Noted) (heeded t (News.Differs i (sizeOf c))))
           go true r =
-              let stage = getD (t .files) i freeFile .stage in
               record {
                 kept =
-                    kept-put c k (no-session Word.Other) i (closedStage stage) (there .0) (closed-known stage)
-                    (λ j a b. quiet j ∙ (let o : Counted m j (getD (t .files) i freeFile) = rw a at (k .files j) in
-                    o .going (closed-sending stage b)))
+                    kept-put c k (no-session Word.Other) as-before i (closedStage (file .stage)) (there .0) (closed-known (file .stage))
+                    (λ j a. closed-sending (file .stage) ∙ (let o : Counted m j i file = rw a at (k .files j) in rw (quiet j) (o .going)))
                     (λ j a. quiet j);
-                right = told true r;
+                said = rw (told-file Word.Ok q, summed true r);
                 taken = refl;
               }
           go false r =
-              record { kept = unmoved c k (no-session Word.Other) (of-file Word.Other Word.Ok q); right = told false r; taken = refl }
+              record {
+                kept = unmoved c k (no-session Word.Other) as-before (of-file Word.Other Word.Ok q);
+                said = rw (told-file Word.Ok q, summed false r, ← known .place);
+                taken = refl;
+              }
 
-      stop-heard : wordOf (statusOf c) ≡ Word.Other → Heard m c (stopHeed t i p)
+      stop-heard : wordOf (statusOf c) ≡ Word.Other → Marked m c after (stopHeed t i p)
       unfolding someRead
       stop-heard q =
           record {
             kept =
-                kept-put c k (no-session Word.Other) i FileStage.Stopped (there .0)
-                (sym (both-test (isKnown (getD (t .files) i freeFile .stage)) _ (there .1) .0))
-                (λ j a b. no-way (sym b)) (λ j a. rw (apart j a (equals (fileIdOf c) j) refl));
-            right = rw (of-file Word.Ok Word.Other q);
+                kept-put c k (no-session Word.Other) as-before i FileStage.Stopped (there .0)
+                (sym (both-test (isKnown (file .stage)) _ (there .1) .0))
+                (λ j a. rw (of-file Word.Other Word.Other q, same j a) (sym (and-false (equalsSome j (pendingIn m)))))
+                (λ j a. rw (apart j a (equals (fileIdOf c) j) refl));
+            said = rw (told-file Word.Other q, status, ← known .place);
             taken = refl;
           }
         where
@@ -178,29 +233,37 @@ module _ {t : Transfer} {m : List Mark} (c : List Value) (k : Kept t m) (p : Pla
           apart j a false r = r
           apart j a true r = absurd (a (rw (← equals-sound (fileIdOf c) j r) f))
 
-      file-heard : (w : Word) → wordOf (statusOf c) ≡ w → Heard m c (fileHeed t i (sizeOf c) p w)
+          same : (j : List ℕ) → found (t .files) j ≡ Found.At i → equals (fileIdOf c) j ≡ true
+          same j a =
+              let here = first-at (hasFileId j) freeFile (t .files) i a .1 in
+              let x = equals-sound (Transfers.fileIdOf file) j (both-test (isKnown (file .stage)) _ here .1) in
+              let y = equals-sound (Transfers.fileIdOf file) (fileIdOf c) (both-test (isKnown (file .stage)) _ (there .1) .1) in
+              let z : fileIdOf c ≡ j = sym y ∙ x in
+              rw z (equals-refl j)
+
+      file-heard : (w : Word) → wordOf (statusOf c) ≡ w → Marked m c after (fileHeed t i (sizeOf c) p w)
       unfolding fileHeed
       file-heard Word.Ok q = ok-heard q
       file-heard Word.Going q =
           record {
-            kept = unmoved c k (no-session Word.Other) (of-file Word.Other Word.Going q);
-            right = rw (of-file Word.Ok Word.Going q);
+            kept = unmoved c k (no-session Word.Other) as-before (of-file Word.Other Word.Going q);
+            said = rw (told-file Word.Going q);
             taken = refl;
           }
       file-heard Word.Other q = stop-heard q
 
     found-heard : (f : Found) → found (t .files) (fileIdOf c) ≡ f → (w : Word) → wordOf (statusOf c) ≡ w
-        → Heard m c (foundHeed t (sizeOf c) p w f)
+        → Marked m c after (foundHeed t (sizeOf c) p w f)
     unfolding foundHeed
     found-heard Found.Nowhere f w q = unknown-heard f
     found-heard (Found.At i) f w q = file-heard i f w q
 
-  pub status-heard : Heard m c (statusHeed t (fileIdOf c) (sizeOf c) p (wordOf (statusOf c)))
+  pub status-heard : Marked m c after (statusHeed t (fileIdOf c) (sizeOf c) p (wordOf (statusOf c)))
   unfolding statusHeed
   status-heard = go (eqb (length (fileIdOf c)) 0) refl
     where
       go : (b : Bool) → eqb (length (fileIdOf c)) 0 ≡ b
-          → Heard m c (cond b (sessionHeed t p (wordOf (statusOf c)))
+          → Marked m c after (cond b (sessionHeed t p (wordOf (statusOf c)))
           (foundHeed t (sizeOf c) p (wordOf (statusOf c)) (findFile t (fileIdOf c))))
       go true e = session-heard e (wordOf (statusOf c)) refl
       go false e = found-heard e (findFile t (fileIdOf c)) refl (wordOf (statusOf c)) refl

@@ -1,7 +1,8 @@
 -- A piece that is written keeps it.
 use Prim.Native.Nat.{ℕ, suc, _+_, _<_, min}
 use mathlib.Core.Path.{_≡_, refl, sym, _∙_}
-use mathlib.Core.Bool.{Bool, true, false}
+use mathlib.Core.Bool.{Bool, true, false, not, cond, _&&_}
+use mathlib.Core.Option.{Option}
 use mathlib.Core.List.{List, _∷_}
 use native.Mathlib.Omega.{arith}
 use native.Mathlib.Decide.{ℕ-discrete}
@@ -16,19 +17,20 @@ use Rattle.protocol.proofs.Laws.{first-at}
 use Rattle.sending.specs.Transfers.{freeFile, currentPlace, idOf, fileIdOf, isKnown, hasFileId}
 use Rattle.sending.specs.Transfers.{isSending, moved, sentLimit, grown, pieceStage, added}
 use Rattle.sending.specs.Story.{Mark}
-use Rattle.sending.specs.Every.{sumIn, someRead}
+use Rattle.sending.specs.Telling.{pendingIn, equalsSome, sumIn, someRead, fileStoppedIn, sendingIn}
 use Rattle.sending.specs.declared.SentFile.{SentFile}
 use Rattle.sending.specs.declared.Transfer.{Transfer}
 use Rattle.sending.proofs.Firsts.{first-same}
-use Rattle.sending.proofs.Kept.{Counted, FileOK, found, CurrentOK, Kept}
-use Rattle.sending.proofs.KeptWrites.{found-same, not-found, same-session}
+use Rattle.sending.proofs.Kept.{Counted, FileOK, found, PendingOK, CurrentOK, Kept}
+use Rattle.sending.proofs.Ready.{sending-told, pending-file}
+use Rattle.sending.proofs.KeptWrites.{found-same, not-found, allowed-as, same-session}
 
 piece-known : (last : Bool) → isKnown (pieceStage last) ≡ true
 piece-known true = refl
 piece-known false = refl
 
 module _ {t : Transfer} {m : List Mark} (b : List ℕ) (last : Bool) (k : Kept t m) (c : ℕ) (n : t .count ≡ suc c)
-    (busy : isSending (getD (t .files) c freeFile .stage) ≡ true) where
+    (busy : sendingIn m ≡ true) where
   abbrev fs : List SentFile
   fs = t .files
 
@@ -56,11 +58,31 @@ module _ {t : Transfer} {m : List Mark} (b : List ℕ) (last : Bool) (k : Kept t
   found-alike : (j : List ℕ) → found fs′ j ≡ found fs j
   found-alike j = first-same (hasFileId j) freeFile fs c file′ (alike j)
 
-  -- what the piece adds for an id
-  other-sum : (j : List ℕ) → equals (fileIdOf file) j ≡ false → sumIn j (Mark.pieced b ∷ m) ≡ sumIn j m
-  other-sum j q = rw (o .filed, q) (omega arith)
+  pending : pendingIn m ≡ Option.some (fileIdOf file)
+  pending = pending-file k c n busy
 
-  new-file : (j : List ℕ) (f : Found) → found fs j ≡ f → FileOK fs m j f → FileOK fs′ (Mark.pieced b ∷ m) j f
+  -- it is being sent
+  sends : isSending (file .stage) ≡ true
+  sends =
+      let place : currentPlace t ≡ c = omega (arith, n) in
+      sym (rw place at (sending-told k)) ∙ busy
+
+  -- what the piece adds for an id
+  other-sum : (j : List ℕ) → equals (fileIdOf file) j ≡ false → sumIn j (Mark.pieced b last ∷ m) ≡ sumIn j m
+  other-sum j q = rw (pending, q) (omega arith)
+
+  -- the file itself is being sent on, unless this was its last piece; another one is not
+  own-going : (l : Bool) (j : List ℕ) (i : ℕ) → Counted m j i file
+      → isSending (pieceStage l) ≡ (equalsSome j (cond l Option.none (pendingIn m)) && not (fileStoppedIn j m))
+  own-going true j i u = refl
+  own-going false j i u = sym sends ∙ u .going
+
+  other-going : (l : Bool) (j : List ℕ) (i : ℕ) {f : SentFile} → equals (fileIdOf file) j ≡ false → Counted m j i f
+      → isSending (f .stage) ≡ (equalsSome j (cond l Option.none (pendingIn m)) && not (fileStoppedIn j m))
+  other-going true j i q u = u .going ∙ rw (pending, q)
+  other-going false j i q u = u .going
+
+  new-file : (j : List ℕ) (f : Found) → found fs j ≡ f → FileOK fs m j f → FileOK fs′ (Mark.pieced b last ∷ m) j f
   unfolding someRead grown
   new-file j Found.Nowhere e u =
       record { filed = u .filed; none = other-sum j (apart (equals (fileIdOf file) j) refl) ∙ u .none; going = u .going }
@@ -70,33 +92,42 @@ module _ {t : Transfer} {m : List Mark} (b : List ℕ) (last : Bool) (k : Kept t
       apart true q = not-found {i = c} (sym e ∙ rw (← equals-sound (fileIdOf file) j q) (o .there))
   new-file j (Found.At i) e u = go (ℕ-discrete i c)
     where
-      go : Dec (i ≡ c) → Counted (Mark.pieced b ∷ m) j (getD fs′ i freeFile)
+      go : Dec (i ≡ c) → Counted (Mark.pieced b last ∷ m) j i (getD fs′ i freeFile)
       go (yes z) =
           let p = first-at (hasFileId j) freeFile fs i e in
           let q : hasFileId j file ≡ true = rw z at (p .1) in
           let w : fileIdOf file ≡ j = equals-sound (fileIdOf file) j (both-test (isKnown (file .stage)) (equals (fileIdOf file) j) q .1) in
-          let s : sumIn j (Mark.pieced b ∷ m) ≡ length b + sumIn j m = rw (o .filed, w, equals-refl j) in
-          let old : file .sent ≡ min (sumIn j m) sentLimit = rw z at (u .counted) in
-          rw (z, here) (record { filed = u .filed; counted = rw s (omega arith); going = λ _. u .going (rw z busy) })
+          let s : sumIn j (Mark.pieced b last ∷ m) ≡ length b + sumIn j m = rw (pending, w, equals-refl j) in
+          let v : Counted m j c file = rw z at u in
+          let old : file .sent ≡ min (sumIn j m) sentLimit = v .counted in
+          rw (z, here) (record { filed = v .filed; place = v .place; counted = rw s (omega arith); going = own-going last j c v })
       go (no z) =
           let q : equals (fileIdOf file) j ≡ false = apart (equals (fileIdOf file) j) refl in
           rw (getD-set-other fs c i file′ freeFile z)
-          (record { filed = u .filed; counted = rw (other-sum j q) (u .counted); going = u .going })
+          (record { filed = u .filed; place = u .place; counted = rw (other-sum j q) (u .counted); going = other-going last j i q u })
         where
           apart : (x : Bool) → equals (fileIdOf file) j ≡ x → equals (fileIdOf file) j ≡ false
           apart false q = q
           apart true q = absurd (z (found-same (sym e ∙ rw (← equals-sound (fileIdOf file) j q) (o .there))))
 
-  pub kept-pieced : Kept (added t (length b) last) (Mark.pieced b ∷ m)
+  still-pending : (l : Bool) → PendingOK (fileIdOf file) (cond l Option.none (pendingIn m))
+  still-pending true = tt
+  still-pending false = o .pending
+
+  pub kept-pieced : Kept (added t (length b) last) (Mark.pieced b last ∷ m)
   unfolding someRead
   kept-pieced =
       let place : currentPlace t ≡ c = omega (arith, n) in
       rw place (record {
         sized = length-set fs c file′ ∙ k .sized;
-        session = same-session m (Mark.pieced b ∷ m) (idOf t) refl refl (λ q. q) (t .stage) (k .session);
+        session = same-session m (Mark.pieced b last ∷ m) (idOf t) refl refl refl (t .stage) (allowed-as refl (t .stage)) (k .session);
+        safe = k .safe;
+        short = k .short;
         files = λ j. rw (found-alike j) (new-file j (found fs j) refl (k .files j));
         free = λ j h. rw (getD-set-other fs c j file′ freeFile (λ z. omega arith)) (k .free j h);
+        many = k .many;
+        none = λ q. absurd (omega (arith, n));
         current = λ d q.
             let z : d ≡ c = omega arith in
-            rw z (record { filed = rw here (o .filed); there = rw here (found-alike (fileIdOf file) ∙ o .there) });
+            rw z (record { pending = rw here (still-pending last); there = rw here (found-alike (fileIdOf file) ∙ o .there) });
       })

@@ -10,21 +10,25 @@ use lib.Seq.{getD-set-same, getD-set-other}
 use Rattle.octets.specs.Slices.{equals}
 use Rattle.octets.proofs.Below.{both-test}
 use Rattle.octets.proofs.Compare.{equals-refl, equals-sound}
-use Rattle.protocol.specs.Table.{padded}
+use Rattle.octets.specs.Members.{every}
+use Rattle.command.specs.Letters.{safeByte}
+use Rattle.protocol.specs.Table.{fileRoom, idRoom, padded}
 use Rattle.protocol.specs.declared.Found.{Found}
 use Rattle.protocol.specs.declared.Found.the-variants as Found
 use Rattle.protocol.proofs.Laws.{no-way, first-at, padded-id}
 use Rattle.sending.specs.Transfers.{freeFile, idOf, fileIdOf, isKnown, hasFileId}
-use Rattle.sending.specs.Transfers.{isFresh, withStage, asked, begun}
+use Rattle.sending.specs.Transfers.{isFresh, isOpen, withStage, asked, begun}
 use Rattle.sending.specs.Story.{Mark}
-use Rattle.sending.specs.Every.{sessionIn, filedIn, sumIn, someRead, allowedIn, stoppedIn, fileStoppedIn}
+use Rattle.sending.specs.Telling.{sessionIn, pendingIn, finishedIn, filesIn, sumIn, someRead, allowedIn, stoppedIn, fileStoppedIn}
+use Rattle.sending.specs.Telling.{sendingIn}
 use Rattle.sending.specs.declared.Stage.{Stage}
 use Rattle.sending.specs.declared.Stage.the-variants as Stage
 use Rattle.sending.specs.declared.FileStage.the-variants as FileStage
 use Rattle.sending.specs.declared.SentFile.{SentFile}
 use Rattle.sending.specs.declared.Transfer.{Transfer}
 use Rattle.sending.proofs.Firsts.{first-same, first-new}
-use Rattle.sending.proofs.Kept.{Unknown, FileOK, SessionOK, found, Kept}
+use Rattle.sending.proofs.Kept.{Unknown, FileOK, Says, SessionOK, found, Kept}
+use Rattle.sending.proofs.Ready.{idle-for}
 
 -- ---- places that are found
 pub found-same : {i j : ℕ} → Found.At i ≡ Found.At j → i ≡ j
@@ -34,56 +38,92 @@ pub not-found : {A : Type 0} {i : ℕ} → Found.Nowhere ≡ Found.At i → A
 not-found e = let z : _≡_ {A = ℕ} 0 1 = cc in absurd (omega arith)
 
 -- ---- marks that say the same of an id
-pub same-file : (m m′ : List Mark) (k : List ℕ) (fs : List SentFile) → filedIn k m′ ≡ filedIn k m → sumIn k m′ ≡ sumIn k m
-    → fileStoppedIn k m′ ≡ fileStoppedIn k m → (f : Found) → FileOK fs m k f → FileOK fs m′ k f
-same-file m m′ k fs e s g Found.Nowhere u = record { filed = e ∙ u .filed; none = s ∙ u .none; going = g ∙ u .going }
-same-file m m′ k fs e s g (Found.At i) c = record { filed = e ∙ c .filed; counted = rw s (c .counted); going = λ q. g ∙ c .going q }
+pub same-file : (m m′ : List Mark) (k : List ℕ) (fs : List SentFile) → filesIn m′ ≡ filesIn m → pendingIn m′ ≡ pendingIn m
+    → sumIn k m′ ≡ sumIn k m → fileStoppedIn k m′ ≡ fileStoppedIn k m → (f : Found) → FileOK fs m k f → FileOK fs m′ k f
+same-file m m′ k fs e p s g Found.Nowhere u = record { filed = rw e (u .filed); none = s ∙ u .none; going = g ∙ u .going }
+same-file m m′ k fs e p s g (Found.At i) c =
+    record { filed = rw e (c .filed); place = rw e (c .place); counted = rw s (c .counted); going = rw (p, g) (c .going) }
 
--- and of the session
+-- and of the session; a stopped one may be allowed or not
+abbrev pub AllowedAs : Bool → Bool → Stage → Type 0
+AllowedAs a b Stage.Fresh = a ≡ b
+AllowedAs a b Stage.Waiting = a ≡ b
+AllowedAs a b Stage.Open = a ≡ b
+AllowedAs a b Stage.Finished = a ≡ b
+AllowedAs a b Stage.Stopped = Unit {0}
+
+pub allowed-as : {a b : Bool} → a ≡ b → (g : Stage) → AllowedAs a b g
+allowed-as e Stage.Fresh = e
+allowed-as e Stage.Waiting = e
+allowed-as e Stage.Open = e
+allowed-as e Stage.Finished = e
+allowed-as e Stage.Stopped = tt
+
 pub same-session : (m m′ : List Mark) (id : List ℕ) → sessionIn m′ ≡ sessionIn m → stoppedIn m′ ≡ stoppedIn m
-    → (allowedIn m ≡ true → allowedIn m′ ≡ true) → (g : Stage) → SessionOK id m g → SessionOK id m′ g
-same-session m m′ id e s a Stage.Fresh o = (e ∙ o .0, s ∙ o .1)
-same-session m m′ id e s a Stage.Waiting o = (e ∙ o .0, s ∙ o .1)
-same-session m m′ id e s a Stage.Open o = (e ∙ o .0, s ∙ o .1, a (o .2))
-same-session m m′ id e s a Stage.Finished o = e ∙ o
-same-session m m′ id e s a Stage.Stopped o = e ∙ o
+    → finishedIn m′ ≡ finishedIn m → (g : Stage) → AllowedAs (allowedIn m′) (allowedIn m) g → SessionOK id m g → SessionOK id m′ g
+same-session m m′ id e s f Stage.Fresh a o =
+    record { session = e ∙ o .session; allowed = a ∙ o .allowed; stopped = s ∙ o .stopped; finished = f ∙ o .finished }
+same-session m m′ id e s f Stage.Waiting a o =
+    record { session = e ∙ o .session; allowed = a ∙ o .allowed; stopped = s ∙ o .stopped; finished = f ∙ o .finished }
+same-session m m′ id e s f Stage.Open a o =
+    record { session = e ∙ o .session; allowed = a ∙ o .allowed; stopped = s ∙ o .stopped; finished = f ∙ o .finished }
+same-session m m′ id e s f Stage.Finished a o =
+    record { session = e ∙ o .session; allowed = a ∙ o .allowed; stopped = s ∙ o .stopped; finished = f ∙ o .finished }
+same-session m m′ id e s f Stage.Stopped a o = (e ∙ o .0, s ∙ o .1)
 
 -- ---- send
-fresh-session : (id : List ℕ) (m : List Mark) (g : Stage) → isFresh g ≡ true → SessionOK id m g → stoppedIn m ≡ false
-fresh-session id m Stage.Fresh e o = o .1
+fresh-session : (id : List ℕ) (m : List Mark) (g : Stage) → isFresh g ≡ true → SessionOK id m g → Says m Option.none false false false
+fresh-session id m Stage.Fresh e o = o
 fresh-session id m Stage.Waiting e o = no-way (sym e)
 fresh-session id m Stage.Open e o = no-way (sym e)
 fresh-session id m Stage.Finished e o = no-way (sym e)
 fresh-session id m Stage.Stopped e o = no-way (sym e)
 
-pub kept-sent : {t : Transfer} {m : List Mark} (id : List ℕ) → Kept t m → isFresh (t .stage) ≡ true → length id ≤ 32
-    → Kept (asked t id) (Mark.sent id ∷ m)
+pub kept-sent : {t : Transfer} {m : List Mark} (id : List ℕ) → Kept t m → isFresh (t .stage) ≡ true → length id ≤ idRoom
+    → every safeByte id ≡ true → Kept (asked t id) (Mark.sent id ∷ m)
 unfolding someRead
-kept-sent {t} {m} id k e l =
+kept-sent {t} {m} id k e l safe =
+    let s = fresh-session (idOf t) m (t .stage) e (k .session) in
     record {
       sized = k .sized;
-      session = (rw (padded-id id l), fresh-session (idOf t) m (t .stage) e (k .session));
-      files = λ j. same-file m (Mark.sent id ∷ m) j (t .files) refl refl refl (found (t .files) j) (k .files j);
+      session = rw (padded-id id l) (record { session = refl; allowed = s .allowed; stopped = s .stopped; finished = s .finished });
+      safe = rw (padded-id id l) safe;
+      short = rw (padded-id id l) l;
+      files = λ j. same-file m (Mark.sent id ∷ m) j (t .files) refl refl refl refl (found (t .files) j) (k .files j);
       free = k .free;
-      current = λ c q. let o = k .current c q in record { filed = o .filed; there = o .there };
+      many = k .many;
+      none = k .none;
+      current = λ c q. let o = k .current c q in record { pending = o .pending; there = o .there };
     }
 
 -- ---- finish
-pub kept-finished : {t : Transfer} {m : List Mark} → Kept t m → sessionIn m ≡ Option.some (idOf t)
+open-says : (id : List ℕ) (m : List Mark) (g : Stage) → isOpen g ≡ true → SessionOK id m g → Says m (Option.some id) true false false
+open-says id m Stage.Fresh e o = no-way (sym e)
+open-says id m Stage.Waiting e o = no-way (sym e)
+open-says id m Stage.Open e o = o
+open-says id m Stage.Finished e o = no-way (sym e)
+open-says id m Stage.Stopped e o = no-way (sym e)
+
+pub kept-finished : {t : Transfer} {m : List Mark} → Kept t m → isOpen (t .stage) ≡ true
     → Kept (withStage t Stage.Finished) (Mark.finished ∷ m)
 unfolding someRead
 kept-finished {t} {m} k e =
+    let s = open-says (idOf t) m (t .stage) e (k .session) in
     record {
       sized = k .sized;
-      session = e;
-      files = λ j. same-file m (Mark.finished ∷ m) j (t .files) refl refl refl (found (t .files) j) (k .files j);
+      session = record { session = s .session; allowed = s .allowed; stopped = s .stopped; finished = refl };
+      safe = k .safe;
+      short = k .short;
+      files = λ j. same-file m (Mark.finished ∷ m) j (t .files) refl refl refl refl (found (t .files) j) (k .files j);
       free = k .free;
-      current = λ c q. let o = k .current c q in record { filed = o .filed; there = o .there };
+      many = k .many;
+      none = k .none;
+      current = λ c q. let o = k .current c q in record { pending = o .pending; there = o .there };
     }
 
 -- ---- file
-module _ {t : Transfer} {m : List Mark} (id : List ℕ) (k : Kept t m) (l : length id ≤ 32) (room : t .count < 32)
-    (new : found (t .files) id ≡ Found.Nowhere) where
+module _ {t : Transfer} {m : List Mark} (id : List ℕ) (k : Kept t m) (l : length id ≤ idRoom) (room : t .count < fileRoom)
+    (new : found (t .files) id ≡ Found.Nowhere) (idle : sendingIn m ≡ false) where
   abbrev fs : List SentFile
   fs = t .files
 
@@ -117,13 +157,24 @@ module _ {t : Transfer} {m : List Mark} (id : List ℕ) (k : Kept t m) (l : leng
           let known : isKnown (getD fs i freeFile .stage) ≡ true = both-test _ _ (p .1) .0 in
           let other : i ≡ t .count → ⊥ = λ z. no-way (sym known ∙ rw z (k .free (t .count) (omega arith))) in
           rw (getD-set-other fs (t .count) i file freeFile other)
-          (record { filed = rw q (c .filed); counted = c .counted; going = c .going })
+          (record {
+            filed = rw q (c .filed);
+            place = rw q (c .place);
+            counted = c .counted;
+            going = rw q (c .going ∙ idle-for j m idle);
+          })
 
       go : (b : Bool) → equals id j ≡ b → FileOK fs′ (Mark.filed id ∷ m) j (found fs′ j)
       go true q =
           let z = equals-sound id j q in
           let u : Unknown m id = rw new at (k .files id) in
-          rw (← z, new-found, here) (record { filed = rw (equals-refl id); counted = rw (u .none); going = λ _. u .going })
+          rw (← z, new-found, here)
+          (record {
+            filed = rw (equals-refl id);
+            place = rw (equals-refl id) (k .many);
+            counted = rw (u .none);
+            going = rw (equals-refl id, u .going);
+          })
       go false q =
           let free : hasFileId j (getD fs (t .count) freeFile) ≡ false = rw (k .free (t .count) (omega arith)) in
           let alike : hasFileId j file ≡ hasFileId j (getD fs (t .count) freeFile) = rw (own, q, free) in
@@ -134,10 +185,15 @@ module _ {t : Transfer} {m : List Mark} (id : List ℕ) (k : Kept t m) (l : leng
   kept-filed =
       record {
         sized = length-set fs (t .count) file ∙ k .sized;
-        session = same-session m (Mark.filed id ∷ m) (idOf t) refl refl (λ q. q) (t .stage) (k .session);
+        session =
+            same-session m (Mark.filed id ∷ m) (idOf t) refl refl refl (t .stage) (allowed-as refl (t .stage)) (k .session);
+        safe = k .safe;
+        short = k .short;
         files = new-file;
         free = λ j h. rw (getD-set-other fs (t .count) j file freeFile (λ z. omega arith)) (k .free j (omega arith));
+        many = omega (arith, k .many);
+        none = λ q. absurd (omega arith);
         current = λ c q.
             let z : c ≡ t .count = omega arith in
-            rw z (record { filed = rw (here, own); there = rw (here, own) new-found });
+            rw z (record { pending = rw (here, own); there = rw (here, own) new-found });
       }

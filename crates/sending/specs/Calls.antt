@@ -83,7 +83,7 @@ isFound (Found.At i) = true
 abbrev pub isTaken : Transfer → List ℕ → Bool
 isTaken t id = leb fileRoom (t .count) || isFound (findFile t id)
 
--- the refusal of a file id over 32 bytes: its own field's, which is the writer's where the session's id is one
+-- the refusal of a file id over 32 bytes: its own field's, which is the writer's where the session's id is safe and has at most 32 bytes
 unfoldable pub longRefusal : List ℕ → ℕ
 longRefusal id = cond (every safeByte id) (Refusals.refusalNumber Refusal.TooLong) (Refusals.refusalNumber Refusal.UnsafeCharacter)
 

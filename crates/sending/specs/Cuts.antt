@@ -6,45 +6,19 @@ use mathlib.Core.List.{List, [], _∷_, _++_}
 use lib.ListN.{length, take}
 use lib.Dec.{ltb}
 use Rattle.octets.specs.Outcome.{Outcome}
-use Rattle.decimal.specs.declared.Number.{Number}
 use Rattle.frames.specs.Calls.{textOf}
 use Rattle.command.specs.Framed.{frameRoom}
-use Rattle.protocol.specs.Sessions.{stringIn}
 use Rattle.protocol.specs.Cuts.{isReport, callsAmong}
 use Rattle.sending.specs.Calls.{Listening}
 use Rattle.sending.specs.Machine.{Machine}
+use Rattle.sending.specs.Sayings.{Saying, saying}
 use Rattle.sending.specs.Story.{Call, World, step, start, bytesOf}
 use Rattle.sending.specs.Every.{AllLent}
 use Rattle.sending.specs.declared.Writing.{Writing}
 use Rattle.sending.specs.declared.Writing.the-variants as Writing
 use Rattle.sending.specs.declared.Wrote.{Wrote}
-use Rattle.sending.specs.declared.News.{News}
-use Rattle.sending.specs.declared.News.the-variants as News
 
 -- ---- what a call gives, places apart
--- what is told: a status that stopped by its bytes; or that a frame was written
-pub data Saying : Type 0 where
-  nothing : Saying
-  refused : ℕ → Saying
-  ignored : Saying
-  noted : Saying
-  allowed : Saying
-  differs : ℕ → Number → Saying
-  fileStopped : ℕ → List ℕ → Saying
-  sessionStopped : List ℕ → Saying
-  written : Saying
-
--- given the scratch that the places are in
-abbrev pub saying : News → List ℕ → Saying
-saying News.Nothing scratch = Saying.nothing
-saying (News.Refused n) scratch = Saying.refused n
-saying News.Ignored scratch = Saying.ignored
-saying News.Noted scratch = Saying.noted
-saying News.Allowed scratch = Saying.allowed
-saying (News.Differs i z) scratch = Saying.differs i z
-saying (News.FileStopped i p) scratch = Saying.fileStopped i (stringIn scratch p)
-saying (News.SessionStopped p) scratch = Saying.sessionStopped (stringIn scratch p)
-
 -- a report of a hear, or a call that writes
 pub data Move : Type 0 where
   report : Move

@@ -83,12 +83,12 @@ AllRun [] = Unit {0}
 AllRun (e ∷ es) = Runs e × AllRun es
 
 -- the frame of the text after `5113;`
-abbrev pub writes : String → Result
-writes s = Result.wrote (framed (ascii "5113;" ++ ascii s))
+abbrev pub wroteText : String → Result
+wroteText s = Result.wrote (framed (ascii "5113;" ++ ascii s))
 
 -- the first n bytes of the scratch
-abbrev pub first : ℕ → Place
-first n = record { start = 0; len = n }
+abbrev pub upTo : ℕ → Place
+upTo n = record { start = 0; len = n }
 
 -- ---- the examples
 -- "It writes nothing after send until OK"; the `sz` as given; "end_data with the last piece"
@@ -100,9 +100,9 @@ inOrder =
           ∷ Item.hear (ascii "5113;ac=status;id=m;st=T0s=") ∷ Item.file (ascii "a") (ascii "/nz") 3 ∷ Item.part (ascii "ab")
           ∷ Item.last (ascii "c") ∷ Item.fin ∷ [];
       results =
-          writes "ac=send;id=m" ∷ Result.refused 18 ∷ Result.refused 18 ∷ Result.told News.Allowed
-          ∷ writes "ac=file;id=m;fid=a;sz=3;n=L256" ∷ writes "ac=data;id=m;fid=a;d=YWI="
-          ∷ writes "ac=end_data;id=m;fid=a;d=Yw==" ∷ writes "ac=finish;id=m" ∷ [];
+          wroteText "ac=send;id=m" ∷ Result.refused 18 ∷ Result.refused 18 ∷ Result.told News.Allowed
+          ∷ wroteText "ac=file;id=m;fid=a;sz=3;n=L256" ∷ wroteText "ac=data;id=m;fid=a;d=YWI="
+          ∷ wroteText "ac=end_data;id=m;fid=a;d=Yw==" ∷ wroteText "ac=finish;id=m" ∷ [];
       stage = Stage.Finished;
       files = (FileStage.Sent, 3) ∷ [];
     }
@@ -115,8 +115,8 @@ oneAtATime =
           Item.snd (ascii "m") ∷ Item.hear (ascii "5113;ac=status;id=m;st=T0s=") ∷ Item.file (ascii "a") (ascii "/nz") 0
           ∷ Item.file (ascii "b") (ascii "/nz") 0 ∷ Item.last [] ∷ Item.fin ∷ Item.file (ascii "b") (ascii "/nz") 0 ∷ [];
       results =
-          writes "ac=send;id=m" ∷ Result.told News.Allowed ∷ writes "ac=file;id=m;fid=a;n=L256" ∷ Result.refused 18
-          ∷ writes "ac=end_data;id=m;fid=a" ∷ writes "ac=finish;id=m" ∷ Result.refused 18 ∷ [];
+          wroteText "ac=send;id=m" ∷ Result.told News.Allowed ∷ wroteText "ac=file;id=m;fid=a;n=L256" ∷ Result.refused 18
+          ∷ wroteText "ac=end_data;id=m;fid=a" ∷ wroteText "ac=finish;id=m" ∷ Result.refused 18 ∷ [];
       stage = Stage.Finished;
       files = (FileStage.Sent, 0) ∷ [];
     }
@@ -130,7 +130,7 @@ otherReplies =
           ∷ Item.hear (ascii "5113;ac=status;id=m;st=T0s") ∷ Item.hear (ascii "5113;ac=send;id=m")
           ∷ Item.file (ascii "a") (ascii "/nz") 0 ∷ [];
       results =
-          writes "ac=send;id=m" ∷ Result.told News.Ignored ∷ Result.told (News.Refused 65) ∷ Result.told News.Ignored
+          wroteText "ac=send;id=m" ∷ Result.told News.Ignored ∷ Result.told (News.Refused 65) ∷ Result.told News.Ignored
           ∷ Result.refused 18 ∷ [];
       stage = Stage.Waiting;
       files = [];
@@ -146,8 +146,8 @@ onlyOk =
           ∷ Item.hear (ascii "5113;ac=status;id=m;st=T0s=") ∷ Item.hear (ascii "5113;ac=status;id=m;st=T0s=")
           ∷ Item.file (ascii "a") (ascii "/nz") 0 ∷ [];
       results =
-          writes "ac=send;id=m" ∷ Result.told News.Noted ∷ Result.told News.Noted ∷ Result.refused 18
-          ∷ Result.told News.Allowed ∷ Result.told News.Noted ∷ writes "ac=file;id=m;fid=a;n=L256" ∷ [];
+          wroteText "ac=send;id=m" ∷ Result.told News.Noted ∷ Result.told News.Noted ∷ Result.refused 18
+          ∷ Result.told News.Allowed ∷ Result.told News.Noted ∷ wroteText "ac=file;id=m;fid=a;n=L256" ∷ [];
       stage = Stage.Open;
       files = (FileStage.Sending, 0) ∷ [];
     }
@@ -162,10 +162,10 @@ fileStopped =
           ∷ Item.last (ascii "x") ∷ Item.file (ascii "a") (ascii "/nz") 0 ∷ Item.file (ascii "b") (ascii "/nz") 0
           ∷ Item.last (ascii "q") ∷ Item.fin ∷ [];
       results =
-          writes "ac=send;id=m" ∷ Result.told News.Allowed ∷ writes "ac=file;id=m;fid=a;n=L256"
-          ∷ writes "ac=data;id=m;fid=a;d=YWJj" ∷ Result.told (News.FileStopped 0 (first 3)) ∷ Result.refused 18
-          ∷ Result.refused 18 ∷ Result.refused 17 ∷ writes "ac=file;id=m;fid=b;n=L256"
-          ∷ writes "ac=end_data;id=m;fid=b;d=cQ==" ∷ writes "ac=finish;id=m" ∷ [];
+          wroteText "ac=send;id=m" ∷ Result.told News.Allowed ∷ wroteText "ac=file;id=m;fid=a;n=L256"
+          ∷ wroteText "ac=data;id=m;fid=a;d=YWJj" ∷ Result.told (News.FileStopped 0 (upTo 3)) ∷ Result.refused 18
+          ∷ Result.refused 18 ∷ Result.refused 17 ∷ wroteText "ac=file;id=m;fid=b;n=L256"
+          ∷ wroteText "ac=end_data;id=m;fid=b;d=cQ==" ∷ wroteText "ac=finish;id=m" ∷ [];
       stage = Stage.Finished;
       files = (FileStage.Stopped, 3) ∷ (FileStage.Sent, 1) ∷ [];
     }
@@ -177,7 +177,7 @@ noStatus =
       items =
           Item.snd (ascii "m") ∷ Item.hear (ascii "5113;ac=status;id=m") ∷ Item.file (ascii "a") (ascii "/nz") 0 ∷ [];
       results =
-          writes "ac=send;id=m" ∷ Result.told (News.SessionStopped (first 0)) ∷ Result.refused 18 ∷ [];
+          wroteText "ac=send;id=m" ∷ Result.told (News.SessionStopped (upTo 0)) ∷ Result.refused 18 ∷ [];
       stage = Stage.Stopped;
       files = [];
     }
@@ -189,7 +189,7 @@ wholeWord =
       items =
           Item.snd (ascii "m") ∷ Item.hear (ascii "5113;ac=status;id=m;st=T0s6ZmluZQ==") ∷ Item.fin ∷ [];
       results =
-          writes "ac=send;id=m" ∷ Result.told (News.SessionStopped (first 7)) ∷ Result.refused 18 ∷ [];
+          wroteText "ac=send;id=m" ∷ Result.told (News.SessionStopped (upTo 7)) ∷ Result.refused 18 ∷ [];
       stage = Stage.Stopped;
       files = [];
     }
@@ -202,8 +202,8 @@ failedCommit =
           Item.snd (ascii "m") ∷ Item.hear (ascii "5113;ac=status;id=m;st=T0s=") ∷ Item.fin
           ∷ Item.hear (ascii "5113;ac=status;id=m;st=RUlP") ∷ Item.fin ∷ [];
       results =
-          writes "ac=send;id=m" ∷ Result.told News.Allowed ∷ writes "ac=finish;id=m"
-          ∷ Result.told (News.SessionStopped (first 3)) ∷ Result.refused 18 ∷ [];
+          wroteText "ac=send;id=m" ∷ Result.told News.Allowed ∷ wroteText "ac=finish;id=m"
+          ∷ Result.told (News.SessionStopped (upTo 3)) ∷ Result.refused 18 ∷ [];
       stage = Stage.Stopped;
       files = [];
     }
@@ -218,8 +218,8 @@ sizeDiffers =
           ∷ Item.hear (ascii "5113;ac=status;id=m;fid=a;sz=-3;st=T0s=")
           ∷ Item.hear (ascii "5113;ac=status;id=m;fid=a;sz=3;st=T0s=") ∷ [];
       results =
-          writes "ac=send;id=m" ∷ Result.told News.Allowed ∷ writes "ac=file;id=m;fid=a;n=L256"
-          ∷ writes "ac=end_data;id=m;fid=a;d=YWJj" ∷ Result.told (News.Differs 0 (count 2))
+          wroteText "ac=send;id=m" ∷ Result.told News.Allowed ∷ wroteText "ac=file;id=m;fid=a;n=L256"
+          ∷ wroteText "ac=end_data;id=m;fid=a;d=YWJj" ∷ Result.told (News.Differs 0 (count 2))
           ∷ Result.told (News.Differs 0 (record { negative = true; magnitude = 3 })) ∷ Result.told News.Noted ∷ [];
       stage = Stage.Open;
       files = (FileStage.Closed, 3) ∷ [];
@@ -235,8 +235,8 @@ anyStage =
           ∷ Item.hear (ascii "5113;ac=status;id=m;fid=a;st=T0s=")
           ∷ Item.hear (ascii "5113;ac=status;id=m;fid=a;sz=99;st=UFJPR1JFU1M=") ∷ [];
       results =
-          writes "ac=send;id=m" ∷ Result.told News.Allowed ∷ writes "ac=file;id=m;fid=a;n=L256" ∷ Result.told News.Noted
-          ∷ writes "ac=data;id=m;fid=a;d=YWJj" ∷ Result.told (News.Differs 0 (count 0)) ∷ Result.told News.Noted ∷ [];
+          wroteText "ac=send;id=m" ∷ Result.told News.Allowed ∷ wroteText "ac=file;id=m;fid=a;n=L256" ∷ Result.told News.Noted
+          ∷ wroteText "ac=data;id=m;fid=a;d=YWJj" ∷ Result.told (News.Differs 0 (count 0)) ∷ Result.told News.Noted ∷ [];
       stage = Stage.Open;
       files = (FileStage.Sending, 3) ∷ [];
     }
@@ -249,7 +249,7 @@ sendRefused =
           Item.snd [] ∷ Item.snd (ascii "a;b") ∷ Item.snd (replicate 33 105) ∷ Item.snd (replicate 33 105 ++ ascii "!")
           ∷ Item.snd (ascii "m") ∷ Item.snd (ascii "m") ∷ [];
       results =
-          Result.refused 7 ∷ Result.refused 62 ∷ Result.refused 8 ∷ Result.refused 62 ∷ writes "ac=send;id=m"
+          Result.refused 7 ∷ Result.refused 62 ∷ Result.refused 8 ∷ Result.refused 62 ∷ wroteText "ac=send;id=m"
           ∷ Result.refused 18 ∷ [];
       stage = Stage.Waiting;
       files = [];
@@ -265,7 +265,7 @@ fileRefused =
           ∷ Item.file (replicate 40 102 ++ ascii "!") (ascii "/nz") 0
           ∷ Item.file (ascii "a") (ascii "/nz") 9223372036854775808 ∷ Item.file (ascii "a") (replicate 6124 47) 0 ∷ [];
       results =
-          writes "ac=send;id=m" ∷ Result.told News.Allowed ∷ Result.refused 8 ∷ Result.refused 62 ∷ Result.refused 62
+          wroteText "ac=send;id=m" ∷ Result.told News.Allowed ∷ Result.refused 8 ∷ Result.refused 62 ∷ Result.refused 62
           ∷ Result.refused 64 ∷ Result.refused 9 ∷ [];
       stage = Stage.Open;
       files = [];
@@ -280,8 +280,8 @@ pieceRefused =
           ∷ Item.file (ascii "a") (ascii "/nz") 0 ∷ Item.part (replicate 4097 120) ∷ Item.fin
           ∷ Item.file (ascii "b") (ascii "/nz") 0 ∷ Item.last [] ∷ [];
       results =
-          writes "ac=send;id=m" ∷ Result.told News.Allowed ∷ Result.refused 17 ∷ writes "ac=file;id=m;fid=a;n=L256"
-          ∷ Result.refused 17 ∷ Result.refused 18 ∷ Result.refused 18 ∷ writes "ac=end_data;id=m;fid=a" ∷ [];
+          wroteText "ac=send;id=m" ∷ Result.told News.Allowed ∷ Result.refused 17 ∷ wroteText "ac=file;id=m;fid=a;n=L256"
+          ∷ Result.refused 17 ∷ Result.refused 18 ∷ Result.refused 18 ∷ wroteText "ac=end_data;id=m;fid=a" ∷ [];
       stage = Stage.Open;
       files = (FileStage.Sent, 0) ∷ [];
     }
@@ -295,8 +295,8 @@ repeated =
           ∷ Item.last [] ∷ Item.file (ascii "a") (ascii "/x") 0 ∷ Item.file (ascii "a") (replicate 7000 47) 0
           ∷ Item.file (ascii "b") (replicate 7000 47) 0 ∷ [];
       results =
-          writes "ac=send;id=m" ∷ Result.told News.Allowed ∷ writes "ac=file;id=m;fid=a;n=L256"
-          ∷ writes "ac=end_data;id=m;fid=a" ∷ Result.refused 17 ∷ Result.refused 17 ∷ Result.refused 9 ∷ [];
+          wroteText "ac=send;id=m" ∷ Result.told News.Allowed ∷ wroteText "ac=file;id=m;fid=a;n=L256"
+          ∷ wroteText "ac=end_data;id=m;fid=a" ∷ Result.refused 17 ∷ Result.refused 17 ∷ Result.refused 9 ∷ [];
       stage = Stage.Open;
       files = (FileStage.Sent, 0) ∷ [];
     }

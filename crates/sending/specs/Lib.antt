@@ -5,6 +5,8 @@ pub mod Calls
 pub mod Machine
 pub mod Examples
 pub mod Claims
+pub mod Sayings
 pub mod Story
+pub mod Telling
 pub mod Every
 pub mod Cuts

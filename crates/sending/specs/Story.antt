@@ -6,9 +6,8 @@ use mathlib.Core.List.{List, [], _∷_, _++_}
 use lib.ListN.{take}
 use lib.Dec.{eqb}
 use Rattle.frames.specs.Stream.{Mode, stream}
-use Rattle.frames.specs.Stream as Stream
 use Rattle.command.specs.Values.{Value}
-use Rattle.command.specs.Meaning.{Meaning, meaningOf}
+use Rattle.protocol.specs.Readings.{toldMarks}
 use Rattle.sending.specs.Transfers.{freshSender}
 use Rattle.sending.specs.Calls.{Listening}
 use Rattle.sending.specs.Machine.{Machine}
@@ -31,7 +30,7 @@ pub data Call : Type 0 where
 pub data Event : Type 0 where
   sent : List ℕ → Event
   filed : List ℕ → Event
-  pieced : List ℕ → Event
+  pieced : List ℕ → (last : Bool) → Event
   finished : Event
   heard : List ℕ → Event
 
@@ -72,7 +71,7 @@ afterHearing w bytes l =
 abbrev pub step : Machine → World → Call → World
 step m w (Call.send id out) = afterWriting w (Event.sent id) (m .sends (w .sender) id out .answer)
 step m w (Call.file id name size out) = afterWriting w (Event.filed id) (m .files (w .sender) id name size out .answer)
-step m w (Call.piece contents last out) = afterWriting w (Event.pieced contents) (m .pieces (w .sender) contents last out .answer)
+step m w (Call.piece contents last out) = afterWriting w (Event.pieced contents last) (m .pieces (w .sender) contents last out .answer)
 step m w (Call.finish out) = afterWriting w Event.finished (m .finishes (w .sender) out .answer)
 step m w (Call.hear bytes carry scratch) = afterHearing w bytes (m .hears (w .sender) bytes carry scratch)
 
@@ -94,7 +93,7 @@ abbrev pub bytesOf : List Event → List ℕ
 bytesOf [] = []
 bytesOf (Event.sent id ∷ h) = bytesOf h
 bytesOf (Event.filed id ∷ h) = bytesOf h
-bytesOf (Event.pieced b ∷ h) = bytesOf h
+bytesOf (Event.pieced b last ∷ h) = bytesOf h
 bytesOf (Event.finished ∷ h) = bytesOf h
 bytesOf (Event.heard bs ∷ h) = bytesOf h ++ bs
 
@@ -104,27 +103,14 @@ modeAfter h = stream Mode.outside (bytesOf h) .1
 pub data Mark : Type 0 where
   sent : List ℕ → Mark
   filed : List ℕ → Mark
-  pieced : List ℕ → Mark
+  pieced : List ℕ → (last : Bool) → Mark
   finished : Mark
   read : List Value → Mark
-
-abbrev pub readMark : Meaning → List Mark → List Mark
-readMark (Meaning.command c) m = Mark.read c ∷ m
-readMark (Meaning.refused n) m = m
-
-abbrev pub toldMark : Stream.Told → List Mark → List Mark
-toldMark (Stream.Told.command t) m = readMark (meaningOf t) m
-toldMark Stream.Told.tooLong m = m
-toldMark Stream.Told.abandoned m = m
-
-abbrev pub toldMarks : List Stream.Told → List Mark → List Mark
-toldMarks [] m = m
-toldMarks (d ∷ ds) m = toldMarks ds (toldMark d m)
 
 unfoldable pub marksOf : List Event → List Mark
 marksOf [] = []
 marksOf (Event.sent id ∷ h) = Mark.sent id ∷ marksOf h
 marksOf (Event.filed id ∷ h) = Mark.filed id ∷ marksOf h
-marksOf (Event.pieced b ∷ h) = Mark.pieced b ∷ marksOf h
+marksOf (Event.pieced b last ∷ h) = Mark.pieced b last ∷ marksOf h
 marksOf (Event.finished ∷ h) = Mark.finished ∷ marksOf h
-marksOf (Event.heard bs ∷ h) = toldMarks (stream (modeAfter h) bs .0) (marksOf h)
+marksOf (Event.heard bs ∷ h) = toldMarks Mark.read (stream (modeAfter h) bs .0) (marksOf h)
