@@ -19,7 +19,7 @@ use Rattle.protocol.specs.Table.{idRoom}
 use Rattle.sending.specs.Transfers.{idOf, begun}
 use Rattle.sending.specs.Commands.{fileValues}
 use Rattle.sending.specs.Calls.{unwritten, wroteBy, writes, guarded, longRefusal, fileWrites}
-use Rattle.sending.specs.Every.{answerIn, answerOf, Frame, Answers}
+use Rattle.sending.specs.Every.{answerOf, Frame, Answers}
 use Rattle.sending.specs.declared.Transfer.{Transfer}
 use Rattle.sending.specs.declared.Sender.{Sender}
 use Rattle.sending.specs.declared.Writing.the-variants as Writing

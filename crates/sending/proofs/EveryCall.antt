@@ -3,8 +3,7 @@ use Prim.Native.Nat.{ℕ, _≤_, _<_}
 use mathlib.Core.Path.{_≡_, refl, sym, ap, _∙_}
 use mathlib.Core.Bool.{Bool, true, false, not, cond, _||_}
 use mathlib.Core.List.{List, [], _∷_, append-nil}
-use native.Mathlib.Omega.{arith}
-use lib.ListN.{length, take}
+use lib.ListN.{length}
 use lib.Dec.{ltb, leb}
 use borrow.Author.Tests.{ltb-false, leb-false}
 use Rattle.octets.specs.Outcome.{Outcome}
@@ -42,7 +41,8 @@ use Rattle.sending.proofs.Ours.{step, Lent, Right, AllLent, AllRight}
 use Rattle.sending.proofs.Ways.{Way, call-way, FileWay, file-way}
 use Rattle.sending.proofs.SentIds.{sent-id}
 use Rattle.sending.proofs.Kept.{found, Kept, kept-fresh}
-use Rattle.sending.proofs.Ready.{sending-told, unsent-told, idle-told, busy-told, taken-told, session-id, sending-place, pending-current}
+use Rattle.sending.proofs.Ready.{sending-told, unsent-told, idle-told, busy-told, taken-told, session-id, sending-place}
+use Rattle.sending.proofs.Ready.{pending-current}
 use Rattle.sending.proofs.KeptWrites.{kept-sent, kept-finished, kept-filed}
 use Rattle.sending.proofs.KeptPieces.{kept-pieced}
 use Rattle.sending.proofs.Answering.{Writes, writes-right, file-right, guarded-right}
@@ -193,7 +193,14 @@ module _ (w : World) (v : Inv w) where
         let e : modeAfter (Event.heard [] ∷ w .story) ≡ modeAfter (w .story) =
         ap (λ (bs : List ℕ). stream Mode.outside bs .1) (append-nil (bytesOf (w .story))) in
         record {
-          right = record { short = rw short; refused = λ q. refl; progress = λ q. no-way q; reports = λ q. no-way q; tells = λ q. no-way q };
+          right =
+              record {
+                short = rw short;
+                refused = λ q. refl;
+                progress = λ q. no-way q;
+                reports = λ q. no-way q;
+                tells = λ q. no-way q;
+              };
           inv = record { follows = rw e (v .follows); kept = v .kept };
         }
 
@@ -207,7 +214,8 @@ module _ (w : World) (v : Inv w) where
     unfolding scannedHear marksOf
     long-good roomy long enough lent =
         let report = scan .answer .report in
-        let rep = report-heard (v .kept) report (textOf bytes (scan .buffer) report) scratch enough (call-report (s .framing) bytes carry long) in
+        let rep = report-heard (v .kept) report (textOf bytes (scan .buffer) report) scratch enough
+        (call-report (s .framing) bytes carry long) in
         let same : carry ≡ w .carry = lent (rep .taken) in
         let before : Follows (s .framing) carry (modeAfter (w .story)) = rw same (v .follows) in
         let f = call-follows bytes before in

@@ -12,11 +12,11 @@ use Rattle.sending.specs.Calls.{reportHeed, scannedHear, hearOf}
 use Rattle.sending.specs.Examples.{AllRun, examples}
 
 -- ---- what computing opens besides what it opens of the protocol
-writing : Unit {0}
+unfoldable pub writing : Unit {0}
 unfolding wordShown safeShown integerShown base64Shown shown fieldsOf canonical checkedOf writeOf framedOf
 writing = tt
 
-heeding : Unit {0}
+unfoldable pub heeding : Unit {0}
 unfolding wordOf sessionHeed okHeed fileHeed foundHeed statusHeed isOurs heedOf
 heeding = tt
 

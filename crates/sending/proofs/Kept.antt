@@ -1,13 +1,12 @@
 -- What the sender's session keeps of its story.
 use Prim.Native.Nat.{ℕ, zero, suc, _-_, _≤_, min}
-use mathlib.Core.Path.{_≡_, refl, sym, _∙_}
+use mathlib.Core.Path.{_≡_, refl}
 use mathlib.Core.Bool.{Bool, true, false, not, _&&_}
 use mathlib.Core.Option.{Option}
 use mathlib.Core.List.{List, []}
 use native.Mathlib.Omega.{arith}
 use lib.ListN.{length, getD, replicate, length-replicate}
 use Rattle.octets.specs.Members.{every}
-use Rattle.octets.specs.Slices.{equals}
 use Rattle.command.specs.Letters.{safeByte}
 use Rattle.protocol.specs.Table.{fileRoom, idRoom, first}
 use Rattle.protocol.specs.declared.Found.{Found}

@@ -19,3 +19,5 @@ mod CutsHeeds
 mod CutsWrites
 mod CutsCalls
 mod Cuts
+mod Refuting
+mod Teeth

@@ -5,27 +5,25 @@ use mathlib.Core.Bool.{Bool, true, false, not, _&&_, _||_}
 use mathlib.Core.Option.{Option}
 use mathlib.Core.List.{List}
 use native.Mathlib.Omega.{arith}
-use lib.ListN.{length, getD}
 use lib.Dec.{leb}
 use Rattle.octets.specs.Slices.{equals}
-use Rattle.octets.proofs.Below.{both-test}
 use Rattle.octets.proofs.Compare.{equals-refl, equals-sound}
 use Rattle.protocol.specs.Table.{fileRoom}
 use Rattle.protocol.specs.declared.Found.{Found}
 use Rattle.protocol.specs.declared.Found.the-variants as Found
 use Rattle.protocol.proofs.Laws.{no-way}
-use Rattle.sending.specs.Transfers.{freeFile, fileAt, currentPlace, currentFile, idOf, fileIdOf, findFile, isKnown}
-use Rattle.sending.specs.Transfers.{isFresh, isWaiting, isOpen, isSending}
+use Rattle.sending.specs.Transfers.{fileAt, currentPlace, currentFile, idOf, fileIdOf, findFile, isKnown}
+use Rattle.sending.specs.Transfers.{isFresh, isOpen, isSending}
 use Rattle.sending.specs.Calls.{isIdle, isBusy, isFound, isTaken}
 use Rattle.sending.specs.Story.{Mark}
-use Rattle.sending.specs.Telling.{sessionIn, pendingIn, filesIn, orEmpty, equalsSome, isAmong, allowedIn, stoppedIn, finishedIn}
+use Rattle.sending.specs.Telling.{sessionIn, pendingIn, filesIn, equalsSome, isAmong, allowedIn, finishedIn}
 use Rattle.sending.specs.Telling.{fileStoppedIn, isUnsent, openIn, goesOn, sendingIn, idleIn, busyIn, takenIn}
 use Rattle.sending.specs.declared.Stage.{Stage}
 use Rattle.sending.specs.declared.Stage.the-variants as Stage
 use Rattle.sending.specs.declared.FileStage.{FileStage}
 use Rattle.sending.specs.declared.FileStage.the-variants as FileStage
 use Rattle.sending.specs.declared.Transfer.{Transfer}
-use Rattle.sending.proofs.Kept.{isSendingFor, Counted, FileOK, SessionOK, found, PendingOK, CurrentOK, Kept}
+use Rattle.sending.proofs.Kept.{isSendingFor, Counted, FileOK, SessionOK, PendingOK, Kept}
 
 -- ---- the session, by its stage
 fresh-told : (id : List ℕ) (m : List Mark) (g : Stage) → SessionOK id m g → isUnsent (sessionIn m) ≡ isFresh g

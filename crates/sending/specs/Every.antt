@@ -60,8 +60,8 @@ abbrev pub sayingOf : List Mark → List Told → Saying
 sayingOf m [] = Saying.nothing
 sayingOf m (d ∷ ds) = toldSaying m d
 
--- "9: carry under 8,192, scratch under 6,144, nothing consumed"; else some of a piece that has bytes is consumed, "through the first command
--- text that ends": what is reported, with its text, is all that the bytes consumed tell
+-- "9: carry under 8,192, scratch under 6,144, nothing consumed"; else some of a piece that has bytes is consumed, "through the first
+-- command text that ends": what is reported, with its text, is all that the bytes consumed tell
 pub record Heard (w : World) (bytes carry scratch : List ℕ) (l : Listening) : Type 0 where
   pub short : isUnheard (l .listened .news) ≡ (ltb (length carry) textLimit || ltb (length scratch) scratchRoom)
   pub refused : isUnheard (l .listened .news) ≡ true → l ≡ listening (unheard (w .sender) 9) carry scratch

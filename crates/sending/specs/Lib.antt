@@ -10,3 +10,4 @@ pub mod Story
 pub mod Telling
 pub mod Every
 pub mod Cuts
+pub mod WrongSenders

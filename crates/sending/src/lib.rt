@@ -10,6 +10,7 @@ ghost use Rattle.sending.specs.Claims.{LongIdAsWritten};
 ghost use Rattle.sending.specs.Cuts.{SenderCutsAlike};
 ghost use Rattle.sending.specs.Every.{EverySender};
 ghost use Rattle.sending.specs.Machine.{ours};
+ghost use Rattle.sending.specs.WrongSenders.{SenderTeeth};
 use command::Place;
 use decimal::Number;
 use frames::Framing;
@@ -136,10 +137,11 @@ impl Transfer {
 }
 
 impl Sender {
-    // Nothing is written and nothing heard. What holds at each call of every list of calls from here, what
-    // a long file id gets, and the examples stand here too, so that nobody can drop a theorem unseen.
+    // Nothing is written and nothing heard. What holds at each call of every list of calls from here, that
+    // cuts do not matter, wrong senders of which this is false, what a long file id gets, and the examples
+    // stand here too, so that nobody can drop a theorem unseen.
     pub fn fresh() -> Sender
-        ensures { λ r. ⌜ (r ≡ freshSender) × EverySender ours × SenderCutsAlike ours × LongIdAsWritten × AllRun examples ⌝ }
+        ensures { λ r. ⌜ (r ≡ freshSender) × EverySender ours × SenderCutsAlike ours × SenderTeeth × LongIdAsWritten × AllRun examples ⌝ }
     {
         Sender {
             framing: Framing::Plain,
