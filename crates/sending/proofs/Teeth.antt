@@ -15,7 +15,8 @@ use Rattle.sending.specs.Machine.{ours}
 use Rattle.sending.specs.Story.{bytesOf, marksOf, start}
 use Rattle.sending.specs.Telling.{someRead}
 use Rattle.sending.specs.Cuts.{allGiven, after, writingCalls, SenderCutsAlike}
-use Rattle.sending.specs.WrongSenders.{early, deaf, pushing, hasty, unending, oneMore, lastOnly, countingRefused, declaring}
+use Rattle.sending.specs.WrongSenders.{early, deaf, misplacing, pushing, hasty, unending, oneMore, lastOnly, encoding}
+use Rattle.sending.specs.WrongSenders.{countingRefused, declaring}
 use Rattle.sending.specs.WrongSenders.{trusting, otherFile, otherSize, swallowing}
 use Rattle.sending.specs.WrongSenders.{refusing, mute, emptying, stalling, closerLost, SenderTeeth}
 use Rattle.sending.proofs.Examples.{writing, heeding}
@@ -69,12 +70,14 @@ parted = hear (take 22 (framed (ascii "5113;ac=status;id=m"))) ∷ hear (0x5C �
 record Computed : Type 0 where
   early-files : WrongAt early asked fileA
   deaf-files : WrongAt deaf (allowed ++ (stop ∷ [])) fileA
+  misplacing-hears : WrongAt misplacing begun stop
   pushing-pieces : WrongAt pushing (begun ++ (fileStop ∷ [])) (piece (ascii "x") false)
   hasty-finishes : WrongAt hasty begun finish
   unending-pieces : WrongAt unending begun (piece (ascii "c") true)
   oneMore-hears : WrongAt oneMore sent threeBytes
   trusting-hears : WrongAt trusting sent twoBytes
   lastOnly-hears : WrongAt lastOnly sent threeBytes
+  encoding-hears : WrongAt encoding sent threeBytes
   countingRefused-hears : WrongAt countingRefused (begun ++ (piece (replicate 4097 0) false ∷ [])) noBytes
   declaring-hears : WrongAt declaring sent threeBytes
   otherFile-hears : WrongAt otherFile sent twoBytes
@@ -105,12 +108,14 @@ unfolding carry₀ scratch₀ out₀ computing writing heeding grown writes guar
 computed = record {
   early-files = record { wrong = refl };
   deaf-files = record { wrong = refl };
+  misplacing-hears = record { wrong = refl };
   pushing-pieces = record { wrong = refl };
   hasty-finishes = record { wrong = refl };
   unending-pieces = record { wrong = refl };
   oneMore-hears = record { wrong = refl };
   trusting-hears = record { wrong = refl };
   lastOnly-hears = record { wrong = refl };
+  encoding-hears = record { wrong = refl };
   countingRefused-hears = record { wrong = refl };
   declaring-hears = record { wrong = refl };
   otherFile-hears = record { wrong = refl };
@@ -147,12 +152,14 @@ teeth =
     record {
       fileBeforeOk = wrong-at _ _ _ (computed .early-files);
       onAfterAStop = wrong-at _ _ _ (computed .deaf-files);
+      fileStoppedInstead = wrong-at _ _ _ (computed .misplacing-hears);
       pieceOfAStoppedFile = wrong-at _ _ _ (computed .pushing-pieces);
       finishWhileSending = wrong-at _ _ _ (computed .hasty-finishes);
       lastPieceAsData = wrong-at _ _ _ (computed .unending-pieces);
       equalSizeDiffers = wrong-at _ _ _ (computed .oneMore-hears);
       neverDiffers = wrong-at _ _ _ (computed .trusting-hears);
       sizeOfTheLastPiece = wrong-at _ _ _ (computed .lastOnly-hears);
+      sizeOfTheBase64 = wrong-at _ _ _ (computed .encoding-hears);
       refusedPieceCounted = wrong-at _ _ _ (computed .countingRefused-hears);
       declaredSize = wrong-at _ _ _ (computed .declaring-hears);
       otherFileNamed = wrong-at _ _ _ (computed .otherFile-hears);

@@ -1,12 +1,13 @@
 -- Wrong senders, made by wrapping our calls, each with one error. A claim that held of one of them would be worth nothing; `SenderTeeth`
 -- says that the claims are false of each.
 use Prim.Native.Nat.{ℕ, suc, _+_, _-_}
-use mathlib.Core.Bool.{Bool, false, cond}
+use mathlib.Core.Bool.{Bool, true, false, cond}
 use mathlib.Core.List.{List, [], _∷_}
 use lib.ListN.{length, drop}
 use lib.Dec.{ltb}
 use Rattle.octets.specs.Outcome.{Outcome, outcome}
 use Rattle.octets.specs.Slices.{equals}
+use Rattle.base64.specs.Claims.{textLength}
 use Rattle.decimal.specs.declared.Number.{Number}
 use Rattle.frames.specs.declared.Framing.the-variants as Framing
 use Rattle.frames.specs.declared.Report.the-variants as Report
@@ -22,6 +23,8 @@ use Rattle.sending.specs.declared.Stage.the-variants as Stage
 use Rattle.sending.specs.declared.FileStage.{FileStage}
 use Rattle.sending.specs.declared.FileStage.the-variants as FileStage
 use Rattle.sending.specs.declared.Sender.{Sender}
+use Rattle.sending.specs.declared.Writing.{Writing}
+use Rattle.sending.specs.declared.Writing.the-variants as Writing
 use Rattle.sending.specs.declared.Wrote.{Wrote}
 use Rattle.sending.specs.declared.News.{News}
 use Rattle.sending.specs.declared.News.the-variants as News
@@ -41,6 +44,14 @@ hearingBy h = record { sends = sendOf; files = fileOf; pieces = pieceOf; finishe
 -- what a call that writes leaves, the sender changed
 abbrev pub leaving : (Sender → Sender) → Outcome Wrote → Outcome Wrote
 leaving f o = outcome (record { sender = f (o .answer .sender); writing = o .answer .writing }) (o .buffer)
+
+-- only where a frame was written
+abbrev pub isWritten : Writing → Bool
+isWritten (Writing.Refused n) = false
+isWritten (Writing.Written n) = true
+
+abbrev pub leavingWritten : (Sender → Sender) → Outcome Wrote → Outcome Wrote
+leavingWritten f o = cond (isWritten (o .answer .writing)) (leaving f o) o
 
 -- what a hear leaves and tells, with another sender, and with other news
 abbrev pub leavingHeard : (Sender → Sender) → Listening → Listening
@@ -85,6 +96,22 @@ deaf =
     hearingBy (λ s bytes carry scratch.
     leavingHeard (λ r. withTransfer r (withStage (r .transfer) (unstopped (r .transfer .stage)))) (hearOf s bytes carry scratch))
 
+-- the same, and the current file is stopped instead
+abbrev pub stoppingFile : ℕ → News → News
+stoppingFile i News.Nothing = News.Nothing
+stoppingFile i (News.Refused n) = News.Refused n
+stoppingFile i News.Ignored = News.Ignored
+stoppingFile i News.Noted = News.Noted
+stoppingFile i News.Allowed = News.Allowed
+stoppingFile i (News.Differs j z) = News.Differs j z
+stoppingFile i (News.FileStopped j p) = News.FileStopped j p
+stoppingFile i (News.SessionStopped p) = News.FileStopped i p
+
+abbrev pub misplacing : Machine
+misplacing =
+    hearingBy (λ s bytes carry scratch.
+    telling (stoppingFile (currentPlace (s .transfer))) (deaf .hears s bytes carry scratch))
+
 -- a piece of a file that a status stopped
 abbrev pub resumed : FileStage → FileStage
 resumed FileStage.Free = FileStage.Free
@@ -126,6 +153,13 @@ oneMore =
 abbrev pub lastOnly : Machine
 lastOnly = piecingBy (λ s. pieceOf (withSent (λ n. 0) s))
 
+-- with that of the pieces' Base64
+abbrev pub encoding : Machine
+encoding =
+    piecingBy (λ s contents last out.
+    let before = currentFile (s .transfer) .sent in
+    leavingWritten (withSent (λ n. before + textLength (length contents))) (pieceOf s contents last out))
+
 -- with one to which a refused piece was added
 abbrev pub countingRefused : Machine
 countingRefused =
@@ -138,8 +172,8 @@ abbrev pub declaring : Machine
 declaring =
     record {
       sends = sendOf;
-      files = λ s id name size out. leaving (withSent (λ n. size)) (fileOf s id name size out);
-      pieces = λ s contents last out. leaving (withSent (λ n. currentFile (s .transfer) .sent)) (pieceOf s contents last out);
+      files = λ s id name size out. leavingWritten (withSent (λ n. size)) (fileOf s id name size out);
+      pieces = λ s contents last out. leavingWritten (withSent (λ n. currentFile (s .transfer) .sent)) (pieceOf s contents last out);
       finishes = finishOf;
       hears = hearOf;
     }
@@ -239,12 +273,14 @@ closerLost =
 pub record SenderTeeth : Type 0 where
   pub fileBeforeOk : EverySender early → ⊥
   pub onAfterAStop : EverySender deaf → ⊥
+  pub fileStoppedInstead : EverySender misplacing → ⊥
   pub pieceOfAStoppedFile : EverySender pushing → ⊥
   pub finishWhileSending : EverySender hasty → ⊥
   pub lastPieceAsData : EverySender unending → ⊥
   pub equalSizeDiffers : EverySender oneMore → ⊥
   pub neverDiffers : EverySender trusting → ⊥
   pub sizeOfTheLastPiece : EverySender lastOnly → ⊥
+  pub sizeOfTheBase64 : EverySender encoding → ⊥
   pub refusedPieceCounted : EverySender countingRefused → ⊥
   pub declaredSize : EverySender declaring → ⊥
   pub otherFileNamed : EverySender otherFile → ⊥
