@@ -19,7 +19,7 @@ use Rattle.protocol.specs.Table.{idRoom}
 use Rattle.sending.specs.Transfers.{idOf, begun}
 use Rattle.sending.specs.Commands.{fileValues}
 use Rattle.sending.specs.Calls.{unwritten, wroteBy, writes, guarded, longRefusal, fileWrites}
-use Rattle.sending.specs.Every.{answerOf, Frame, Answers}
+use Rattle.sending.specs.Every.{answerBy, Frame, Answers}
 use Rattle.sending.specs.declared.Transfer.{Transfer}
 use Rattle.sending.specs.declared.Sender.{Sender}
 use Rattle.sending.specs.declared.Writing.the-variants as Writing
@@ -34,7 +34,7 @@ not-refused e = let z : _≡_ {A = ℕ} 0 1 = cc in absurd (omega arith)
 
 -- ---- where nothing is in the way: what the writer says
 abbrev pub Writes : Sender → List Value → (out : List ℕ) → Outcome Wrote → Type 0
-Writes s c out o = (outcome (answerOf (o .answer .writing)) (o .buffer) ≡ framedOf c out)
+Writes s c out o = (outcome (answerBy (o .answer .writing)) (o .buffer) ≡ framedOf c out)
     × ((n : ℕ) → o .answer .writing ≡ Writing.Refused n → o .answer .sender ≡ s)
     × ((n : ℕ) → o .answer .writing ≡ Writing.Written n → Frame c (take n (o .buffer)))
 

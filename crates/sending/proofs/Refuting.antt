@@ -18,24 +18,19 @@ use Rattle.command.specs.Write.{Answer}
 use Rattle.command.specs.Framed.{frameRoom}
 use Rattle.protocol.specs.Files.{partLimit}
 use Rattle.protocol.proofs.Laws.{no-way, equals-same}
+use Rattle.protocol.proofs.Refuting.{carry₀, scratch₀}
 use Rattle.sending.specs.Commands.{sendValues, fileValues, pieceValues, finishValues}
 use Rattle.sending.specs.Calls.{Listening}
 use Rattle.sending.specs.Machine.{Machine}
 use Rattle.sending.specs.Sayings.{Saying, saying}
 use Rattle.sending.specs.Story.{Call, World, isUnheard, marksOf, Lent, step, start}
 use Rattle.sending.specs.Telling.{sessionIn, pendingIn, orEmpty, isUnsent, idleIn, busyIn, takenIn}
-use Rattle.sending.specs.Every.{answerIn, answerOf, Answers, toldAfter, sayingOf, Heard, Right, AllLent, AllRight, EverySender}
+use Rattle.sending.specs.Every.{answerIn, answerBy, Answers, toldAfter, sayingOf, Heard, Right, AllLent, AllRight, EverySender}
 use Rattle.sending.specs.Cuts.{after}
 use Rattle.sending.specs.declared.Sender.{Sender}
 use Rattle.sending.specs.declared.Wrote.{Wrote}
 
 -- ---- a list of calls: every hear is lent the world's carry, and the other buffers are all alike
-unfoldable pub carry₀ : List ℕ
-carry₀ = replicate textLimit 0
-
-unfoldable pub scratch₀ : List ℕ
-scratch₀ = replicate scratchRoom 0
-
 unfoldable pub out₀ : List ℕ
 out₀ = replicate frameRoom 0
 
@@ -97,7 +92,7 @@ outcomeCode o = answerCode (o .answer) ++ take 64 (o .buffer)
 
 abbrev answersRight : (over ready : Bool) (c : List Value) (out : List ℕ) → Outcome Wrote → Bool
 answersRight over ready c out o =
-    equals (outcomeCode (outcome (answerOf (o .answer .writing)) (o .buffer))) (outcomeCode (answerIn over ready c out))
+    equals (outcomeCode (outcome (answerBy (o .answer .writing)) (o .buffer))) (outcomeCode (answerIn over ready c out))
 
 answers-right : {s : Sender} (over ready : Bool) (c : List Value) (out : List ℕ) (o : Outcome Wrote) → Answers s over ready c out o
     → answersRight over ready c out o ≡ true

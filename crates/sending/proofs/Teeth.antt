@@ -8,6 +8,7 @@ use lib.ListN.{length, take, replicate}
 use Rattle.octets.specs.Ascii.{ascii}
 use Rattle.frames.specs.Stream.{framed}
 use Rattle.protocol.proofs.Starred.{computing}
+use Rattle.protocol.proofs.Refuting.{carry₀, scratch₀}
 use Rattle.sending.specs.Transfers.{grown}
 use Rattle.sending.specs.Calls.{writes, guarded, sendOf, longRefusal, fileWrites, fileOf, pieceOf, finishOf}
 use Rattle.sending.specs.Calls.{reportHeed, scannedHear, hearOf}
@@ -20,7 +21,7 @@ use Rattle.sending.specs.WrongSenders.{countingRefused, declaring}
 use Rattle.sending.specs.WrongSenders.{trusting, otherFile, otherSize, swallowing}
 use Rattle.sending.specs.WrongSenders.{refusing, mute, emptying, stalling, closerLost, SenderTeeth}
 use Rattle.sending.proofs.Examples.{writing, heeding}
-use Rattle.sending.proofs.Refuting.{carry₀, scratch₀, out₀, Deed, send, file, piece, finish, hear, calls, all-lent}
+use Rattle.sending.proofs.Refuting.{out₀, Deed, send, file, piece, finish, hear, calls, all-lent}
 use Rattle.sending.proofs.Refuting.{rightAt, WrongAt, wrong-at}
 
 -- ---- what is heard: the session's OK, its stop, and statuses of file a

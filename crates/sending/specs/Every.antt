@@ -34,9 +34,10 @@ answerIn over ready c out =
     (cond over (outcome (Answer.refused 17) out)
     (cond ready (framedOf c out) (outcome (Answer.refused 18) out)))
 
-abbrev pub answerOf : Writing → Answer
-answerOf (Writing.Refused n) = Answer.refused n
-answerOf (Writing.Written n) = Answer.written n
+-- what a call answered, in the writer's words
+abbrev pub answerBy : Writing → Answer
+answerBy (Writing.Refused n) = Answer.refused n
+answerBy (Writing.Written n) = Answer.written n
 
 -- one frame, whose text reads as the command with these values
 pub record Frame (c : List Value) (bs : List ℕ) : Type 0 where
@@ -46,7 +47,7 @@ pub record Frame (c : List Value) (bs : List ℕ) : Type 0 where
 
 -- the answer to a call on the sender s that is to write the command c into a buffer
 pub record Answers (s : Sender) (over ready : Bool) (c : List Value) (out : List ℕ) (o : Outcome Wrote) : Type 0 where
-  pub answer : outcome (answerOf (o .answer .writing)) (o .buffer) ≡ answerIn over ready c out
+  pub answer : outcome (answerBy (o .answer .writing)) (o .buffer) ≡ answerIn over ready c out
   pub kept : (n : ℕ) → o .answer .writing ≡ Writing.Refused n → o .answer .sender ≡ s
   pub reads : (n : ℕ) → o .answer .writing ≡ Writing.Written n → Frame c (take n (o .buffer))
 

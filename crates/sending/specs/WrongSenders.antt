@@ -96,7 +96,20 @@ deaf =
     hearingBy (λ s bytes carry scratch.
     leavingHeard (λ r. withTransfer r (withStage (r .transfer) (unstopped (r .transfer .stage)))) (hearOf s bytes carry scratch))
 
--- the same, and the current file is stopped instead
+-- the same, with the current file stopped instead
+abbrev pub isStopped : Stage → Bool
+isStopped Stage.Fresh = false
+isStopped Stage.Waiting = false
+isStopped Stage.Open = false
+isStopped Stage.Finished = false
+isStopped Stage.Stopped = true
+
+abbrev pub currentStopped : Sender → Sender
+currentStopped s =
+    let t = withStage (s .transfer) Stage.Open in
+    let x = currentFile t in
+    withTransfer s (putFile t (currentPlace t) (moved x FileStage.Stopped (x .sent)))
+
 abbrev pub stoppingFile : ℕ → News → News
 stoppingFile i News.Nothing = News.Nothing
 stoppingFile i (News.Refused n) = News.Refused n
@@ -110,7 +123,9 @@ stoppingFile i (News.SessionStopped p) = News.FileStopped i p
 abbrev pub misplacing : Machine
 misplacing =
     hearingBy (λ s bytes carry scratch.
-    telling (stoppingFile (currentPlace (s .transfer))) (deaf .hears s bytes carry scratch))
+    let l = hearOf s bytes carry scratch in
+    let t = l .listened .sender .transfer in
+    cond (isStopped (t .stage)) (telling (stoppingFile (currentPlace t)) (leavingHeard currentStopped l)) l)
 
 -- a piece of a file that a status stopped
 abbrev pub resumed : FileStage → FileStage
