@@ -47,7 +47,7 @@ use Rattle.sending.proofs.Heeds.{status-heard}
 use Rattle.sending.proofs.Sizes.{size-small}
 
 -- ---- a command by places, and by values
-status-code : (a : Action) → isStatus a ≡ eqb (Slots.actionCode a) 8
+pub status-code : (a : Action) → isStatus a ≡ eqb (Slots.actionCode a) 8
 status-code Action.None = refl
 status-code Action.Send = refl
 status-code Action.Receive = refl
@@ -58,14 +58,14 @@ status-code Action.Finish = refl
 status-code Action.Cancel = refl
 status-code Action.Status = refl
 
-record Reads (c : Command) (text after : List ℕ) (d : List Value) : Type 0 where
-  code : actionCode d ≡ Slots.actionCode (c .action)
-  id : idIn c text ≡ idOf d
-  file : fileIdIn c text ≡ fileIdOf d
-  size : c .size ≡ sizeOf d
-  status : stringIn after (c .status) ≡ statusOf d
+pub record Reads (c : Command) (text after : List ℕ) (d : List Value) : Type 0 where
+  pub code : actionCode d ≡ Slots.actionCode (c .action)
+  pub id : idIn c text ≡ idOf d
+  pub file : fileIdIn c text ≡ fileIdOf d
+  pub size : c .size ≡ sizeOf d
+  pub status : stringIn after (c .status) ≡ statusOf d
 
-values-read : (c : Command) (text after : List ℕ) → Reads c text after (valuesOf c text after)
+pub values-read : (c : Command) (text after : List ℕ) → Reads c text after (valuesOf c text after)
 unfolding valuesOf slotsOf
 values-read c text after =
     record {
