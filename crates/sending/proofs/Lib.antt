@@ -13,7 +13,6 @@ mod Sizes
 mod Heeds
 mod Hears
 mod Answering
-mod EveryCall
 mod CutsRun
 mod CutsHeeds
 mod CutsWrites
@@ -21,3 +20,4 @@ mod CutsCalls
 mod Cuts
 mod Refuting
 mod Teeth
+mod EveryCall
