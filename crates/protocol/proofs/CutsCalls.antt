@@ -79,7 +79,7 @@ module _ (t : Table) (h : Sized t) (scratch reply : List ℕ) (enough : scratchR
       let sent = reply-sent (a .step .reply) reply z long .bytes in
       let e : reportedBy (textIn d) a reply ≡ reported t d = rw (sent, s .values, s .said, s .step) in
       let q : a .step .table ≡ actOn t d .step .table = rw (s .step) in
-      record { taken = s .taken; moves = rw (e, q) (one (reported t d) (d ∷ []) refl (λ rest. refl)) }
+      record { taken = s .taken; moves = rw (e, q) (one {t′ = actOn t d .step .table} (reported t d) (d ∷ []) refl (λ rest. refl)) }
 
   text-moves : (text : List ℕ) → let a = readAct t text (readOf text scratch) in
       Acts t a (reportedBy text a reply ∷ []) (Stream.Told.command text ∷ [])

@@ -15,16 +15,15 @@ use Rattle.protocol.specs.declared.Decision.the-variants as Decision
 use Rattle.protocol.specs.declared.Table.{Table}
 use Rattle.protocol.specs.declared.Told.the-variants as Told
 use Rattle.protocol.specs.declared.Stepped.{Stepped}
+use Rattle.protocol.proofs.CutsMoves as CutsMoves
 
 -- ---- moves on a table
 -- what a move gives, the table after it, and what the bytes tell after it
-pub record Moved : Type 0 where
-  pub output : Output
-  pub table : Table
-  pub rest : List Stream.Told
+abbrev pub Moved : Type 0
+Moved = CutsMoves.Moved Output Table
 
 abbrev pub moved : Output → Table → List Stream.Told → Moved
-moved o t ds = record { output = o; table = t; rest = ds }
+moved o t ds = record { output = o; state = t; rest = ds }
 
 -- a thing told by the bytes, acted on with a scratch of zeros
 abbrev pub zeros : List ℕ
@@ -62,21 +61,13 @@ move t (Move.drop id) ds = moveBy (Move.drop id) (decidedOf t Decision.Drop id) 
 move t Move.done ds = moveBy Move.done (settleDone t) ds
 move t (Move.failed code) ds = moveBy (Move.failed code) (settleFailed t code) ds
 
--- moves one after another: what they give, and the table after them
-abbrev pub before : Output → List Output × Table → List Output × Table
-before o r = (o ∷ r .0, r .1)
+-- from a table to another by moves that give these outputs, and take what is told
+abbrev pub Moves : Table → Table → List Output → List Stream.Told → Type 0
+Moves = CutsMoves.Moves (λ (o : Output). o .move) isReportMove move
 
-abbrev pub run : Table → List Move → List Stream.Told → List Output × Table
-run t [] ds = ([], t)
-run t (m ∷ ms) ds = before (move t m ds .output) (run (move t m ds .table) ms (move t m ds .rest))
+pub none : {t t′ : Table} → t ≡ t′ → Moves t t′ [] []
+none = CutsMoves.no-moves (λ (o : Output). o .move) isReportMove move
 
--- how many things told a move takes: a report one, a console call none
-abbrev pub takes : Move → ℕ
-takes m = cond (isReportMove m) 1 0
-
--- from the table t to the table t′: no move, and nothing told; or one move that gives an output, and takes what is told
-pub data Moves (t t′ : Table) : List Output → List Stream.Told → Type 0 where
-  none : t ≡ t′ → Moves t t′ [] []
-  one : (o : Output) (ds : List Stream.Told) → length ds ≡ takes (o .move)
-      → ((rest : List Stream.Told) → move t (o .move) (ds ++ rest) ≡ moved o t′ rest)
-      → Moves t t′ (o ∷ []) ds
+pub one : {t t′ : Table} (o : Output) (ds : List Stream.Told) → length ds ≡ cond (isReportMove (o .move)) 1 0
+    → ((rest : List Stream.Told) → move t (o .move) (ds ++ rest) ≡ moved o t′ rest) → Moves t t′ (o ∷ []) ds
+one = CutsMoves.one-move (λ (o : Output). o .move) isReportMove move

@@ -5,6 +5,7 @@ pub mod Console
 pub mod Counts
 pub mod Cuts
 pub mod CutsCalls
+pub mod CutsMoves
 pub mod CutsOrder
 pub mod CutsReading
 pub mod CutsRun

@@ -2,7 +2,7 @@
 use Prim.Native.Nat.{ℕ, suc}
 use mathlib.Core.Path.{_≡_}
 use mathlib.Core.Bool.{Bool, true, false, cond}
-use mathlib.Core.List.{List, [], _∷_, _++_}
+use mathlib.Core.List.{List, [], _∷_, _++_, map}
 use lib.ListN.{length, take}
 use lib.Dec.{ltb}
 use Rattle.octets.specs.Outcome.{Outcome}
@@ -125,13 +125,9 @@ abbrev pub callsAmong : {M : Type 0} → (M → Bool) → ℕ → List M → Lis
 callsAmong p n [] = []
 callsAmong p n (m ∷ ms) = cond (p m) (callsAmong p (suc n) ms) ((n, m) ∷ callsAmong p n ms)
 
-abbrev pub moves : List Output → List Move
-moves [] = []
-moves (o ∷ os) = o .move ∷ moves os
-
 -- "the same console calls after the same reports": the console's calls alone
 abbrev pub consoleCalls : ℕ → List Output → List (ℕ × Move)
-consoleCalls n os = callsAmong isReportMove n (moves os)
+consoleCalls n os = callsAmong isReportMove n (map (λ (o : Output). o .move) os)
 
 -- two lists of calls, from a fresh receiver and any first carry each, that consume the same bytes, and in which the console makes the same
 -- calls after as many reports: they give the same, reports and answers, and leave the same receiver

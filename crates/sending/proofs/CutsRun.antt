@@ -9,6 +9,7 @@ use Rattle.frames.specs.Stream as Stream
 use Rattle.frames.specs.declared.Framing.the-variants as Framing
 use Rattle.command.specs.Read.{readOf}
 use Rattle.command.specs.Framed.{frameRoom}
+use Rattle.protocol.proofs.CutsMoves as CutsMoves
 use Rattle.protocol.proofs.CutsRun.{zeros, textIn}
 use Rattle.sending.specs.Heeding.{heeded}
 use Rattle.sending.specs.Calls.{sendOf, fileOf, pieceOf, finishOf, readHeed}
@@ -22,13 +23,11 @@ use Rattle.sending.specs.declared.Heeded.{Heeded}
 
 -- ---- moves on a session
 -- what a move gives, the session after it, and what the bytes tell after it
-pub record Moved : Type 0 where
-  pub output : Output
-  pub transfer : Transfer
-  pub rest : List Stream.Told
+abbrev pub Moved : Type 0
+Moved = CutsMoves.Moved Output Transfer
 
 abbrev pub moved : Output → Transfer → List Stream.Told → Moved
-moved o t ds = record { output = o; transfer = t; rest = ds }
+moved o t ds = record { output = o; state = t; rest = ds }
 
 -- a thing told by the bytes, heeded with a scratch of zeros
 abbrev pub heedOn : Transfer → Stream.Told → Outcome Heeded
@@ -61,21 +60,13 @@ move t (Move.file id name size) ds = moveBy (Move.file id name size) (fileOf (ba
 move t (Move.piece contents last) ds = moveBy (Move.piece contents last) (pieceOf (bare t) contents last room) ds
 move t Move.finish ds = moveBy Move.finish (finishOf (bare t) room) ds
 
--- moves one after another: what they give, and the session after them
-abbrev pub before : Output → List Output × Transfer → List Output × Transfer
-before o r = (o ∷ r .0, r .1)
+-- from a session to another by moves that give these outputs, and take what is told
+abbrev pub Moves : Transfer → Transfer → List Output → List Stream.Told → Type 0
+Moves = CutsMoves.Moves (λ (o : Output). o .move) isReportMove move
 
-abbrev pub run : Transfer → List Move → List Stream.Told → List Output × Transfer
-run t [] ds = ([], t)
-run t (m ∷ ms) ds = before (move t m ds .output) (run (move t m ds .transfer) ms (move t m ds .rest))
+pub none : {t t′ : Transfer} → t ≡ t′ → Moves t t′ [] []
+none = CutsMoves.no-moves (λ (o : Output). o .move) isReportMove move
 
--- how many things told a move takes: a report one, a call that writes none
-abbrev pub takes : Move → ℕ
-takes m = cond (isReportMove m) 1 0
-
--- from the session t to the session t′: no move, and nothing told; or one move that gives an output, and takes what is told
-pub data Moves (t t′ : Transfer) : List Output → List Stream.Told → Type 0 where
-  none : t ≡ t′ → Moves t t′ [] []
-  one : (o : Output) (ds : List Stream.Told) → length ds ≡ takes (o .move)
-      → ((rest : List Stream.Told) → move t (o .move) (ds ++ rest) ≡ moved o t′ rest)
-      → Moves t t′ (o ∷ []) ds
+pub one : {t t′ : Transfer} (o : Output) (ds : List Stream.Told) → length ds ≡ cond (isReportMove (o .move)) 1 0
+    → ((rest : List Stream.Told) → move t (o .move) (ds ++ rest) ≡ moved o t′ rest) → Moves t t′ (o ∷ []) ds
+one = CutsMoves.one-move (λ (o : Output). o .move) isReportMove move

@@ -2,7 +2,7 @@
 use Prim.Native.Nat.{ℕ}
 use mathlib.Core.Path.{_≡_}
 use mathlib.Core.Bool.{Bool, true, false, cond}
-use mathlib.Core.List.{List, [], _∷_, _++_}
+use mathlib.Core.List.{List, [], _∷_, _++_, map}
 use lib.ListN.{length, take}
 use lib.Dec.{ltb}
 use Rattle.octets.specs.Outcome.{Outcome}
@@ -82,13 +82,9 @@ abbrev pub after : Machine → World → List Call → World
 after m w [] = w
 after m w (c ∷ cs) = after m (step m w c) cs
 
-abbrev pub moves : List Output → List Move
-moves [] = []
-moves (o ∷ os) = o .move ∷ moves os
-
 -- the calls that write, each with the number of reports before it
 abbrev pub writingCalls : List Output → List (ℕ × Move)
-writingCalls os = callsAmong isReportMove 0 (moves os)
+writingCalls os = callsAmong isReportMove 0 (map (λ (o : Output). o .move) os)
 
 -- two lists of calls, from a fresh sender and any first carry each, that consume the same bytes, and in which the same calls write after as
 -- many reports: they give the same, reports, frames and refusals, and leave the same sender
