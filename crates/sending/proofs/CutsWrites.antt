@@ -79,7 +79,6 @@ module _ (m : Move) (s : Sender) (out : List ℕ) (enough : frameRoom ≤ length
           → Alike m (outcome (wroteBy s t′ x) (framedOf c out .buffer)) (outcome (wroteBy (bare t) t′ y) (framedOf c room .buffer))
       go (Answer.refused n) e (Answer.refused k) f q = let z : n ≡ k = cc in rw z (record { given = refl; transfer = refl })
       go (Answer.written n) e (Answer.written k) f q =
-          let z : n ≡ k = cc in
           let a = written-framed c out n e .stands in
           let b = written-framed c room k f .stands in
           record { given = rw (a, b); transfer = refl }
