@@ -1,4 +1,4 @@
-// Standard input and output for the programs, so that no failure is lost.
+// Standard input and output, and reading of files, for the programs, so that no failure is lost.
 //
 // No contract can say what is read or written. These say that a failed read is told from the end of
 // the input, and that a run keeps the first thing that failed in it.
@@ -7,6 +7,7 @@ mod output;
 
 pub use input::read;
 pub use input::read_all;
+pub use input::read_all_from;
 
 // How many bytes were read to the start of the buffer, 0 at the end of the input; or a failure.
 pub enum Got {

@@ -2,8 +2,8 @@ use mir.Syntax.{w64}
 use mir.Val.{toZ, ofZ}
 use borrow.Author.Needs.{needs}
 use Rattle.streams.proofs.Laws.{within}
-use Rattle.streams.proofs.input.read.Statement.{statement}
-use Rattle.streams.proofs.input.read.Tie as tie
+use Rattle.streams.proofs.input.read_from.Statement.{statement}
+use Rattle.streams.proofs.input.read_from.Tie as tie
 
 read-requires : tie.Need-read-requires
 read-requires c κs = search needs
@@ -17,5 +17,5 @@ same-length c = search needs
 returns : tie.Need-returns
 returns c = within (toZ w64 (ofZ w64 (c .before .before .before .before .read .result))) _ (c .counted .ensures)
 
-pub read-spec : {M : Type 1} → statement M
-read-spec = tie.close (tie.spec read-requires counted-requires same-length returns)
+pub read-from-spec : {M : Type 1} → statement M
+read-from-spec = tie.close (tie.spec read-requires counted-requires same-length returns)

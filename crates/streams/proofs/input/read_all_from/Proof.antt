@@ -5,29 +5,29 @@ use native.Mathlib.Omega.{arith}
 use borrow.Author.Needs.{needs}
 use Rattle.io.proofs.Counting.{counts}
 use Rattle.streams.proofs.Laws.{held}
-use Rattle.streams.proofs.input.read_all.Statement.{statement}
-use Rattle.streams.proofs.input.read_all.Tie as tie
+use Rattle.streams.proofs.input.read_all_from.Statement.{statement}
+use Rattle.streams.proofs.input.read_all_from.Tie as tie
 
 abbrev Inv-loop : tie.InvT-loop
-Inv-loop buf₀ at₀ buf at = (at ≤ length buf) × (length buf ≡ length buf₀)
+Inv-loop fd buf₀ at₀ buf at = (at ≤ length buf) × (length buf ≡ length buf₀)
 
 abbrev μ-loop : tie.MeasureT-loop
-μ-loop buf₀ at₀ buf at = length buf₀ - at
+μ-loop fd buf₀ at₀ buf at = length buf₀ - at
 
 loop-holds : tie.Need-loop-holds Inv-loop μ-loop
 loop-holds c = search needs
 
-sub-read : tie.Need-sub-read Inv-loop μ-loop
-sub-read c = search needs
+sub-read-from : tie.Need-sub-read-from Inv-loop μ-loop
+sub-read-from c = search needs
 
-part-read-start : tie.Need-part-read-start Inv-loop μ-loop
-part-read-start c = search needs
+part-read-from-start : tie.Need-part-read-from-start Inv-loop μ-loop
+part-read-from-start c = search needs
 
-part-read-end : tie.Need-part-read-end Inv-loop μ-loop
-part-read-end c = search needs
+part-read-from-end : tie.Need-part-read-from-end Inv-loop μ-loop
+part-read-from-end c = search needs
 
-read-requires : tie.Need-read-requires Inv-loop μ-loop
-read-requires c κs = search needs
+read-from-requires : tie.Need-read-from-requires Inv-loop μ-loop
+read-from-requires c κs = search needs
 
 enum-known-n : tie.Need-enum-known-n Inv-loop μ-loop
 enum-known-n c = search needs
@@ -44,7 +44,7 @@ returns c = search needs
 add-at : tie.Need-add-at Inv-loop μ-loop
 add-at c =
     let n = c .before .before in
-    let h = held _ (n .before .before .before .before .read .ensures) (n .n .given .1) in
+    let h = held _ (n .before .before .before .before .read-from .ensures) (n .n .given .1) in
     omega (arith, h .0)
 
 loop-less : tie.Need-loop-less Inv-loop μ-loop
@@ -53,7 +53,7 @@ loop-less c = search needs
 loop-again : tie.Need-loop-again Inv-loop μ-loop
 loop-again c =
     let n = c .before .before in
-    let h = held _ (n .before .before .before .before .read .ensures) (n .n .given .1) in
+    let h = held _ (n .before .before .before .before .read-from .ensures) (n .n .given .1) in
     (omega (arith, h .0), search needs)
 
 same-length-2 : tie.Need-same-length-2 Inv-loop μ-loop
@@ -68,17 +68,17 @@ same-length-3 c = search needs
 returns-3 : tie.Need-returns-3 Inv-loop μ-loop
 returns-3 c = counts _ _ (omega arith)
 
-pub read-all-spec : {M : Type 1} → statement M
-read-all-spec =
+pub read-all-from-spec : {M : Type 1} → statement M
+read-all-from-spec =
     tie.close
     (tie.spec
     Inv-loop
     μ-loop
     loop-holds
-    sub-read
-    part-read-start
-    part-read-end
-    read-requires
+    sub-read-from
+    part-read-from-start
+    part-read-from-end
+    read-from-requires
     enum-known-n
     enum-told
     same-length
