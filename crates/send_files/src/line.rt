@@ -1,0 +1,116 @@
+// The replies, from standard input.
+use crate::course;
+use crate::course::Course;
+use crate::report;
+use command::Command;
+use command::Place;
+use decimal::Number;
+use octets::size::less;
+use sending::News;
+use streams::Got;
+use streams::Run;
+
+// Reads until the latest command is answered or the session is over. A proved loop has to end, and nothing
+// says that an answer comes: so it counts its turns down, from a number that no run uses up.
+pub(crate) fn wait(course: Course, input: &mut [u8], carry: &mut [u8]) -> Course {
+    let mut next = course;
+    let mut turns = u64::MAX;
+    while turns > 0 {
+        if !course::is_waiting(next) {
+            break;
+        }
+        next = turn(next, input, carry);
+        turns -= 1;
+    }
+    next
+}
+
+// What was read is heard, one text at a time, before more is read: the next command's answer may stand
+// behind this one's.
+fn turn(course: Course, input: &mut [u8], carry: &mut [u8]) -> Course {
+    if course.at < course.end {
+        hear(course, input, carry)
+    } else {
+        read(course, input)
+    }
+}
+
+fn read(course: Course, input: &mut [u8]) -> Course {
+    match streams::read(input) {
+        Got::Bytes(n) => {
+            if n == 0 {
+                return course::ended(course);
+            }
+            Course {
+                at: 0,
+                end: n,
+                ..course
+            }
+        }
+        Got::Failed => course::checked(course, Run::NotRead),
+    }
+}
+
+fn hear(course: Course, input: &[u8], carry: &mut [u8]) -> Course {
+    let sender = course.sender;
+    let at = course.at;
+    let piece = octets::part(input, at, less(course.end, at));
+    let mut scratch = [0u8; Command::SCRATCH_ROOM];
+    let heard = sender::hear(sender, piece, carry, &mut scratch);
+    if heard.consumed == 0 {
+        return course::checked(course, Run::Stuck);
+    }
+    let after = heard.sender;
+    let news = heard.news;
+    let next = Course {
+        sender: after,
+        at: less(course.end, less(piece.len(), heard.consumed)),
+        ..course
+    };
+    heed(next, news, &mut scratch)
+}
+
+// What is told is said, where it is bad news. Only a status of the session answers a command.
+fn heed(course: Course, news: News, scratch: &mut [u8]) -> Course {
+    match news {
+        News::Nothing => course,
+        News::Refused(_) => course,
+        News::Ignored => course,
+        News::Noted => answered(course),
+        News::Allowed => answered(course),
+        News::Differs(i, size) => differs(course, i, size),
+        News::FileStopped(i, place) => file_stopped(course, i, place, scratch),
+        News::SessionStopped(place) => session_stopped(course, place, scratch),
+    }
+}
+
+fn answered(course: Course) -> Course {
+    Course {
+        is_answered: true,
+        ..course
+    }
+}
+
+fn differs(course: Course, i: usize, size: Number) -> Course {
+    let of = course::entry_at(course, i);
+    let file = course::file_at(course, i);
+    report::differs(file.sent, size, of.file);
+    answered(course::said(course, i, false))
+}
+
+fn file_stopped(course: Course, i: usize, place: Place, scratch: &mut [u8]) -> Course {
+    let of = course::entry_at(course, i);
+    stopped(place, scratch, of.file);
+    answered(course::said(course, i, false))
+}
+
+fn session_stopped(course: Course, place: Place, scratch: &mut [u8]) -> Course {
+    stopped(place, scratch, report::SESSION);
+    course::over(course)
+}
+
+// The status stands in the scratch.
+fn stopped(place: Place, scratch: &mut [u8], file: usize) {
+    report::make_printable(scratch);
+    report::stopped(octets::part(scratch, place.start, place.len), file);
+}

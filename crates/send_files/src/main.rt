@@ -1,0 +1,23 @@
+// Sends files to a console: send_files SESSION LOCAL NAME [LOCAL NAME]..
+//
+// Commands go to standard output and replies come from standard input, since both are the terminal line.
+// What became of each file is said on standard error.
+mod arguments;
+mod commands;
+mod course;
+mod line;
+mod office;
+mod report;
+mod source;
+
+fn main() {
+    let count = os::arg_count();
+    if arguments::are_whole(count) {
+        office::run(arguments::files(count));
+    } else {
+        report::plain(
+            b"usage: send_files SESSION LOCAL NAME [LOCAL NAME]..",
+            report::SESSION,
+        );
+    }
+}
