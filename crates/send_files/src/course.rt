@@ -1,7 +1,6 @@
 // How a session stands between two commands, and what was said of its files.
 ghost use Prim.Native.Nat.{_≤_};
 use crate::report;
-use octets::size::less;
 use sending::FileStage;
 use sending::Sender;
 use sending::SentFile;
@@ -9,30 +8,19 @@ use sending::Stage;
 use sending::Transfer;
 use streams::Run;
 
-// A file of the session: its number among the arguments, its size, whether a line was said of it, and
-// whether the last such line was that it is whole.
-pub struct Entry {
-    pub file: usize,
-    pub size: u64,
-    pub is_said: bool,
-    pub is_whole: bool,
-}
-
-impl Entry {
-    pub const NONE: Entry = Entry {
-        file: 0,
-        size: 0,
-        is_said: false,
-        is_whole: false,
-    };
-}
-
-// The sender; its files, each at its place in the sender; where the bytes stand that were read and are not
-// yet heard; whether the latest command is answered; whether the session goes on; and how many of the
+// The sender. Of each of its files, at its place there: its number among the arguments, whether a line was
+// said of it, and whether the last such line was that it is whole. Of the current file: its place, its
+// size, and how long the piece is that is written next. Where the bytes stand that were read and are not
+// yet heard. Whether the latest command is answered, whether the session goes on, and how many of the
 // arguments' files had their turn.
 pub struct Course {
     pub sender: Sender,
-    pub entries: [Entry; Transfer::FILES],
+    pub files: [usize; Transfer::FILES],
+    pub is_said: [bool; Transfer::FILES],
+    pub is_whole: [bool; Transfer::FILES],
+    pub current: usize,
+    pub size: u64,
+    pub piece: usize,
     pub at: usize,
     pub end: usize,
     pub is_answered: bool,
@@ -40,35 +28,13 @@ pub struct Course {
     pub tried: usize,
 }
 
-pub(crate) fn fresh() -> Course {
-    Course {
-        sender: Sender::fresh(),
-        entries: [Entry::NONE; Transfer::FILES],
-        at: 0,
-        end: 0,
-        is_answered: true,
-        is_going: true,
-        tried: 0,
-    }
-}
-
-// Nothing more is written.
-pub(crate) fn over(course: Course) -> Course {
-    Course {
-        is_going: false,
-        ..course
-    }
-}
-
-// The session is over where a read or a write failed.
-pub(crate) fn checked(course: Course, run: Run) -> Course {
+// The line ended, or a read or a write of it failed: nothing more is written.
+pub(crate) fn ended(course: Course, run: Run) -> Course {
     run.end(b"send_files");
-    if run.is_well() { course } else { ended(course) }
-}
-
-pub(crate) fn ended(course: Course) -> Course {
     report::plain(b"line ended", report::SESSION);
-    over(course)
+    let mut next = course;
+    next.is_going = false;
+    next
 }
 
 // Whether the line is read on: the latest command is not answered, or it was send and the session is not
@@ -94,7 +60,7 @@ pub(crate) fn is_waiting(course: Course) -> bool {
 
 // Whether the current file takes another piece.
 pub(crate) fn is_sending(course: Course) -> bool {
-    let file = file_at(course, current(course));
+    let file = file_at(course, course.current);
     let stage = file.stage;
     if !course.is_going {
         return false;
@@ -109,24 +75,6 @@ pub(crate) fn is_sending(course: Course) -> bool {
 }
 
 // ---- The files of the session, by their places. A place outside has no file.
-// How many were begun.
-pub(crate) fn count(course: Course) -> usize {
-    let sender = course.sender;
-    let transfer = sender.transfer;
-    transfer.count
-}
-
-// The place of the one that was begun last.
-pub(crate) fn current(course: Course) -> usize {
-    less(count(course), 1)
-}
-
-// Its number among the arguments.
-pub(crate) fn current_file(course: Course) -> usize {
-    let of = entry_at(course, current(course));
-    of.file
-}
-
 pub(crate) fn file_at(course: Course, i: usize) -> SentFile {
     let sender = course.sender;
     let transfer = sender.transfer;
@@ -137,76 +85,64 @@ pub(crate) fn file_at(course: Course, i: usize) -> SentFile {
     }
 }
 
-pub(crate) fn entry_at(course: Course, i: usize) -> Entry {
+// A file's number among the arguments.
+pub(crate) fn number_at(course: Course, i: usize) -> usize {
     if i < Transfer::FILES {
-        course.entries[i]
+        course.files[i]
     } else {
-        Entry::NONE
+        report::SESSION
     }
 }
 
-pub(crate) fn enter(course: Course, i: usize, entry: Entry) -> Course {
-    if i < Transfer::FILES {
-        let mut next = course;
-        next.entries[i] = entry;
-        next
-    } else {
-        course
-    }
-}
-
-// ---- What is said of a file.
-// A line was said of it, that it is whole or another.
+// A line was said of a file, that it is whole or another.
 pub(crate) fn said(course: Course, i: usize, is_whole: bool) -> Course {
-    let old = entry_at(course, i);
-    enter(
-        course,
-        i,
-        Entry {
-            is_said: true,
-            is_whole: is_whole,
-            ..old
-        },
-    )
+    let mut next = course;
+    if i < Transfer::FILES {
+        next.is_said[i] = true;
+        next.is_whole[i] = is_whole;
+    }
+    next
 }
 
-// A file of which nothing was said is whole once an OK closed it. At the end of the session it is unsent
+// A file of which nothing was said is whole once an OK closed it; at the end of the session it is unsent
 // where none did.
 pub(crate) fn settle(course: Course, i: usize, is_end: bool) -> Course {
-    let file = file_at(course, i);
-    let stage = file.stage;
-    let of = entry_at(course, i);
-    if of.is_said {
+    if i >= Transfer::FILES {
         return course;
     }
+    if course.is_said[i] {
+        return course;
+    }
+    let file = file_at(course, i);
+    let stage = file.stage;
+    let k = course.files[i];
     match stage {
         FileStage::Free => course,
-        FileStage::Sending => unsent(course, of, is_end),
-        FileStage::Sent => unsent(course, of, is_end),
+        FileStage::Sending => unsent(course, k, is_end),
+        FileStage::Sent => unsent(course, k, is_end),
         FileStage::Closed => {
-            report::counted(b"whole ", file.sent, of.file);
+            report::counted(b"whole ", file.sent, k);
             said(course, i, true)
         }
-        FileStage::Stopped => unsent(course, of, is_end),
+        FileStage::Stopped => unsent(course, k, is_end),
     }
 }
 
-fn unsent(course: Course, of: Entry, is_end: bool) -> Course {
+fn unsent(course: Course, k: usize, is_end: bool) -> Course {
     if is_end {
-        report::plain(b"unsent", of.file);
+        report::plain(b"unsent", k);
     }
     course
 }
 
-// Settles every file, and answers how many are whole.
+// Settles every file at the end, and answers how many are whole.
 pub(crate) fn settle_all(course: Course) -> usize {
     let mut next = course;
     let mut whole = 0;
     let mut i = 0;
     while i < Transfer::FILES {
         next = settle(next, i, true);
-        let of = entry_at(next, i);
-        whole += one_if(of.is_whole);
+        whole += one_if(next.is_whole[i]);
         i += 1;
     }
     whole
@@ -216,18 +152,4 @@ fn one_if(b: bool) -> usize
     ensures { λ r. ⌜ r ≤ 1 ⌝ }
 {
     if b { 1 } else { 0 }
-}
-
-// The current file cannot be read on: it is given up, and the session with it.
-pub(crate) fn unread(course: Course) -> Course {
-    report::plain(b"unread", current_file(course));
-    over(said(course, current(course), false))
-}
-
-// Shows how far the current file is.
-pub(crate) fn show(course: Course) {
-    let i = current(course);
-    let of = entry_at(course, i);
-    let file = file_at(course, i);
-    report::progress(file.sent, of.size, of.file);
 }

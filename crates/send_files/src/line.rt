@@ -29,28 +29,21 @@ pub(crate) fn wait(course: Course, input: &mut [u8], carry: &mut [u8]) -> Course
 // behind this one's.
 fn turn(course: Course, input: &mut [u8], carry: &mut [u8]) -> Course {
     if course.at < course.end {
-        hear(course, input, carry)
-    } else {
-        read(course, input)
+        return hear(course, input, carry);
     }
+    let Got::Bytes(n) = streams::read(input) else {
+        return course::ended(course, Run::NotRead);
+    };
+    if n == 0 {
+        return course::ended(course, Run::Well);
+    }
+    let mut next = course;
+    next.at = 0;
+    next.end = n;
+    next
 }
 
-fn read(course: Course, input: &mut [u8]) -> Course {
-    match streams::read(input) {
-        Got::Bytes(n) => {
-            if n == 0 {
-                return course::ended(course);
-            }
-            Course {
-                at: 0,
-                end: n,
-                ..course
-            }
-        }
-        Got::Failed => course::checked(course, Run::NotRead),
-    }
-}
-
+// What of a piece is not consumed stands at its end.
 fn hear(course: Course, input: &[u8], carry: &mut [u8]) -> Course {
     let sender = course.sender;
     let at = course.at;
@@ -58,20 +51,18 @@ fn hear(course: Course, input: &[u8], carry: &mut [u8]) -> Course {
     let mut scratch = [0u8; Command::SCRATCH_ROOM];
     let heard = sender::hear(sender, piece, carry, &mut scratch);
     if heard.consumed == 0 {
-        return course::checked(course, Run::Stuck);
+        return course::ended(course, Run::Stuck);
     }
     let after = heard.sender;
     let news = heard.news;
-    let next = Course {
-        sender: after,
-        at: less(course.end, less(piece.len(), heard.consumed)),
-        ..course
-    };
-    heed(next, news, &mut scratch)
+    let mut next = course;
+    next.sender = after;
+    next.at = less(course.end, less(piece.len(), heard.consumed));
+    heed(next, news, &scratch)
 }
 
 // What is told is said, where it is bad news. Only a status of the session answers a command.
-fn heed(course: Course, news: News, scratch: &mut [u8]) -> Course {
+fn heed(course: Course, news: News, scratch: &[u8]) -> Course {
     match news {
         News::Nothing => course,
         News::Refused(_) => course,
@@ -85,32 +76,28 @@ fn heed(course: Course, news: News, scratch: &mut [u8]) -> Course {
 }
 
 fn answered(course: Course) -> Course {
-    Course {
-        is_answered: true,
-        ..course
-    }
+    let mut next = course;
+    next.is_answered = true;
+    next
 }
 
 fn differs(course: Course, i: usize, size: Number) -> Course {
-    let of = course::entry_at(course, i);
     let file = course::file_at(course, i);
-    report::differs(file.sent, size, of.file);
+    report::differs(file.sent, size, course::number_at(course, i));
     answered(course::said(course, i, false))
-}
-
-fn file_stopped(course: Course, i: usize, place: Place, scratch: &mut [u8]) -> Course {
-    let of = course::entry_at(course, i);
-    stopped(place, scratch, of.file);
-    answered(course::said(course, i, false))
-}
-
-fn session_stopped(course: Course, place: Place, scratch: &mut [u8]) -> Course {
-    stopped(place, scratch, report::SESSION);
-    course::over(course)
 }
 
 // The status stands in the scratch.
-fn stopped(place: Place, scratch: &mut [u8], file: usize) {
-    report::make_printable(scratch);
-    report::stopped(octets::part(scratch, place.start, place.len), file);
+fn file_stopped(course: Course, i: usize, place: Place, scratch: &[u8]) -> Course {
+    let status = octets::part(scratch, place.start, place.len);
+    report::stopped(status, course::number_at(course, i));
+    answered(course::said(course, i, false))
+}
+
+fn session_stopped(course: Course, place: Place, scratch: &[u8]) -> Course {
+    let status = octets::part(scratch, place.start, place.len);
+    report::stopped(status, report::SESSION);
+    let mut next = course;
+    next.is_going = false;
+    next
 }

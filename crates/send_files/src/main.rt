@@ -1,7 +1,7 @@
 // Sends files to a console: send_files SESSION LOCAL NAME [LOCAL NAME]..
 //
-// Commands go to standard output and replies come from standard input, since both are the terminal line.
-// What became of each file is said on standard error.
+// Commands go to standard output and replies come from standard input: both are the terminal line. What
+// became of each file is said on standard error.
 mod arguments;
 mod commands;
 mod course;
@@ -11,9 +11,9 @@ mod report;
 mod source;
 
 fn main() {
-    let count = os::arg_count();
-    if arguments::are_whole(count) {
-        office::run(arguments::files(count));
+    let files = arguments::files(os::arg_count());
+    if files > 0 {
+        office::run(files);
     } else {
         report::plain(
             b"usage: send_files SESSION LOCAL NAME [LOCAL NAME]..",

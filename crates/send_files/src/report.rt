@@ -1,6 +1,9 @@
 // The lines on standard error. A terminal shows also how far the current file is, in one line that is
-// written over; it may be in raw mode, in which a line's end does not return to its start.
+// written over. It may be in raw mode, in which a line's end does not return to its start. A failed write
+// to standard error can be said nowhere.
 use crate::arguments;
+use command::letters;
+use command::letters::Class;
 use decimal::Number;
 use libc::STDERR_FILENO;
 
@@ -10,114 +13,84 @@ pub(crate) const SESSION: usize = 18446744073709551615;
 // ---- Lines. A file is named by its number among the arguments.
 pub(crate) fn plain(word: &[u8], file: usize) {
     start(word);
-    end(file);
+    end(file, true);
 }
 
 pub(crate) fn counted(word: &[u8], n: u64, file: usize) {
     start(word);
-    number(n);
-    end(file);
+    io::print_decimal(STDERR_FILENO, n);
+    end(file, true);
 }
 
-// A status that stops. One that is empty is shown as `-`.
+// A status that stops. It is the console's text, and is shown up to a byte that a terminal might take for
+// a command. Where that leaves nothing, `-` is shown.
 pub(crate) fn stopped(status: &[u8], file: usize) {
+    let n = letters::pass(Class::Text, status, 0);
     start(b"stopped ");
-    if status.len() == 0 {
-        text(b"-");
+    if n == 0 {
+        io::write_all(STDERR_FILENO, b"-");
     }
-    text(status);
-    end(file);
+    io::write_all(STDERR_FILENO, octets::part(status, 0, n));
+    end(file, true);
 }
 
 pub(crate) fn differs(sent: u64, size: Number, file: usize) {
     start(b"differs ");
-    number(sent);
+    io::print_decimal(STDERR_FILENO, sent);
     if size.negative {
-        text(b" -");
+        io::write_all(STDERR_FILENO, b" -");
     } else {
-        text(b" ");
+        io::write_all(STDERR_FILENO, b" ");
     }
-    number(size.magnitude);
-    end(file);
+    io::print_decimal(STDERR_FILENO, size.magnitude);
+    end(file, true);
 }
 
 pub(crate) fn last(whole: usize, files: usize) {
     start(b"");
-    number(whole as u64);
-    text(b" of ");
-    number(files as u64);
-    text(b" files whole");
-    end(SESSION);
+    io::print_decimal(STDERR_FILENO, whole as u64);
+    io::write_all(STDERR_FILENO, b" of ");
+    io::print_decimal(STDERR_FILENO, files as u64);
+    io::write_all(STDERR_FILENO, b" files whole");
+    end(SESSION, true);
 }
 
 // The line that is written over, on a terminal alone. A size of 0 is one that is not known.
 pub(crate) fn progress(sent: u64, size: u64, file: usize) {
-    if !is_terminal() {
+    if libc::isatty(STDERR_FILENO) != 1 {
         return;
     }
     start(b"sending ");
-    number(sent);
+    io::print_decimal(STDERR_FILENO, sent);
     if size > 0 {
-        text(b" of ");
-        number(size);
+        io::write_all(STDERR_FILENO, b" of ");
+        io::print_decimal(STDERR_FILENO, size);
     }
-    local(file);
+    end(file, false);
 }
 
 // ---- Parts of lines.
 // A line stands where the one that is written over stood.
 fn start(word: &[u8]) {
-    if is_terminal() {
-        text(b"\r\x1b[K");
+    if libc::isatty(STDERR_FILENO) == 1 {
+        io::write_all(STDERR_FILENO, b"\r\x1b[K");
     }
-    text(word);
+    io::write_all(STDERR_FILENO, word);
 }
 
-fn end(file: usize) {
+// The file's local path, and the line's end where it is not written over.
+fn end(file: usize, is_kept: bool) {
     if file != SESSION {
-        local(file);
+        let mut path = io::buffer();
+        let n = arguments::read(file, arguments::LOCAL, &mut path);
+        io::write_all(STDERR_FILENO, b" ");
+        io::write_all(STDERR_FILENO, octets::part(&path, 0, n));
     }
-    if is_terminal() {
-        text(b"\r");
+    if !is_kept {
+        return;
     }
-    text(b"\n");
-}
-
-fn local(file: usize) {
-    let mut path = io::buffer();
-    let n = arguments::read(arguments::local(file), &mut path);
-    text(b" ");
-    text(octets::part(&path, 0, n));
-}
-
-fn number(n: u64) {
-    io::print_decimal(STDERR_FILENO, n);
-}
-
-// A failed write to standard error can be said nowhere.
-fn text(s: &[u8]) {
-    io::write_all(STDERR_FILENO, s);
-}
-
-fn is_terminal() -> bool {
-    libc::isatty(STDERR_FILENO) == 1
-}
-
-// A status is the console's text: what a terminal might take for a command is replaced.
-pub(crate) fn make_printable(status: &mut [u8]) {
-    let mut i = 0;
-    while i < status.len() {
-        status[i] = printable(status[i]);
-        i += 1;
+    if libc::isatty(STDERR_FILENO) == 1 {
+        io::write_all(STDERR_FILENO, b"\r");
     }
-}
-
-fn printable(b: u8) -> u8 {
-    if b < 0x20 {
-        b'?'
-    } else if b > 0x7e {
-        b'?'
-    } else {
-        b
-    }
+    io::write_all(STDERR_FILENO, b"\n");
 }

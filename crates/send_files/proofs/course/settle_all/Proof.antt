@@ -15,8 +15,8 @@ loop-holds c = search needs
 settle-requires : tie.Need-settle-requires Inv-loop μ-loop
 settle-requires c κs = search needs
 
-entry-at-requires : tie.Need-entry-at-requires Inv-loop μ-loop
-entry-at-requires c κs = search needs
+element-copy-out-one-if : tie.Need-element-copy-out-one-if Inv-loop μ-loop
+element-copy-out-one-if c = search needs
 
 one-if-requires : tie.Need-one-if-requires Inv-loop μ-loop
 one-if-requires c κs = search needs
@@ -44,7 +44,7 @@ settle-all-spec =
     μ-loop
     loop-holds
     settle-requires
-    entry-at-requires
+    element-copy-out-one-if
     one-if-requires
     add-whole
     add-i

@@ -5,7 +5,8 @@ use Rattle.send_files.proofs.line.wait.Statement.{statement}
 use Rattle.send_files.proofs.line.wait.Tie as tie
 
 abbrev Inv-loop : tie.InvT-loop
-Inv-loop input₀ carry₀ next₀ turns₀ input carry next turns = (length input ≡ length input₀) × (length carry ≡ length carry₀)
+Inv-loop input₀ carry₀ next₀ turns₀ input carry next turns =
+    (length input ≡ length input₀) × (length carry ≡ length carry₀)
 
 abbrev μ-loop : tie.MeasureT-loop
 μ-loop input₀ carry₀ next₀ turns₀ input carry next turns = turns

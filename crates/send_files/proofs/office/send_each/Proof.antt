@@ -6,7 +6,8 @@ use Rattle.send_files.proofs.office.send_each.Statement.{statement}
 use Rattle.send_files.proofs.office.send_each.Tie as tie
 
 abbrev Inv-loop : tie.InvT-loop
-Inv-loop files input₀ carry₀ course₀ k₀ input carry course k = (k ≤ files) × (length input ≡ length input₀) × (length carry ≡ length carry₀)
+Inv-loop files input₀ carry₀ course₀ k₀ input carry course k =
+    (k ≤ files) × (length input ≡ length input₀) × (length carry ≡ length carry₀)
 
 abbrev μ-loop : tie.MeasureT-loop
 μ-loop files input₀ carry₀ course₀ k₀ input carry course k = files - k
@@ -35,6 +36,15 @@ same-length-2 c = search needs
 returns : tie.Need-returns Inv-loop μ-loop
 returns c = search needs
 
+same-length-3 : tie.Need-same-length-3 Inv-loop μ-loop
+same-length-3 c = search needs
+
+same-length-4 : tie.Need-same-length-4 Inv-loop μ-loop
+same-length-4 c = search needs
+
+returns-2 : tie.Need-returns-2 Inv-loop μ-loop
+returns-2 c = search needs
+
 pub send-each-spec : {M : Type 1} → statement M
 send-each-spec =
     tie.close
@@ -48,4 +58,7 @@ send-each-spec =
     loop-again
     same-length
     same-length-2
-    returns)
+    returns
+    same-length-3
+    same-length-4
+    returns-2)
