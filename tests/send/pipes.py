@@ -16,20 +16,20 @@ class Run:
     """send_files, tee, the console and tee again, each writing to the next, and the last to the first. Afterwards: its exit status,
     the lines that it said, what was written each way."""
 
-    def __init__(self, sender, case, folder):
+    def __init__(self, sender, case, folder, limit=LIMIT):
         self.folder, self.others, began = folder, [], time.monotonic()
         words = [word for file in case.files for word in (self.made(file), file.name or str(self.arrived(file)))]
         ends = [os.pipe() for _ in range(4)]
         said = os.openpty() if case.terminal else (None, os.open(self.copy("said"), os.O_RDWR | os.O_CREAT))
         chain = [
-            start([sender, case.session, *words], ends[3][0], ends[0][1], stderr=said[1], cwd=folder),
+            start([*sender, case.session, *words], ends[3][0], ends[0][1], stderr=said[1], cwd=folder),
             start(["tee", self.copy("sent")], ends[0][0], ends[1][1], stderr=subprocess.DEVNULL),
             start(case.console, ends[1][0], ends[2][1], stderr=subprocess.DEVNULL),
             start(["tee", self.copy("replied")], ends[2][0], ends[3][1], stderr=subprocess.DEVNULL),
         ]
         for end in [end for pair in ends for end in pair] + [said[1]]:
             os.close(end)
-        self.status = self.end_of(chain, began + LIMIT)
+        self.status = self.end_of(chain, began + limit)
         self.said = all_of(said[0]) if case.terminal else self.kept("said")
         self.sent, self.replied = self.kept("sent"), self.kept("replied")
         self.lines = [left(line) for line in self.said.decode().split("\n")[:-1]]
