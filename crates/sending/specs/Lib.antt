@@ -11,3 +11,6 @@ pub mod Telling
 pub mod Every
 pub mod Cuts
 pub mod WrongSenders
+pub mod Plans
+pub mod Exchange
+pub mod Arrives
