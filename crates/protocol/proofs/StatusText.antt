@@ -65,11 +65,11 @@ action-shown : shown (kindAt keys 0) (Value.number (count 8)) ≡ textOr (ascii 
 unfolding shown wordShown split onto
 action-shown = refl
 
-id-shown : (v : List ℕ) → every safeByte v ≡ true → length v ≤ 32 → shown (Kind.safe true) (Value.bytes v) ≡ textOr v
+pub id-shown : (v : List ℕ) → every safeByte v ≡ true → length v ≤ 32 → shown (Kind.safe true) (Value.bytes v) ≡ textOr v
 unfolding shown safeShown
 id-shown v s h = rw (s, le-ltb 32 (length v) h)
 
-size-shown : (n : ℕ) → n ≤ countLimit → shown Kind.integer (Value.number (count n)) ≡ textOr (sizeText n)
+pub size-shown : (n : ℕ) → n ≤ countLimit → shown Kind.integer (Value.number (count n)) ≡ textOr (sizeText n)
 unfolding shown integerShown Decimal.writable
 size-shown n h = rw (le-ltb 9223372036854775807 n (omega arith)) (go (eqb n 0))
   where
@@ -77,51 +77,52 @@ size-shown n h = rw (le-ltb 9223372036854775807 n (omega arith)) (go (eqb n 0))
     go true = refl
     go false = rw (text-some (Decimal.textOf (count n)) (text-length (count n) .0))
 
-word-shown : (w : Status) → shown Kind.base64 (Value.bytes (statusWord w)) ≡ textOr (Base64.textOf (statusWord w))
+pub base64-shown : (b : List ℕ) → every isByte b ≡ true → shown Kind.base64 (Value.bytes b) ≡ textOr (Base64.textOf b)
 unfolding shown base64Shown
-word-shown w = rw (word-fits w .0)
+base64-shown b e = rw e
 
 -- ---- field by field
 -- what is written of values by keys: these fields, and nothing is refused
-record Shows (ks : List Key) (c : List Value) (fs : List (List ℕ)) : Type 0 where
-  fields : fieldsOf ks c ≡ fs
-  fine : checkedOf ks c ≡ Checked.fine
+pub record Shows (ks : List Key) (c : List Value) (fs : List (List ℕ)) : Type 0 where
+  pub fields : fieldsOf ks c ≡ fs
+  pub fine : checkedOf ks c ≡ Checked.fine
 
-shows-none : Shows [] [] []
+pub shows-none : Shows [] [] []
 unfolding fieldsOf checkedOf
 shows-none = record { fields = refl; fine = refl }
 
-shows-text : (k : Key) (ks : List Key) (v : Value) (c : List Value) (b : List ℕ) (fs : List (List ℕ)) → shown (k .kind) v ≡ textOr b
+pub shows-text : (k : Key) (ks : List Key) (v : Value) (c : List Value) (b : List ℕ) (fs : List (List ℕ)) → shown (k .kind) v ≡ textOr b
     → Shows ks c fs → Shows (k ∷ ks) (v ∷ c) (unlessEmpty (k .name) b fs)
 unfolding fieldsOf checkedOf
 shows-text k ks v c [] fs e r = record { fields = rw (e, r .fields); fine = rw (e, r .fine) }
 shows-text k ks v c (x ∷ b) fs e r = record { fields = rw (e, r .fields); fine = rw (e, r .fine) }
 
-shows-absent : (k : Key) (ks : List Key) (c : List Value) (fs : List (List ℕ)) → Shows ks c fs → Shows (k ∷ ks) (absent (k .kind) ∷ c) fs
+pub shows-absent : (k : Key) (ks : List Key) (c : List Value) (fs : List (List ℕ)) → Shows ks c fs
+    → Shows (k ∷ ks) (absent (k .kind) ∷ c) fs
 shows-absent k ks c fs r = shows-text k ks (absent (k .kind)) c [] fs (absent-shown (k .kind)) r
 
-unless-some : (name v : List ℕ) (fs : List (List ℕ)) → 1 ≤ length v → unlessEmpty name v fs ≡ (name ++ 61 ∷ v) ∷ fs
+pub unless-some : (name v : List ℕ) (fs : List (List ℕ)) → 1 ≤ length v → unlessEmpty name v fs ≡ (name ++ 61 ∷ v) ∷ fs
 unless-some name [] fs h = absurd (omega arith)
 unless-some name (x ∷ v) fs h = refl
 
 -- ---- how long the text is
 -- what the fields after the first add, each with a `;`
-added : List (List ℕ) → ℕ
+unfoldable pub added : List (List ℕ) → ℕ
 added [] = 0
 added (f ∷ fs) = suc (length f) + added fs
 
-joined-length : (f : List ℕ) (fs : List (List ℕ)) → length (join 59 (f ∷ fs)) ≡ length f + added fs
+pub joined-length : (f : List ℕ) (fs : List (List ℕ)) → length (join 59 (f ∷ fs)) ≡ length f + added fs
 unfolding join added
 joined-length f [] = omega arith
 joined-length f (g ∷ fs) = omega (arith, length-append f (59 ∷ join 59 (g ∷ fs)), joined-length g fs)
 
-unless-added : (name v : List ℕ) (fs : List (List ℕ)) → added (unlessEmpty name v fs) ≤ 2 + length name + length v + added fs
+pub unless-added : (name v : List ℕ) (fs : List (List ℕ)) → added (unlessEmpty name v fs) ≤ 2 + length name + length v + added fs
 unfolding added
 unless-added name [] fs = omega arith
 unless-added name (x ∷ v) fs = omega (arith, length-append name (61 ∷ x ∷ v))
 
 -- 2^40 has 13 digits
-size-length : (n : ℕ) → n ≤ countLimit → length (sizeText n) ≤ 13
+pub size-length : (n : ℕ) → n ≤ countLimit → length (sizeText n) ≤ 13
 unfolding Decimal.textOf
 size-length n h = go (eqb n 0) (Decimal.writable (count n))
   where
@@ -164,7 +165,7 @@ module _ (id file : List ℕ) (size : ℕ) (w : Status) (safe : every safeByte i
       (shows-absent _ _ _ _ (shows-absent _ _ _ _ (shows-absent _ _ _ _ (shows-absent _ _ _ _
       (shows-text _ _ _ _ (sizeText size) _ (size-shown size small)
       (shows-absent _ _ _ _
-      (shows-text _ _ _ _ (Base64.textOf (statusWord w)) _ (word-shown w)
+      (shows-text _ _ _ _ (Base64.textOf (statusWord w)) _ (base64-shown (statusWord w) (word-fits w .0))
       (shows-absent _ _ _ _ (shows-absent _ _ _ _ shows-none)))))))))))))))
 
   -- "canonical text with `ac=status` .."

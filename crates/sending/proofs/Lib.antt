@@ -21,3 +21,4 @@ mod Cuts
 mod Refuting
 mod Teeth
 mod EveryCall
+pub mod arrival
