@@ -3,3 +3,4 @@
 -- texts one by one, however it is cut; an exchange divides the plan's orders in five, and every turn moves one border or none.
 pub mod lists
 pub mod path
+pub mod receiver

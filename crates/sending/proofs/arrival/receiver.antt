@@ -1,0 +1,5 @@
+-- What the receiver makes of an order that it reads, and of the answer to it.
+pub mod Records
+pub mod Commands
+pub mod Reads
+pub mod Answers
