@@ -4,3 +4,4 @@
 pub mod lists
 pub mod path
 pub mod receiver
+pub mod sender
