@@ -5,3 +5,4 @@ pub mod lists
 pub mod path
 pub mod receiver
 pub mod sender
+pub mod line
