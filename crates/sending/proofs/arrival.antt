@@ -6,3 +6,4 @@ pub mod path
 pub mod receiver
 pub mod sender
 pub mod line
+pub mod history
