@@ -7,3 +7,4 @@ pub mod receiver
 pub mod sender
 pub mod line
 pub mod history
+pub mod exchange
