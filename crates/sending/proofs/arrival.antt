@@ -8,3 +8,6 @@ pub mod sender
 pub mod line
 pub mod history
 pub mod exchange
+-- that it is not empty, and false of wrong senders
+pub mod examples
+pub mod wrong

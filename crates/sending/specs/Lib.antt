@@ -14,3 +14,4 @@ pub mod WrongSenders
 pub mod Plans
 pub mod Exchange
 pub mod Arrives
+pub mod WrongArrivals

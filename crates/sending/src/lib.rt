@@ -10,7 +10,9 @@ ghost use Rattle.sending.specs.Claims.{LongIdAsWritten};
 ghost use Rattle.sending.specs.Cuts.{SenderCutsAlike};
 ghost use Rattle.sending.specs.Every.{EverySender};
 ghost use Rattle.sending.specs.Machine.{ours};
+ghost use Rattle.sending.specs.Arrives.{Arrives};
 ghost use Rattle.sending.specs.WrongSenders.{SenderTeeth};
+ghost use Rattle.sending.specs.WrongArrivals.{WrongSendersFall};
 use command::Place;
 use decimal::Number;
 use frames::Framing;
@@ -40,7 +42,7 @@ pub enum FileStage {
 // is not kept.
 pub struct SentFile {
     pub stage: FileStage,
-    pub id: [u8; 32],
+    pub id: [u8; Transfer::ID_ROOM],
     pub id_len: usize,
     pub sent: u64,
 }
@@ -49,7 +51,7 @@ pub struct SentFile {
 // the current one.
 pub struct Transfer {
     pub stage: Stage,
-    pub id: [u8; 32],
+    pub id: [u8; Transfer::ID_ROOM],
     pub id_len: usize,
     pub files: [SentFile; Transfer::FILES],
     pub count: usize,
@@ -117,7 +119,7 @@ pub enum Word {
 impl SentFile {
     pub const FREE: SentFile = SentFile {
         stage: FileStage::Free,
-        id: [0; 32],
+        id: [0; Transfer::ID_ROOM],
         id_len: 0,
         sent: 0,
     };
@@ -127,9 +129,12 @@ impl Transfer {
     // "a 33rd file"
     pub const FILES: usize = 32;
 
+    // How many bytes a session's id has at most, and a file's.
+    pub const ID_ROOM: usize = 32;
+
     pub const NONE: Transfer = Transfer {
         stage: Stage::Fresh,
-        id: [0; 32],
+        id: [0; Transfer::ID_ROOM],
         id_len: 0,
         files: [SentFile::FREE; Transfer::FILES],
         count: 0,
@@ -138,10 +143,12 @@ impl Transfer {
 
 impl Sender {
     // Nothing is written and nothing heard. What holds at each call of every list of calls from here, that
-    // cuts do not matter, wrong senders of which this is false, what a long file id gets, and the examples
-    // stand here too, so that nobody can drop a theorem unseen.
+    // cuts do not matter, that what is sent to a fresh receiver arrives whole, wrong senders of which these
+    // are false, what a long file id gets, and the examples stand here too, so that nobody can drop a
+    // theorem unseen.
     pub fn fresh() -> Sender
-        ensures { λ r. ⌜ (r ≡ freshSender) × EverySender ours × SenderCutsAlike ours × SenderTeeth × LongIdAsWritten × AllRun examples ⌝ }
+        ensures { λ r. ⌜ (r ≡ freshSender) × EverySender ours × SenderCutsAlike ours × Arrives ours × SenderTeeth × WrongSendersFall
+            × LongIdAsWritten × AllRun examples ⌝ }
     {
         Sender {
             framing: Framing::Plain,
