@@ -3,14 +3,12 @@ use crate::ROOM;
 use command::Command;
 use command::Reading;
 use frames::Framing;
-use octets::Stored;
+use octets::size::least;
 use octets::size::less;
 use protocol::Answered;
-use protocol::Fed;
 use protocol::FileRecord;
 use protocol::Receiver;
 use protocol::Reply;
-use protocol::Told;
 use streams::Run;
 
 // How the run stands, and the receiver.
@@ -21,130 +19,96 @@ pub struct Console {
 
 // A fresh receiver, the session allowed.
 pub(crate) fn fresh(run: Run) -> Console {
-    Console {
+    let state = Console {
         run: run,
-        receiver: unseen(Receiver::fresh(), b"ac=send", b""),
-    }
+        receiver: Receiver::fresh(),
+    };
+    play(state, b"ac=send", b"", false)
 }
 
 // The session canceled, sent and allowed anew.
-pub(crate) fn again(receiver: Receiver) -> Receiver {
-    unseen(unseen(receiver, b"ac=cancel", b""), b"ac=send", b"")
+pub(crate) fn again(state: Console) -> Console {
+    let canceled = play(state, b"ac=cancel", b"", false);
+    play(canceled, b"ac=send", b"", false)
 }
 
-pub(crate) fn with_receiver(state: Console, receiver: Receiver) -> Console {
-    Console {
-        receiver: receiver,
-        ..state
-    }
-}
-
-// A word that stands for nothing.
-pub(crate) fn bad(state: Console) -> Console {
-    let run = state.run;
-    Console {
-        run: run.text(b" no such word"),
-        ..state
-    }
-}
-
-// The command of some fields and a value after them, its reply printed.
-pub(crate) fn seen<'a>(before: Console, fields: &'a [u8], value: &'a [u8]) -> Console {
+// The command of some fields and a value after them, its reply printed or not.
+pub(crate) fn play<'a>(before: Console, fields: &'a [u8], value: &'a [u8], shown: bool) -> Console {
+    let mut frame = [0u8; ROOM];
     let mut reply = [0u8; Reply::ROOM];
+    let n = framed(fields, value, &mut frame);
     let run = before.run;
-    let receiver = before.receiver;
-    let answered = feed(receiver, fields, value, &mut reply);
+    let answered = feed(before.receiver, octets::part(&frame, 0, n), &mut reply);
     let next = answered.receiver;
+    let text = octets::part(&reply, 0, answered.reply_len);
     Console {
-        run: tell(run.text(b" "), octets::part(&reply, 0, answered.reply_len)),
+        run: tell(run, shown, text),
         receiver: next,
     }
 }
 
-// The same, and nothing is printed.
-pub(crate) fn unseen<'a>(receiver: Receiver, fields: &'a [u8], value: &'a [u8]) -> Receiver {
-    let mut reply = [0u8; Reply::ROOM];
-    let answered = feed(receiver, fields, value, &mut reply);
-    answered.receiver
-}
-
-// The receiver with another count in the session's first file record.
-pub(crate) fn with_count(receiver: Receiver, n: u64) -> Receiver {
+// The session's first file record with another count.
+pub(crate) fn with_count(state: Console, n: u64) -> Console {
+    let run = state.run;
+    let receiver = state.receiver;
     let framing = receiver.framing;
     let mut table = receiver.table;
     let mut session = table.sessions[0];
     let file = session.files[0];
     session.files[0] = FileRecord { count: n, ..file };
     table.sessions[0] = session;
-    Receiver {
+    let counted = Receiver {
         framing: framing,
         table: table,
+    };
+    Console {
+        run: run,
+        receiver: counted,
     }
 }
 
-// Feeds the command in one piece, and answers it. The reply is the feed's, or else the answer's: a feed
-// that asks has none.
-fn feed<'a>(receiver: Receiver, fields: &'a [u8], value: &'a [u8], reply: &mut [u8]) -> Answered {
-    let mut frame = [0u8; ROOM];
+// Feeds a piece, says done, and allows the session: what was not asked is refused, and changes nothing.
+// The reply is the feed's, or else the answer's: a feed that asks has none.
+fn feed(receiver: Receiver, piece: &[u8], reply: &mut [u8]) -> Answered {
     let mut carry = [0u8; Framing::TEXT_LIMIT];
     let mut scratch = [0u8; Command::SCRATCH_ROOM];
-    let n = framed(fields, value, &mut frame);
-    let piece = octets::part(&frame, 0, n);
     let fed = receiver::feed(receiver, piece, &mut carry, &mut scratch, reply);
-    answer(fed, reply)
+    let done = receiver::done(fed.receiver, reply);
+    let allowed = receiver::allow(done.receiver, b"m", reply);
+    Answered {
+        reply_len: first(fed.reply_len, done.reply_len),
+        ..allowed
+    }
+}
+
+fn first(n: usize, m: usize) -> usize {
+    if n > 0 { n } else { m }
 }
 
 // Stores the command's frame, and says where it ends.
 fn framed<'a>(fields: &'a [u8], value: &'a [u8], frame: &mut [u8]) -> usize {
-    let opened = put(b"\x1B]5113;id=m;", frame, 0);
-    let named = put(fields, frame, opened);
-    let ended = put(value, frame, named);
-    put(b"\x1B\\", frame, ended)
+    octets::copy_at(b"\x1B]5113;id=m;", frame, 0);
+    octets::copy_at(fields, frame, 12);
+    let named = 12 + least(fields.len(), ROOM);
+    octets::copy_at(value, frame, named);
+    let ended = named + least(value.len(), ROOM);
+    octets::copy_at(b"\x1B\\", frame, ended);
+    ended + 2
 }
 
-fn put(s: &[u8], frame: &mut [u8], at: usize) -> usize {
-    match octets::copy_at(s, frame, at) {
-        Stored::End(n) => n,
-        Stored::NoRoom => at,
+// A blank, and the status word of a reply's frame and its size if it has one, `-` for no reply.
+fn tell(run: Run, shown: bool, frame: &[u8]) -> Run {
+    if !shown {
+        return run;
     }
-}
-
-fn answer(fed: Fed, reply: &mut [u8]) -> Answered {
-    let receiver = fed.receiver;
-    let told = fed.told;
-    let n = fed.reply_len;
-    match told {
-        Told::Asked => receiver::allow(receiver, b"m", reply),
-        Told::Ask(_) => receiver::done(receiver, reply),
-        Told::Nothing => unanswered(receiver, n),
-        Told::Refused(_) => unanswered(receiver, n),
-        Told::Ignored => unanswered(receiver, n),
-        Told::Status(_) => unanswered(receiver, n),
-        Told::Withdrawn => unanswered(receiver, n),
-        Told::Discarded => unanswered(receiver, n),
-        Told::Committed => unanswered(receiver, n),
-    }
-}
-
-// The receiver as it is, and the reply that the feed made.
-fn unanswered(receiver: Receiver, reply_len: usize) -> Answered {
-    Answered {
-        receiver: receiver,
-        told: Told::Nothing,
-        reply_len: reply_len,
-    }
-}
-
-// The status word of a reply's frame and its size if it has one, `-` for no reply.
-fn tell(run: Run, frame: &[u8]) -> Run {
     if frame.len() == 0 {
-        return run.text(b"-");
+        return run.text(b" -");
     }
     let mut scratch = [0u8; Command::SCRATCH_ROOM];
     let text = octets::part(frame, 2, less(frame.len(), 4));
     match command_reader::read(text, &mut scratch) {
-        Reading::Read(c) => status(run, c, &scratch),
-        Reading::Refused(_) => run.text(b"no command"),
+        Reading::Read(c) => status(run.text(b" "), c, &scratch),
+        Reading::Refused(_) => run.text(b" no command"),
     }
 }
 

@@ -1,25 +1,21 @@
 // Integers, read and written.
+use crate::line::after;
+use crate::line::number;
 use decimal::Number;
 use decimal::Parsed;
 use decimal::Written;
 use streams::Run;
 
-pub(crate) fn run(run: Run) -> Run {
-    write_places(write_numbers(run))
-}
-
 pub(crate) fn read(run: Run, text: &[u8]) -> Run {
-    let asked = run.text(b"decimal read ").text(text).text(b": ");
-    let told = match decimal::parse(text) {
-        Parsed::Integer(n) => number(asked, n),
-        Parsed::Malformed => asked.text(b"malformed"),
-        Parsed::OutOfRange => asked.text(b"out of range"),
-    };
-    told.text(b"\n")
+    match decimal::parse(text) {
+        Parsed::Integer(n) => integer(run, n),
+        Parsed::Malformed => run.text(b"malformed"),
+        Parsed::OutOfRange => run.text(b"out of range"),
+    }
 }
 
 // The sign and the magnitude.
-fn number(run: Run, n: Number) -> Run {
+fn integer(run: Run, n: Number) -> Run {
     let magnitude = n.magnitude as usize;
     if n.negative {
         run.text(b"minus ").number(magnitude)
@@ -28,60 +24,48 @@ fn number(run: Run, n: Number) -> Run {
     }
 }
 
-fn write_numbers(before: Run) -> Run {
-    let mut run = before;
-    run = write(run, false, 0);
-    run = write(run, true, 0);
-    run = write(run, false, 7);
-    run = write(run, true, 10);
-    run = write(run, false, 9223372036854775807);
-    run = write(run, false, 9223372036854775808);
-    run = write(run, true, 9223372036854775808);
-    run = write(run, true, 9223372036854775809);
-    write(run, false, 18446744073709551615)
+// `minus MAGNITUDE` or a magnitude alone: also what no integer of the protocol is.
+fn number_of(words: &[u8]) -> Number {
+    if octets::starts_with(words, b"minus ") {
+        Number {
+            negative: true,
+            magnitude: number(after(words)),
+        }
+    } else {
+        Number {
+            negative: false,
+            magnitude: number(words),
+        }
+    }
 }
 
-fn write_places(before: Run) -> Run {
-    let mut run = before;
-    run = write_at(run, 12, 0);
-    run = write_at(run, 12, 2);
-    run = write_at(run, 12, 3);
-    write_at(run, 12, 5)
-}
-
-fn write(run: Run, negative: bool, magnitude: u64) -> Run {
+pub(crate) fn write(run: Run, words: &[u8]) -> Run {
     let mut buffer = [0u8; 32];
-    let n = Number {
-        negative: negative,
-        magnitude: magnitude,
-    };
-    let asked = number(run.text(b"decimal write "), n).text(b", ");
-    let counted = asked.number(decimal::text_length(n)).text(b" bytes: ");
-    let told = match decimal::write(n, &mut buffer, 0) {
+    let n = number_of(words);
+    let length = decimal::text_length(n);
+    let counted = run.text(b", ").number(length).text(b" bytes: ");
+    let w = decimal::write(n, &mut buffer, 0);
+    match w {
         Written::End(end) => counted.text(octets::part(&buffer, 0, end)),
-        Written::NegativeZero => counted.text(b"negative zero"),
-        Written::OutOfRange => counted.text(b"out of range"),
-        Written::NoRoom => counted.text(b"no room"),
-    };
-    told.text(b"\n")
+        Written::NegativeZero => tell(counted, w),
+        Written::OutOfRange => tell(counted, w),
+        Written::NoRoom => tell(counted, w),
+    }
 }
 
-// A buffer of four bytes.
-fn write_at(run: Run, magnitude: u64, at: usize) -> Run {
+// `MAGNITUDE at PLACE of 4`, a buffer of four bytes.
+pub(crate) fn write_at(run: Run, words: &[u8]) -> Run {
     let mut buffer = [0x2Eu8; 4];
-    let n = Number {
-        negative: false,
-        magnitude: magnitude,
-    };
-    let asked = number(run.text(b"decimal write "), n)
-        .text(b" at ")
-        .number(at);
-    let placed = asked.text(b" of 4: ");
-    let told = match decimal::write(n, &mut buffer, at) {
-        Written::End(end) => placed.number(end),
-        Written::NegativeZero => placed.text(b"negative zero"),
-        Written::OutOfRange => placed.text(b"out of range"),
-        Written::NoRoom => placed.text(b"no room"),
-    };
-    told.text(b", ").text(&buffer).text(b"\n")
+    let at = number(after(after(words))) as usize;
+    let w = decimal::write(number_of(words), &mut buffer, at);
+    tell(run, w).text(b", ").text(&buffer)
+}
+
+fn tell(run: Run, w: Written) -> Run {
+    match w {
+        Written::End(end) => run.number(end),
+        Written::NegativeZero => run.text(b"negative zero"),
+        Written::OutOfRange => run.text(b"out of range"),
+        Written::NoRoom => run.text(b"no room"),
+    }
 }

@@ -1,9 +1,15 @@
 // Frames: two pieces, what is reported on the way, and the carry; texts of the longest length, and one
 // byte longer, cut at each edge.
 use crate::ROOM;
+use crate::line::after;
+use crate::line::expand;
+use crate::line::fill;
+use crate::line::number;
+use crate::line::operands;
+use crate::line::printed;
 use frames::Framing;
 use frames::Report;
-use octets::size::least;
+use octets::size::less;
 use streams::Run;
 
 // The framing after the bytes so far, and how the run stands.
@@ -12,60 +18,26 @@ struct Turn {
     run: Run,
 }
 
-pub(crate) fn run(run: Run) -> Run {
-    cuts(cuts(run, Framing::TEXT_LIMIT), Framing::TEXT_LIMIT + 1)
-}
-
-// Two pieces, parted by a bar.
+// Two pieces, parted by a bar: their reports, fed one after the other, and the carry's first bytes.
 pub(crate) fn carry(run: Run, pieces: &[u8]) -> Run {
-    let n = octets::find(pieces, 0, b'|');
-    pair(run, octets::part(pieces, 0, n), rest(pieces, n))
-}
-
-// What stands after place n.
-pub(crate) fn rest(s: &[u8], n: usize) -> &[u8] {
-    if n < s.len() { &s[n + 1..] } else { &s[..0] }
-}
-
-// The reports of two pieces, fed one after the other, and the carry's first bytes.
-fn pair<'a>(run: Run, first: &'a [u8], second: &'a [u8]) -> Run {
     let mut buffer = [0x2Eu8; ROOM];
+    let first = printed(pieces);
+    let second = operands(pieces);
     let asked = run.text(b"carry ").hex(first).text(b" | ").hex(second);
     let told = both(asked, first, second, &mut buffer);
-    told.text(b" ")
-        .text(octets::part(&buffer, 0, 24))
-        .text(b"\n")
+    told.text(b" ").text(octets::part(&buffer, 0, 24))
 }
 
-// A command text of n bytes, its frame cut after 0 to 3 and 7 bytes, and before and after each byte of
-// its closer.
-fn cuts(before: Run, n: usize) -> Run {
-    let mut run = before;
-    run = cut(run, n, 0);
-    run = cut(run, n, 1);
-    run = cut(run, n, 2);
-    run = cut(run, n, 3);
-    run = cut(run, n, 7);
-    run = cut(run, n, Framing::TEXT_LIMIT + 1);
-    run = cut(run, n, Framing::TEXT_LIMIT + 2);
-    run = cut(run, n, Framing::TEXT_LIMIT + 3);
-    run = cut(run, n, Framing::TEXT_LIMIT + 4);
-    cut(run, n, Framing::TEXT_LIMIT + 5)
-}
-
-fn cut(run: Run, n: usize, at: usize) -> Run {
+// A place and a stream with a repeated byte: the stream cut there.
+pub(crate) fn cut(run: Run, s: &[u8]) -> Run {
     let mut buffer = [0x2Eu8; ROOM];
-    let mut frame = [0x41u8; ROOM];
-    octets::copy_at(b"\x1B]5113;", &mut frame, 0);
-    octets::copy_at(b"\x1B\\", &mut frame, 2 + least(n, ROOM));
-    let end = 4 + least(n, ROOM);
-    let asked = run.text(b"text of ")
-        .number(n)
-        .text(b" bytes, cut at ")
-        .number(at);
-    let first = octets::part(&frame, 0, at);
-    let second = octets::part(&frame, at, end - least(at, end));
-    both(asked, first, second, &mut buffer).text(b"\n")
+    let short = after(operands(s));
+    let mut stream = [fill(short); ROOM];
+    let end = expand(short, &mut stream);
+    let at = number(operands(s)) as usize;
+    let first = octets::part(&stream, 0, at);
+    let second = octets::part(&stream, at, less(end, at));
+    both(run.text(printed(s)), first, second, &mut buffer)
 }
 
 // A colon, and the reports of two pieces, fed one after the other.

@@ -2,18 +2,24 @@
 // The stored output is what the documents say, so that a wrong definition shows here even where code
 // and definition agree.
 //
-// Cases that are a text stand in the stored input, a line for each: a letter for what is done with
-// it, a blank, and the text. Cases that are no line (buffers' sizes, long texts) follow in the code.
+// Every case stands in the stored input, a line for each, so that a case costs no proof: a letter for
+// what is done, a blank, and the case as it is printed. Where that does not say all, a bar and the
+// operands follow it; a name and the pieces of a stream stand as they are, and are printed in hex.
 mod base64_cases;
 mod command_cases;
 mod console;
 mod decimal_cases;
 mod declared_cases;
 mod frame_cases;
+mod line;
 mod name_cases;
 mod write_cases;
 
 use frames::Framing;
+use line::after;
+use line::asked;
+use line::first;
+use line::rest;
 use streams::Got;
 use streams::Run;
 
@@ -29,24 +35,14 @@ fn main() {
     run.end(b"vectors");
 }
 
-// A run that failed prints no case more.
+// The case of each line, and the line's end. A run that failed prints no case more.
 fn cases(bytes: &[u8]) -> Run {
-    let mut run = lines(bytes);
-    run = base64_cases::run(run);
-    run = decimal_cases::run(run);
-    run = name_cases::run(run);
-    run = command_cases::run(run);
-    run = write_cases::run(run);
-    frame_cases::run(run)
-}
-
-// The case of each line.
-fn lines(bytes: &[u8]) -> Run {
     let mut run = Run::Well;
     let mut at = 0;
     while at < bytes.len() {
         let end = octets::find(bytes, at, b'\n');
-        run = line(run, octets::part(bytes, at, end - at));
+        run = case(run, octets::part(bytes, at, end - at));
+        run = run.text(octets::part(bytes, end, 1));
         if !run.is_well() {
             break;
         }
@@ -58,20 +54,32 @@ fn lines(bytes: &[u8]) -> Run {
     run
 }
 
-fn line(run: Run, s: &[u8]) -> Run {
-    if s.len() < 2 {
-        return run;
-    }
-    let letter = s[0];
-    let text = &s[2..];
+// Cases that are not printed as they stand, or whose answer begins otherwise.
+fn case(run: Run, s: &[u8]) -> Run {
+    let letter = first(s);
+    let text = rest(s, 1);
     match letter {
-        b'e' => base64_cases::both(run, text),
-        b'b' => base64_cases::decode(run, text),
-        b'i' => decimal_cases::read(run, text),
         b'n' => name_cases::name(run, text),
-        b'r' => command_cases::read(run, text),
+        b'm' => name_cases::long(run, text),
         b'c' => frame_cases::carry(run, text),
+        b't' => frame_cases::cut(run, text),
         b's' => declared_cases::sizes(run, text),
-        _ => run.text(b"no such case\n"),
+        b'w' => write_cases::write(run, text),
+        b'l' => base64_cases::ended(run, text),
+        b'd' => decimal_cases::write(run.text(text), after(after(text))),
+        _ => plain(asked(run, text), letter, after(text)),
+    }
+}
+
+// The others: the words after the case's first.
+fn plain(run: Run, letter: u8, words: &[u8]) -> Run {
+    match letter {
+        b'e' => base64_cases::encode(run, after(words)),
+        b'b' => base64_cases::decode(run, after(words)),
+        b'p' => base64_cases::place(run, after(words)),
+        b'i' => decimal_cases::read(run, after(words)),
+        b'a' => decimal_cases::write_at(run, after(words)),
+        b'r' => command_cases::read(run, words),
+        _ => run.text(b"no such case"),
     }
 }

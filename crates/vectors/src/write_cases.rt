@@ -1,5 +1,15 @@
-// Commands that no text is, and the refusal that the writer gives each.
-use crate::command_cases::write;
+// Commands that no text is, and the refusal that the writer gives each. Places past a buffer's end, a
+// character outside a safe string, levels that `q` has not, numbers past signed 64 bits, a negative zero;
+// of two fields at fault the first in writing order tells, and a missing action is told after both.
+//
+// The operands are numbers: 1 for the action send and 0 for none; start and length of the id, of `pw` and
+// of `d`; `q`; 1 for a negative size and 0 for another, and its magnitude.
+use crate::command_cases;
+use crate::line::after;
+use crate::line::asked;
+use crate::line::number;
+use crate::line::operands;
+use crate::line::printed;
 use command::Action;
 use command::Command;
 use command::Place;
@@ -9,111 +19,42 @@ use streams::Run;
 // `m`, `a b` and 33 times `i`: the text, and the scratch too.
 const BYTES: [u8; 37] = *b"ma biiiiiiiiiiiiiiiiiiiiiiiiiiiiiiiii";
 
-const GOOD: Place = Place { start: 0, len: 1 };
-
-const UNSAFE: Place = Place { start: 1, len: 3 };
-
-const LONG: Place = Place { start: 4, len: 33 };
-
-const PAST: Place = Place { start: 4, len: 34 };
-
-pub(crate) fn run(run: Run) -> Run {
-    pairs(numbers(strings(run)))
+pub(crate) fn write(run: Run, s: &[u8]) -> Run {
+    let bytes = BYTES;
+    command_cases::write(asked(run, printed(s)), command(operands(s)), &bytes, &bytes)
 }
 
-// A character outside a safe string, and places past their buffer's end.
-fn strings(before: Run) -> Run {
-    let mut run = before;
-    run = case(run, b"pw=`a b`", bypass(send(), UNSAFE));
-    run = case(run, b"pw past the text", bypass(send(), PAST));
-    run = case(run, b"id past the text", id(send(), PAST));
-    case(run, b"d past the scratch", payload(send(), PAST))
-}
-
-// Levels that `q` has not, numbers past signed 64 bits, and a negative zero.
-fn numbers(before: Run) -> Run {
-    let mut run = before;
-    run = case(run, b"q=3", quiet(send(), 3));
-    run = case(
-        run,
-        b"q=18446744073709551615",
-        quiet(send(), 18446744073709551615),
-    );
-    run = case(
-        run,
-        b"sz=9223372036854775808",
-        size(send(), false, 9223372036854775808),
-    );
-    run = case(
-        run,
-        b"sz=-9223372036854775809",
-        size(send(), true, 9223372036854775809),
-    );
-    run = case(
-        run,
-        b"sz=18446744073709551615",
-        size(send(), false, 18446744073709551615),
-    );
-    case(run, b"sz=-0", size(send(), true, 0))
-}
-
-// Of two fields at fault the first in writing order tells; a missing action is told after both.
-fn pairs(before: Run) -> Run {
-    let mut run = before;
-    run = case(run, b"pw=`a b`, q=3", quiet(bypass(send(), UNSAFE), 3));
-    run = case(run, b"id of 33 bytes, q=3", quiet(id(send(), LONG), 3));
-    case(run, b"no action, q=3", quiet(id(Command::NONE, GOOD), 3))
-}
-
-fn case(run: Run, what: &[u8], command: Command) -> Run {
-    let asked = run.text(b"write ").text(what).text(b": ");
-    write(asked, command, &BYTES, &BYTES)
-}
-
-// ---- a command that is written, and others with another field
-fn send() -> Command {
-    let command = id(Command::NONE, GOOD);
+fn command(action_on: &[u8]) -> Command {
+    let id_on = after(action_on);
+    let bypass_on = after(after(id_on));
+    let payload_on = after(after(bypass_on));
+    let quiet_on = after(after(payload_on));
+    let action = action(number(action_on));
     Command {
-        action: Action::Send,
-        ..command
+        action: action,
+        id: place(id_on),
+        bypass: place(bypass_on),
+        payload: place(payload_on),
+        quiet: number(quiet_on),
+        size: size(after(quiet_on)),
+        ..Command::NONE
     }
 }
 
-fn id(command: Command, place: Place) -> Command {
-    Command {
-        id: place,
-        ..command
+fn action(n: u64) -> Action {
+    if n == 0 { Action::None } else { Action::Send }
+}
+
+fn place(s: &[u8]) -> Place {
+    Place {
+        start: number(s) as usize,
+        len: number(after(s)) as usize,
     }
 }
 
-fn bypass(command: Command, place: Place) -> Command {
-    Command {
-        bypass: place,
-        ..command
-    }
-}
-
-fn payload(command: Command, place: Place) -> Command {
-    Command {
-        payload: place,
-        ..command
-    }
-}
-
-fn quiet(command: Command, level: u64) -> Command {
-    Command {
-        quiet: level,
-        ..command
-    }
-}
-
-fn size(command: Command, negative: bool, magnitude: u64) -> Command {
-    let number = Number {
-        negative: negative,
-        magnitude: magnitude,
-    };
-    Command {
-        size: number,
-        ..command
+fn size(s: &[u8]) -> Number {
+    Number {
+        negative: number(s) == 1,
+        magnitude: number(after(s)),
     }
 }

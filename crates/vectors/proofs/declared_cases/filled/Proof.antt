@@ -4,10 +4,10 @@ use Rattle.vectors.proofs.declared_cases.filled.Statement.{statement}
 use Rattle.vectors.proofs.declared_cases.filled.Tie as tie
 
 abbrev Inv-loop : tie.InvT-loop
-Inv-loop n receiver₀ left₀ receiver left = left ≤ n
+Inv-loop n state₀ left₀ state left = left ≤ n
 
 abbrev μ-loop : tie.MeasureT-loop
-μ-loop n receiver₀ left₀ receiver left = left
+μ-loop n state₀ left₀ state left = left
 
 loop-holds : tie.Need-loop-holds Inv-loop μ-loop
 loop-holds c = search needs

@@ -1,8 +1,8 @@
 use Prim.Native.Nat.{_-_, _≤_}
 use lib.ListN.{length}
 use borrow.Author.Needs.{needs}
-use Rattle.vectors.proofs.lines.Statement.{statement}
-use Rattle.vectors.proofs.lines.Tie as tie
+use Rattle.vectors.proofs.cases.Statement.{statement}
+use Rattle.vectors.proofs.cases.Tie as tie
 
 abbrev Inv-loop : tie.InvT-loop
 Inv-loop bytes run₀ at₀ run at = at ≤ length bytes
@@ -22,8 +22,14 @@ sub-part c = search needs
 part-requires : tie.Need-part-requires Inv-loop μ-loop
 part-requires c κs = search needs
 
-line-requires : tie.Need-line-requires Inv-loop μ-loop
-line-requires c κs = search needs
+case-requires : tie.Need-case-requires Inv-loop μ-loop
+case-requires c κs = search needs
+
+part-requires-2 : tie.Need-part-requires-2 Inv-loop μ-loop
+part-requires-2 c κs = search needs
+
+text-requires : tie.Need-text-requires Inv-loop μ-loop
+text-requires c κs = search needs
 
 is-well-requires : tie.Need-is-well-requires Inv-loop μ-loop
 is-well-requires c κs = search needs
@@ -46,8 +52,8 @@ returns-2 c = search needs
 returns-3 : tie.Need-returns-3 Inv-loop μ-loop
 returns-3 c = search needs
 
-pub lines-spec : {M : Type 1} → statement M
-lines-spec =
+pub cases-spec : {M : Type 1} → statement M
+cases-spec =
     tie.close
     (tie.spec
     Inv-loop
@@ -56,7 +62,9 @@ lines-spec =
     find-requires
     sub-part
     part-requires
-    line-requires
+    case-requires
+    part-requires-2
+    text-requires
     is-well-requires
     add-at
     loop-less
