@@ -45,7 +45,7 @@ RefusesShort =
     → (refusalNumber (s .answer .report) ≡ 9) × (s .answer .consumed ≡ 0) × (s .answer .framing ≡ f) × (s .buffer ≡ c))
     × (textLimit ≤ length c → refusalNumber (s .answer .report) ≡ 9 → ⊥)
 
--- a command text without 1B, in its frame: the stream tells that text at the last byte, and nothing else, and is outside texts again
+-- a command text without 1B, in its frame: the stream tells that text and nothing else, and is outside texts again at the frame's end
 abbrev pub FramedTells : Type 0
 FramedTells =
     (t : List ℕ) → lacks 0x1B t ≡ true → isCommand t ≡ true → length t ≤ textLimit
