@@ -1,6 +1,7 @@
 // The console's calls on a receiver that is lent and changed where it lies: feed, and answer for the
 // others. Answers, the receiver afterwards and every lent byte are those of the calls by value, for any
-// receiver and any buffers. A call copies one session out and back, and nothing else of the table.
+// receiver and any buffers. A call copies one session out and back, and of the others only their states
+// and ids out.
 //
 // Not here: what a call gives (`protocol`), what it does with the one session (`session_in_place`).
 ghost use mathlib.Core.Path.{_≡_};
