@@ -1,5 +1,5 @@
-// The commands that are written. The session's id and a file's stand in one slice of 64 bytes, the file's
-// from place 32 on; a name or a file's contents are lent as they are, and not copied.
+// The commands that are written. The session's id and a file's stand in one slice, each in the room of an
+// id; a name or a file's contents are lent as they are, and not copied.
 ghost use mathlib.Core.Path.{_≡_};
 ghost use Prim.Native.Nat.{_≤_, min};
 ghost use lib.ListN.{length, take};
@@ -19,6 +19,7 @@ use command::letters::Class;
 use command_writer::framed::write_framed;
 use decimal::Number;
 use octets::size::least;
+use sending::Transfer;
 
 // ---- A command written in its frame.
 pub(crate) fn write_send(id: &[u8], out: &mut [u8]) -> Written
@@ -29,7 +30,7 @@ pub(crate) fn write_send(id: &[u8], out: &mut [u8]) -> Written
 
 // The session's id is the first n bytes of its array.
 pub(crate) fn write_file(
-    own: [u8; 32],
+    own: [u8; Transfer::ID_ROOM],
     n: usize,
     id: &[u8],
     name: &[u8],
@@ -47,9 +48,9 @@ pub(crate) fn write_file(
 
 // The session's id, and the file's in an array too.
 pub(crate) fn write_piece(
-    own: [u8; 32],
+    own: [u8; Transfer::ID_ROOM],
     n: usize,
-    file_id: [u8; 32],
+    file_id: [u8; Transfer::ID_ROOM],
     m: usize,
     bytes: &[u8],
     last: bool,
@@ -63,7 +64,7 @@ pub(crate) fn write_piece(
     write_framed(command, &ids, bytes, out)
 }
 
-pub(crate) fn write_finish(own: [u8; 32], n: usize, out: &mut [u8]) -> Written
+pub(crate) fn write_finish(own: [u8; Transfer::ID_ROOM], n: usize, out: &mut [u8]) -> Written
     ensures { λ r. ⌜ outcome (answered r) (now (out .exit)) ≡ framedOf (finishValues (take n own)) (now (out .entry)) ⌝ }
 {
     let command = lone(Action::Finish, id_len(n));
@@ -90,7 +91,7 @@ fn file(id: usize, file_id: usize, name: usize, size: u64) -> Command
         action: Action::File,
         id: Place { start: 0, len: id },
         file_id: Place {
-            start: 32,
+            start: Transfer::ID_ROOM,
             len: file_id,
         },
         size: Number {
@@ -114,7 +115,7 @@ fn piece(last: bool, id: usize, file_id: usize, bytes: usize) -> Command
         action: action,
         id: Place { start: 0, len: id },
         file_id: Place {
-            start: 32,
+            start: Transfer::ID_ROOM,
             len: file_id,
         },
         payload: Place {
@@ -131,24 +132,24 @@ fn piece_action(last: bool) -> Action
     if last { Action::EndData } else { Action::Data }
 }
 
-// How many bytes an id has, of the 32 of its array.
+// How many bytes an id has, of those of its array.
 fn id_len(n: usize) -> usize
-    ensures { λ r. ⌜ r ≡ min n 32 ⌝ }
+    ensures { λ r. ⌜ r ≡ min n idRoom ⌝ }
 {
-    least(n, 32)
+    least(n, Transfer::ID_ROOM)
 }
 
 // The session's id and then the file's, where that has room.
-fn ids(own: [u8; 32], file: &[u8]) -> [u8; 64]
+fn ids(own: [u8; Transfer::ID_ROOM], file: &[u8]) -> [u8; 2 * Transfer::ID_ROOM]
     ensures { λ r. ⌜ r ≡ idsOf own (now (file .entry)) ⌝ }
 {
-    let mut ids = [0u8; 64];
+    let mut ids = [0u8; 2 * Transfer::ID_ROOM];
     octets::copy_at(&own, &mut ids, 0);
-    octets::copy_at(file, &mut ids, 32);
+    octets::copy_at(file, &mut ids, Transfer::ID_ROOM);
     ids
 }
 
-// The refusal of a file id over 32 bytes.
+// The refusal of a file id that has no room.
 pub(crate) fn long_refusal(id: &[u8]) -> u8
     ensures { λ r. ⌜ r ≡ longRefusal (now (id .entry)) ⌝ }
 {

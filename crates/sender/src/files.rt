@@ -31,7 +31,7 @@ pub(crate) fn find_file(transfer: Transfer, id: &[u8]) -> Found
     Found::Nowhere
 }
 
-fn has_file_id(stage: FileStage, own: [u8; 32], n: usize, id: &[u8]) -> bool
+fn has_file_id(stage: FileStage, own: [u8; Transfer::ID_ROOM], n: usize, id: &[u8]) -> bool
     ensures { λ r. ⌜ r ≡ (isKnown stage && equals (take n own) (now (id .entry))) ⌝ }
 {
     if is_known(stage) {

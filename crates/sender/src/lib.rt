@@ -52,7 +52,7 @@ pub fn file(sender: Sender, id: &[u8], name: &[u8], size: u64, out: &mut [u8]) -
     if refusal != 0 {
         return refused(sender, refusal);
     }
-    if id.len() > 32 {
+    if id.len() > Transfer::ID_ROOM {
         return refused(sender, commands::long_refusal(id));
     }
     let own = transfer.id;
