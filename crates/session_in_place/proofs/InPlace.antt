@@ -111,11 +111,11 @@ module _ (r : Receiver) (piece reply : List ℕ) where
   abbrev t : Table
   t = r .table
 
-  -- where no session is concerned
+  -- the feed where no command was read
   abbrev pub withoutStep : Hearing → Feeding
   withoutStep h = feeding (fedIn (reframed r (h .heard .framing)) (unreadFed (h .heard))) (h .carry) (h .scratch) reply
 
-  -- where one is
+  -- where one was: what is done with its session, and the feed
   abbrev pub acts : Hearing → Acting
   acts h = actOf (h .heard) (sessionAt t (h .heard .place)) (t .owed) piece (h .carry) (h .scratch) reply
 
@@ -145,13 +145,13 @@ module _ (r : Receiver) (piece reply : List ℕ) where
     unfolding scannedFeed
     said = ap given (said-acts t (k .answer .report) text scratch)
 
-    quiet : x .answer .«is_read» ≡ false → withoutStep h ≡ scannedFeed t piece k scratch reply
+    unread : x .answer .«is_read» ≡ false → withoutStep h ≡ scannedFeed t piece k scratch reply
     unfolding heardIn
-    quiet q = rw (← said, q, no-reply reply)
+    unread q = rw (← said, q, no-reply reply)
 
-    loud : x .answer .«is_read» ≡ true → withStep h ≡ scannedFeed t piece k scratch reply
+    read : x .answer .«is_read» ≡ true → withStep h ≡ scannedFeed t piece k scratch reply
     unfolding heardIn actOf leftBy
-    loud q = rw (← said, q) (ap (λ (s : Stepped). given (acted s (x .answer .command) (x .buffer))) (command-steps t (x .answer
+    read q = rw (← said, q) (ap (λ (s : Stepped). given (acted s (x .answer .command) (x .buffer))) (command-steps t (x .answer
         .command) text (x .buffer) e))
 
   module _ (e : length (t .sessions) ≡ 4) (carry scratch : List ℕ) where
@@ -180,8 +180,8 @@ module _ (r : Receiver) (piece reply : List ℕ) where
           where
             ways : (b : Bool) → x e k scratch .answer .«is_read» ≡ b → by (h e k scratch .heard .unread) (h e k scratch) ≡ scannedFeed t
                 piece k scratch reply
-            ways true q = ap (λ (b : Bool). by (not b) (h e k scratch)) q ∙ loud e k scratch q
-            ways false q = ap (λ (b : Bool). by (not b) (h e k scratch)) q ∙ quiet e k scratch q
+            ways true q = ap (λ (b : Bool). by (not b) (h e k scratch)) q ∙ read e k scratch q
+            ways false q = ap (λ (b : Bool). by (not b) (h e k scratch)) q ∙ unread e k scratch q
 
     pub in-place-unread : heard .heard .unread ≡ true → withoutStep heard ≡ feedOf r piece carry scratch reply
     in-place-unread q = ap (λ (b : Bool). by b heard) (sym q) ∙ feeds
