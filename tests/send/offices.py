@@ -61,7 +61,8 @@ SIZES = tuple(File(f"owners-{size}", size) for size in (0, 1, 4095, 4096, 4097, 
 LETTERS = tuple(File(chr(65 + i), (0, 1, 2, 3, 100, 4095, 4096, 4097, 8192, 8193, 20000)[i % 11]) for i in range(26))
 A, B, BIG = File("a", 3), File("b", 5000), File("big", 100000)
 ROOM = tuple(File(f"f{i}", i) for i in range(33))
-LOST, FOLDER, LONG, BAD = File("lost", kind="nothing"), File("folder", kind="folder"), File("long", 9, name="/" * 7000), File("bad", 9, name="../x")
+LOST, FOLDER = File("lost", kind="nothing"), File("folder", kind="folder")
+LONG, BAD = File("long", 9, name="/" * 7000), File("bad", 9, name="../x")
 ENDS = File("page", kind="page")
 
 PLAIN = (

@@ -120,7 +120,7 @@ abbrev pub AllLent : Machine → World → List Call → Type 0
 AllLent m w [] = Unit {0}
 AllLent m w (c ∷ cs) = Lent m w c × AllLent m (step m w c) cs
 
--- the calls among moves, of which p are reports, each with the number of reports before it, n of them so far
+-- the moves that are no report by p, each with the number of reports before it, counted on from n
 abbrev pub callsAmong : {M : Type 0} → (M → Bool) → ℕ → List M → List (ℕ × M)
 callsAmong p n [] = []
 callsAmong p n (m ∷ ms) = cond (p m) (callsAmong p (suc n) ms) ((n, m) ∷ callsAmong p n ms)

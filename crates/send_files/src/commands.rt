@@ -33,7 +33,7 @@ pub(crate) fn send() -> Course {
         is_going: true,
         tried: 0,
     };
-    put(course, wrote, &out, report::SESSION, true)
+    put(course, wrote, &out, report::NO_FILE, true)
 }
 
 // The file of number k among the arguments, its first piece of so many bytes. Its id is the number of file
@@ -81,7 +81,7 @@ pub(crate) fn finish(course: Course) -> Course {
     let sender = course.sender;
     let mut out = [0u8; FRAME_ROOM];
     let wrote = sender::finish(sender, &mut out);
-    put(course, wrote, &out, report::SESSION, true)
+    put(course, wrote, &out, report::NO_FILE, true)
 }
 
 // What a call answered: its frame, at the start of out, is written; or its refusal is said, of a file or

@@ -31,7 +31,7 @@ pub struct Course {
 // The line ended, or a read or a write of it failed: nothing more is written.
 pub(crate) fn ended(course: Course, run: Run) -> Course {
     run.end(b"send_files");
-    report::plain(b"line ended", report::SESSION);
+    report::plain(b"line ended", report::NO_FILE);
     let mut next = course;
     next.is_going = false;
     next
@@ -90,7 +90,7 @@ pub(crate) fn number_at(course: Course, i: usize) -> usize {
     if i < Transfer::FILES {
         course.files[i]
     } else {
-        report::SESSION
+        report::NO_FILE
     }
 }
 

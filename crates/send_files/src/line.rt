@@ -96,7 +96,7 @@ fn file_stopped(course: Course, i: usize, place: Place, scratch: &[u8]) -> Cours
 
 fn session_stopped(course: Course, place: Place, scratch: &[u8]) -> Course {
     let status = octets::part(scratch, place.start, place.len);
-    report::stopped(status, report::SESSION);
+    report::stopped(status, report::NO_FILE);
     let mut next = course;
     next.is_going = false;
     next

@@ -17,7 +17,7 @@ fn main() {
     } else {
         report::plain(
             b"usage: send_files SESSION LOCAL NAME [LOCAL NAME]..",
-            report::SESSION,
+            report::NO_FILE,
         );
     }
 }

@@ -128,10 +128,10 @@ fn conclude(course: Course, files: usize) {
     if course.is_going {
         report::plain(
             b"finish written: a commit that is done has no reply, so it is not confirmed here",
-            report::SESSION,
+            report::NO_FILE,
         );
     } else {
-        report::plain(b"finish not written", report::SESSION);
+        report::plain(b"finish not written", report::NO_FILE);
     }
     report::last(whole, files);
 }

@@ -8,7 +8,7 @@ use decimal::Number;
 use libc::STDERR_FILENO;
 
 // In the place of a file's number: a line of the session.
-pub(crate) const SESSION: usize = 18446744073709551615;
+pub(crate) const NO_FILE: usize = 18446744073709551615;
 
 // ---- Lines. A file is named by its number among the arguments.
 pub(crate) fn plain(word: &[u8], file: usize) {
@@ -52,7 +52,7 @@ pub(crate) fn last(whole: usize, files: usize) {
     io::write_all(STDERR_FILENO, b" of ");
     io::print_decimal(STDERR_FILENO, files as u64);
     io::write_all(STDERR_FILENO, b" files whole");
-    end(SESSION, true);
+    end(NO_FILE, true);
 }
 
 // The line that is written over, on a terminal alone. A size of 0 is one that is not known.
@@ -80,7 +80,7 @@ fn start(word: &[u8]) {
 
 // The file's local path, and the line's end where it is not written over.
 fn end(file: usize, is_kept: bool) {
-    if file != SESSION {
+    if file != NO_FILE {
         let mut path = io::buffer();
         let n = arguments::read(file, arguments::LOCAL, &mut path);
         io::write_all(STDERR_FILENO, b" ");

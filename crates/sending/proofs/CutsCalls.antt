@@ -54,7 +54,10 @@ module _ (t : Transfer) (scratch : List ℕ) (enough : scratchRoom ≤ length sc
   heed-moves : (d : Stream.Told) (h : Outcome Heeded) → SameHeed h (heedOn t d) → Heeds t h (reportedBy (textIn d) h ∷ []) (d ∷ [])
   heed-moves d h s =
       let e : reportedBy (textIn d) h ≡ reported t d = rw (s .said) in
-      record { taken = s .taken; moves = rw (e, s .transfer) (one {t′ = heedOn t d .answer .transfer} (reported t d) (d ∷ []) refl (λ rest. refl)) }
+      record {
+        taken = s .taken;
+        moves = rw (e, s .transfer) (one {t′ = heedOn t d .answer .transfer} (reported t d) (d ∷ []) refl (λ rest. refl));
+      }
 
   report-moves : (k : Report) (bytes carry : List ℕ) → (k ≡ Report.ShortCarry → ⊥)
       → let text = textOf bytes carry k in

@@ -80,7 +80,7 @@ pub record Committed (id : List ℕ) (m : List Mark) : Type 0 where
 
 pub record Whole (p : Plan) (e : Exchange) : Type 0 where
   pub files : AllArrived (p .id) (p .files) (marksOf (e .world .history)) (e .sender .transfer)
-  -- nothing else arrives: "the commands read are exactly those of the plan, in its order"
+  -- nothing else arrives: the commands read are those of the plan, in its order
   pub nothingElse : readIn (marksOf (e .world .history)) ≡ commandsOf p
   pub committed : Committed (p .id) (marksOf (e .world .history))
   pub freed : e .world .receiver ≡ freshReceiver

@@ -95,7 +95,7 @@ abbrev pub AllDiffer : List (List ℕ) → Type 0
 AllDiffer [] = Unit {0}
 AllDiffer (k ∷ ks) = (every (λ j. not (equals k j)) ks ≡ true) × AllDiffer ks
 
--- at most 32 files; none is a list too
+-- at most 32 files; there may be none
 pub record Fit (p : Plan) : Type 0 where
   pub id : IsId (p .id)
   pub few : length (p .files) ≤ fileRoom

@@ -1,4 +1,4 @@
--- Wrong senders, of each of which `Arrives` is false: so the claim says what it is meant to say.
+-- Wrong senders, of each of which `Arrives` is false. A claim that held of one of them would be worth nothing.
 use Prim.Native.Nat.{ℕ, _+_, _-_}
 use mathlib.Core.Bool.{Bool, false, cond}
 use mathlib.Core.List.{List, [], _++_, map}
@@ -7,11 +7,11 @@ use Rattle.octets.specs.Ascii.{ascii}
 use Rattle.octets.specs.Outcome.{Outcome, outcome}
 use Rattle.command.specs.Values.{count}
 use Rattle.sending.specs.Transfers.{currentPlace, currentFile, withStage, putFile, moved, pieceStage}
-use Rattle.sending.specs.Calls.{withTransfer, unwritten, sendOf, fileOf, pieceOf, finishOf, Listening, listening, hearOf}
+use Rattle.sending.specs.Calls.{withTransfer, unwritten, sendOf, fileOf, pieceOf, finishOf, hearOf}
 use Rattle.sending.specs.Machine.{Machine, ours}
 use Rattle.sending.specs.Plans.{Order}
 use Rattle.sending.specs.Exchange.{orderOf}
-use Rattle.sending.specs.WrongSenders.{piecingBy, hearingBy, leavingWritten, opened, lastOnly, encoding}
+use Rattle.sending.specs.WrongSenders.{piecingBy, hearingBy, leavingWritten, leavingHeard, telling, opened, lastOnly, encoding}
 use Rattle.sending.specs.Arrives.{Arrives}
 use Rattle.sending.specs.declared.Stage.the-variants as Stage
 use Rattle.sending.specs.declared.FileStage.{FileStage}
@@ -50,23 +50,15 @@ abbrev pub silent : Machine
 silent = answering (λ s. record { sender = s; writing = Writing.Written 0 })
 
 -- ---- senders that hear wrongly
--- a hear with another sender and other news
-abbrev pub telling : Sender → News → Listening → Listening
-telling s n l =
-    listening
-    (record { sender = s; consumed = l .listened .consumed; report = l .listened .report; news = n })
-    (l .carry)
-    (l .scratch)
-
 -- it takes the replies, and heeds none: the OK it waits for never comes
 abbrev pub heedless : Machine
-heedless = hearingBy (λ s piece carry scratch. telling s News.Noted (hearOf s piece carry scratch))
+heedless =
+    hearingBy (λ s piece carry scratch. telling (λ n. News.Noted) (leavingHeard (λ r. s) (hearOf s piece carry scratch)))
 
 -- it reports all: every hear tells that a size differs
 abbrev pub alarmed : Machine
 alarmed =
-    hearingBy (λ s piece carry scratch.
-    let l = hearOf s piece carry scratch in telling (l .listened .sender) (News.Differs 0 (count 0)) l)
+    hearingBy (λ s piece carry scratch. telling (λ n. News.Differs 0 (count 0)) (hearOf s piece carry scratch))
 
 -- it does not see that a file is closed
 abbrev pub unseen : FileStage → FileStage
@@ -89,9 +81,7 @@ unclosed t =
 abbrev pub unclosing : Machine
 unclosing =
     hearingBy (λ s piece carry scratch.
-    let l = hearOf s piece carry scratch in
-    let heard = l .listened .sender in
-    telling (withTransfer heard (unclosed (heard .transfer))) (l .listened .news) l)
+    leavingHeard (λ r. withTransfer r (unclosed (r .transfer))) (hearOf s piece carry scratch))
 
 -- ---- senders that do not wait
 -- what waits for OK is taken for open

@@ -1,7 +1,8 @@
 // Standard input and output, and reading of files, for the programs, so that no failure is lost.
 //
-// No contract can say what is read or written. These say that a failed read is told from the end of
-// the input, and that a run keeps the first thing that failed in it.
+// No contract can say what is read or written. That of `counted` says that a failed read is told from the
+// end of the input; those of the reads, that no more bytes are counted than the buffer has; and those of a
+// run, that it keeps the first thing that failed in it.
 mod input;
 mod output;
 

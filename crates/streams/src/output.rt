@@ -52,7 +52,7 @@ impl Run {
             Run::Well => {}
             Run::NotRead => say(program, b"cannot read standard input\n"),
             Run::NotWritten => say(program, b"cannot write standard output\n"),
-            Run::Stuck => say(program, b"the receiver consumed nothing\n"),
+            Run::Stuck => say(program, b"a call consumed nothing\n"),
         }
     }
 }

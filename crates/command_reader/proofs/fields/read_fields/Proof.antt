@@ -145,7 +145,8 @@ add-at-2 c = omega (arith, known (c .before .before .before .before .before .bef
 
 loop-less-2 : tie.Need-loop-less-2 Inv-loop μ-loop
 loop-less-2 c =
-    let k = known (c .before .before .before .before .before .before .before .before .before .before .before) in omega (arith, k .1, k .2, k .3)
+    let k = known (c .before .before .before .before .before .before .before .before .before .before .before) in
+    omega (arith, k .1, k .2, k .3)
 
 loop-again-2 : tie.Need-loop-again-2 Inv-loop μ-loop
 loop-again-2 c =
