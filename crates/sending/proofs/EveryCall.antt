@@ -23,7 +23,7 @@ use Rattle.protocol.specs.Files.{partLimit}
 use Rattle.protocol.specs.declared.Found.{Found}
 use Rattle.protocol.specs.declared.Found.the-variants as Found
 use Rattle.protocol.proofs.Laws.{no-way}
-use Rattle.sending.specs.Transfers.{currentFile, idOf, fileIdOf, findFile, isFresh, isOpen, isSending, withStage}
+use Rattle.sending.specs.Transfers.{fileAt, currentFile, idOf, fileIdOf, findFile, isFresh, isOpen, isSending, withStage}
 use Rattle.sending.specs.Transfers.{asked, added}
 use Rattle.sending.specs.Commands.{sendValues, fileValues, pieceValues, finishValues}
 use Rattle.sending.specs.Calls.{writes, sendOf, fileWrites, fileOf, pieceOf, finishOf, isIdle, isBusy, isTaken, isFound}
@@ -31,8 +31,8 @@ use Rattle.sending.specs.Calls.{unheard, listening, Listening, scannedHe
 use Rattle.sending.specs.Story.{Call, Event, World, afterWriting, isUnheard, afterHearing}
 use Rattle.sending.specs.Story.{start, bytesOf, modeAfter, Mark, marksOf}
 use Rattle.sending.specs.Machine.{ours}
-use Rattle.sending.specs.Telling.{sessionIn, pendingIn, orEmpty}
-use Rattle.sending.specs.Every.{Heard, EverySender}
+use Rattle.sending.specs.Telling.{sessionIn, pendingIn, filesIn, orEmpty, placeAmong}
+use Rattle.sending.specs.Every.{Heard, Shown, AllShown, EverySender}
 use Rattle.sending.specs.declared.Stage.the-variants as Stage
 use Rattle.sending.specs.declared.Transfer.{Transfer}
 use Rattle.sending.specs.declared.Sender.{Sender}
@@ -40,7 +40,7 @@ use Rattle.sending.specs.declared.Wrote.{Wrote}
 use Rattle.sending.proofs.Ours.{step, Lent, Right, AllLent, AllRight}
 use Rattle.sending.proofs.Ways.{Way, call-way, FileWay, file-way}
 use Rattle.sending.proofs.SentIds.{sent-id}
-use Rattle.sending.proofs.Kept.{found, Kept, kept-fresh}
+use Rattle.sending.proofs.Kept.{FileOK, found, Kept, kept-fresh}
 use Rattle.sending.proofs.Ready.{sending-told, unsent-told, idle-told, busy-told, taken-told, session-id, sending-place}
 use Rattle.sending.proofs.Ready.{pending-current}
 use Rattle.sending.proofs.KeptWrites.{kept-sent, kept-finished, kept-filed}
@@ -255,9 +255,20 @@ good w v (Call.piece contents last out) l = piece-good w v contents last out
 good w v (Call.finish out) l = finish-good w v out
 good w v (Call.hear bytes carry scratch) l = hear-good w v bytes carry scratch l
 
+-- a file whose command is written is found at its place
+all-shown : (w : World) → Inv w → AllShown w
+all-shown w v k e = go (found (w .sender .transfer .files) k) (v .kept .files k)
+  where
+    m : List Mark
+    m = marksOf (w .story)
+
+    go : (f : Found) → FileOK (w .sender .transfer .files) m k f → Shown m k (fileAt (w .sender .transfer) (placeAmong k (filesIn m)))
+    go Found.Nowhere u = no-way (sym e ∙ u .filed)
+    go (Found.At i) u = rw (← u .place) (record { stage = u .staged; sent = u .counted })
+
 all-right : (w : World) → Inv w → (cs : List Call) → AllLent w cs → AllRight w cs
-all-right w v [] l = tt
-all-right w v (c ∷ cs) l = let g = good w v c (l .0) in (g .right, all-right (step w c) (g .inv) cs (l .1))
+all-right w v [] l = all-shown w v
+all-right w v (c ∷ cs) l = let g = good w v c (l .0) in (all-shown w v, g .right, all-right (step w c) (g .inv) cs (l .1))
 
 pub start-inv : (carry : List ℕ) → Inv (start carry)
 unfolding marksOf stream

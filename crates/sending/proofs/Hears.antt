@@ -43,7 +43,7 @@ use Rattle.sending.specs.declared.Word.the-variants as Word
 use Rattle.sending.proofs.Kept.{SessionOK, Kept}
 use Rattle.sending.proofs.KeptWrites.{allowed-as}
 use Rattle.sending.proofs.KeptReads.{Marked, unmoved}
-use Rattle.sending.proofs.Heeds.{status-heard}
+use Rattle.sending.proofs.Heeds.{unagreed, status-heard}
 use Rattle.sending.proofs.Sizes.{size-small}
 
 -- ---- a command by places, and by values
@@ -102,9 +102,10 @@ module _ {t : Transfer} {m : List Mark} (k : Kept t m) where
       go true e = rw (r .file, r .size, r .status) (status-heard d k (c .status) after (r .status) e small)
       go false e =
           let s : (x : Word) → forSession x d m ≡ false = λ x. rw e in
-          let f : forFile Word.Other d m ≡ false = rw e in
+          let f : (x : Word) → forFile x d m ≡ false = λ x. rw e in
           let a : (forSession Word.Ok d m || allowedIn m) ≡ allowedIn m = rw (s Word.Ok) in
-          record { kept = unmoved d k (s Word.Other) (allowed-as a (t .stage)) f; said = rw e; taken = refl }
+          let kept = unmoved d k (s Word.Other) (allowed-as a (t .stage)) (f Word.Other) (unagreed d m (f Word.Ok)) in
+          record { kept = kept; said = rw e; taken = refl }
 
 -- ---- a report
 pub record Reported (m ms : List Mark) (ds : List Told) (h : Outcome Heeded) : Type 0 where

@@ -1,7 +1,7 @@
 -- A status of the session that is read: what is kept, and what is told of it.
 use Prim.Native.Nat.{ℕ, _<_}
 use mathlib.Core.Path.{_≡_, refl, sym, _∙_}
-use mathlib.Core.Bool.{Bool, true, false, cond, _||_, and-false, or-true}
+use mathlib.Core.Bool.{Bool, true, false, not, cond, _&&_, _||_, and-false, or-true}
 use mathlib.Core.Option.{Option, Option·none-ne-some}
 use mathlib.Core.List.{List, _∷_}
 use lib.ListN.{length, getD}
@@ -22,6 +22,8 @@ use Rattle.sending.specs.Heeding.{heeded, wordOf, sessionHeed, isCount, 
 use Rattle.sending.specs.Story.{Mark}
 use Rattle.sending.specs.Telling.{sessionIn, pendingIn, equalsSome, sumIn, isWord, isReply, forSession, forFile}
 use Rattle.sending.specs.Telling.{someRead, allowedIn, stoppedIn, fileStoppedIn, sessionSaying, fileSaying, commandSaying}
+use Rattle.sending.specs.Telling.{agreesFor, agreedIn}
+use Rattle.sending.specs.Every.{stageBy, stageIn}
 use Rattle.sending.specs.declared.Stage.{Stage}
 use Rattle.sending.specs.declared.Stage.the-variants as Stage
 use Rattle.sending.specs.declared.FileStage.{FileStage}
@@ -79,6 +81,22 @@ closed-sending FileStage.Sent = refl
 closed-sending FileStage.Closed = refl
 closed-sending FileStage.Stopped = refl
 
+-- an OK that agrees
+closed-by : (s a p : Bool) → closedStage (stageBy s a p) ≡ stageBy s (not p || a) p
+closed-by true a p = refl
+closed-by false true true = refl
+closed-by false true false = refl
+closed-by false false true = refl
+closed-by false false false = refl
+
+all-false : (a b : Bool) → (a && (b && false)) ≡ false
+all-false true b = and-false b
+all-false false b = refl
+
+-- a command that is no OK for a file closes none
+pub unagreed : (c : List Value) (m : List Mark) → forFile Word.Ok c m ≡ false → (j : List ℕ) → agreesFor j c m ≡ false
+unagreed c m e j = rw e (and-false (equals (fileIdOf c) j))
+
 module _ {t : Transfer} {m : List Mark} (c : List Value) (k : Kept t m) (p : Place) (after : List ℕ)
     (status : stringIn after p ≡ statusOf c) (ours : isReply c m ≡ true) (small : sizeOf c .magnitude < sentLimit) where
   id-session : sessionIn m ≡ Option.some (Transfers.idOf t)
@@ -108,7 +126,7 @@ module _ {t : Transfer} {m : List Mark} (c : List Value) (k : Kept t m) (p : Pla
           short = k .short;
           files =
               λ j. same-file m (Mark.read c ∷ m) j (t .files) refl refl refl (rw (no-file Word.Other, and-false (equals (fileIdOf c) j)))
-              (found (t .files) j) (k .files j);
+              (rw (unagreed c m (no-file Word.Ok) j)) (found (t .files) j) (k .files j);
           free = k .free;
           many = k .many;
           none = k .none;
@@ -138,14 +156,16 @@ module _ {t : Transfer} {m : List Mark} (c : List Value) (k : Kept t m) (p : Pla
         go false r =
             let d = decided (Transfers.idOf t) m (forSession Word.Ok c m) (t .stage) (k .session) id-session r in
             record {
-              kept = unmoved c k (of-session Word.Other Word.Ok q) (d .allowed) (no-file Word.Other);
+              kept = unmoved c k (of-session Word.Other Word.Ok q) (d .allowed) (no-file Word.Other) (unagreed c m (no-file Word.Ok));
               said = rw (told-session Word.Ok q, d .told);
               taken = refl;
             }
     session-heard Word.Going q =
         let a : (forSession Word.Ok c m || allowedIn m) ≡ allowedIn m = rw (of-session Word.Ok Word.Going q) in
         record {
-          kept = unmoved c k (of-session Word.Other Word.Going q) (allowed-as a (t .stage)) (no-file Word.Other);
+          kept =
+              unmoved c k (of-session Word.Other Word.Going q) (allowed-as a (t .stage)) (no-file Word.Other)
+              (unagreed c m (no-file Word.Ok));
           said = rw (told-session Word.Going q);
           taken = refl;
         }
@@ -167,8 +187,9 @@ module _ {t : Transfer} {m : List Mark} (c : List Value) (k : Kept t m) (p : Pla
     unknown-heard : found (t .files) (fileIdOf c) ≡ Found.Nowhere → Marked m c after (heeded t News.Ignored)
     unknown-heard f =
         let u : Unknown m (fileIdOf c) = rw f at (k .files (fileIdOf c)) in
-        let none : forFile Word.Other c m ≡ false = rw (ours, e, u .filed) in
-        record { kept = unmoved c k (no-session Word.Other) as-before none; said = rw (ours, e, u .filed); taken = refl }
+        let none : (x : Word) → forFile x c m ≡ false = λ x. rw (ours, e, u .filed) in
+        let kept = unmoved c k (no-session Word.Other) as-before (none Word.Other) (unagreed c m (none Word.Ok)) in
+        record { kept = kept; said = rw (ours, e, u .filed); taken = refl }
 
     module _ (i : ℕ) (f : found (t .files) (fileIdOf c) ≡ Found.At i) where
       abbrev file : SentFile
@@ -186,6 +207,21 @@ module _ {t : Transfer} {m : List Mark} (c : List Value) (k : Kept t m) (p : Pla
       told-file : (w : Word) → wordOf (statusOf c) ≡ w → commandSaying m c ≡ fileSaying m c w
       told-file w q = rw (ours, e, known .filed, q)
 
+      -- the ids of the file at this place, and of another
+      same-id : (j : List ℕ) → found (t .files) j ≡ Found.At i → fileIdOf c ≡ j
+      same-id j a =
+          let here = first-at (hasFileId j) freeFile (t .files) i a .1 in
+          let x = equals-sound (Transfers.fileIdOf file) j (both-test (isKnown (file .stage)) _ here .1) in
+          let y = equals-sound (Transfers.fileIdOf file) (fileIdOf c) (both-test (isKnown (file .stage)) _ (there .1) .1) in
+          sym y ∙ x
+
+      other-id : (j : List ℕ) → (found (t .files) j ≡ Found.At i → ⊥) → equals (fileIdOf c) j ≡ false
+      other-id j a = go (equals (fileIdOf c) j) refl
+        where
+          go : (b : Bool) → equals (fileIdOf c) j ≡ b → equals (fileIdOf c) j ≡ false
+          go false r = r
+          go true r = absurd (a (rw (← equals-sound (fileIdOf c) j r) f))
+
       ok-heard : wordOf (statusOf c) ≡ Word.Ok → Marked m c after (okHeed t i (sizeOf c))
       unfolding okHeed someRead
       ok-heard q = go (isCount (sizeOf c) (file .sent)) refl
@@ -196,6 +232,22 @@ module _ {t : Transfer} {m : List Mark} (c : List Value) (k : Kept t m) (p : Pla
           summed : (b : Bool) → isCount (sizeOf c) (file .sent) ≡ b → isCount (sizeOf c) (sumIn (fileIdOf c) m) ≡ b
           summed b r = rw (← count-or-sum (sizeOf c) (sumIn (fileIdOf c) m) small, ← known .counted) r
 
+          -- a size that agrees closes the file, once its last piece is written
+          closes : isCount (sizeOf c) (sumIn (fileIdOf c) m) ≡ true → (j : List ℕ) → found (t .files) j ≡ Found.At i
+              → closedStage (file .stage) ≡ stageIn j (Mark.read c ∷ m)
+          closes r j a =
+              let z = same-id j a in
+              rw (← z, quiet (fileIdOf c), equals-refl (fileIdOf c), of-file Word.Ok Word.Ok q, r, known .staged)
+              (closed-by (fileStoppedIn (fileIdOf c) m) (agreedIn (fileIdOf c) m) (equalsSome (fileIdOf c) (pendingIn m)))
+
+          -- one that differs closes none
+          differs : isCount (sizeOf c) (sumIn (fileIdOf c) m) ≡ false → (j : List ℕ) → agreesFor j c m ≡ false
+          differs r j = by (equals (fileIdOf c) j) refl
+            where
+              by : (b : Bool) → equals (fileIdOf c) j ≡ b → agreesFor j c m ≡ false
+              by true x = rw (← equals-sound (fileIdOf c) j x, r) (all-false (equals (fileIdOf c) (fileIdOf c)) (forFile Word.Ok c m))
+              by false x = rw x
+
           go : (b : Bool) → isCount (sizeOf c) (file .sent) ≡ b
               → Marked m c after (cond b (heeded (Transfers.putFile t i (Transfers.moved file (closedStage (file .stage)) (file .sent)))
               News.Noted) (heeded t (News.Differs i (sizeOf c))))
@@ -204,13 +256,13 @@ module _ {t : Transfer} {m : List Mark} (c : List Value) (k : Kept t m) (p : Pla
                 kept =
                     kept-put c k (no-session Word.Other) as-before i (closedStage (file .stage)) (there .0) (closed-known (file .stage))
                     (λ j a. closed-sending (file .stage) ∙ (let o : Counted m j i file = rw a at (k .files j) in rw (quiet j) (o .going)))
-                    (λ j a. quiet j);
+                    (closes (summed true r)) (λ j a. quiet j) (λ j a. rw (other-id j a));
                 said = rw (told-file Word.Ok q, summed true r);
                 taken = refl;
               }
           go false r =
               record {
-                kept = unmoved c k (no-session Word.Other) as-before (of-file Word.Other Word.Ok q);
+                kept = unmoved c k (no-session Word.Other) as-before (of-file Word.Other Word.Ok q) (differs (summed false r));
                 said = rw (told-file Word.Ok q, summed false r, ← known .place);
                 taken = refl;
               }
@@ -223,30 +275,23 @@ module _ {t : Transfer} {m : List Mark} (c : List Value) (k : Kept t m) (p : Pla
                 kept-put c k (no-session Word.Other) as-before i FileStage.Stopped (there .0)
                 (sym (both-test (isKnown (file .stage)) _ (there .1) .0))
                 (λ j a. rw (of-file Word.Other Word.Other q, same j a) (sym (and-false (equalsSome j (pendingIn m)))))
-                (λ j a. rw (apart j a (equals (fileIdOf c) j) refl));
+                (λ j a. rw (of-file Word.Other Word.Other q, same j a))
+                (λ j a. rw (other-id j a)) (λ j a. rw (other-id j a));
             said = rw (told-file Word.Other q, status, ← known .place);
             taken = refl;
           }
         where
-          apart : (j : List ℕ) → (found (t .files) j ≡ Found.At i → ⊥) → (b : Bool) → equals (fileIdOf c) j ≡ b
-              → equals (fileIdOf c) j ≡ false
-          apart j a false r = r
-          apart j a true r = absurd (a (rw (← equals-sound (fileIdOf c) j r) f))
-
           same : (j : List ℕ) → found (t .files) j ≡ Found.At i → equals (fileIdOf c) j ≡ true
-          same j a =
-              let here = first-at (hasFileId j) freeFile (t .files) i a .1 in
-              let x = equals-sound (Transfers.fileIdOf file) j (both-test (isKnown (file .stage)) _ here .1) in
-              let y = equals-sound (Transfers.fileIdOf file) (fileIdOf c) (both-test (isKnown (file .stage)) _ (there .1) .1) in
-              let z : fileIdOf c ≡ j = sym y ∙ x in
-              rw z (equals-refl j)
+          same j a = rw (same-id j a) (equals-refl j)
 
       file-heard : (w : Word) → wordOf (statusOf c) ≡ w → Marked m c after (fileHeed t i (sizeOf c) p w)
       unfolding fileHeed
       file-heard Word.Ok q = ok-heard q
       file-heard Word.Going q =
           record {
-            kept = unmoved c k (no-session Word.Other) as-before (of-file Word.Other Word.Going q);
+            kept =
+                unmoved c k (no-session Word.Other) as-before (of-file Word.Other Word.Going q)
+                (unagreed c m (of-file Word.Ok Word.Going q));
             said = rw (told-file Word.Going q);
             taken = refl;
           }

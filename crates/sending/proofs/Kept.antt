@@ -15,7 +15,8 @@ use Rattle.protocol.proofs.Laws.{replicate-each}
 use Rattle.sending.specs.Transfers.{freeFile, noTransfer, idOf, fileIdOf, isKnown, hasFileId, isSending, sentLimit}
 use Rattle.sending.specs.Story.{Mark}
 use Rattle.sending.specs.Telling.{sessionIn, pendingIn, finishedIn, filesIn, equalsSome, isAmong, placeAmong, sumIn}
-use Rattle.sending.specs.Telling.{someRead, allowedIn, stoppedIn, fileStoppedIn}
+use Rattle.sending.specs.Telling.{someRead, allowedIn, stoppedIn, fileStoppedIn, agreedIn}
+use Rattle.sending.specs.Every.{stageIn}
 use Rattle.sending.specs.declared.Stage.{Stage}
 use Rattle.sending.specs.declared.Stage.the-variants as Stage
 use Rattle.sending.specs.declared.SentFile.{SentFile}
@@ -32,11 +33,13 @@ pub record Counted (m : List Mark) (k : List ℕ) (i : ℕ) (f : SentFile) : Typ
   pub place : i ≡ placeAmong k (filesIn m)
   pub counted : f .sent ≡ min (sumIn k m) sentLimit
   pub going : isSending (f .stage) ≡ isSendingFor k m
+  pub staged : f .stage ≡ stageIn k m
 
 pub record Unknown (m : List Mark) (k : List ℕ) : Type 0 where
   pub filed : isAmong k (filesIn m) ≡ false
   pub none : sumIn k m ≡ 0
   pub going : fileStoppedIn k m ≡ false
+  pub agreed : agreedIn k m ≡ false
 
 abbrev pub FileOK : List SentFile → List Mark → List ℕ → Found → Type 0
 FileOK fs m k Found.Nowhere = Unknown m k
@@ -94,7 +97,7 @@ kept-fresh =
       session = record { session = refl; allowed = refl; stopped = refl; finished = refl };
       safe = refl;
       short = omega arith;
-      files = λ k. rw (none-found k fileRoom) (record { filed = refl; none = refl; going = refl });
+      files = λ k. rw (none-found k fileRoom) (record { filed = refl; none = refl; going = refl; agreed = refl });
       free = λ j l. replicate-each (λ (f : SentFile). isKnown (f .stage) ≡ false) refl refl fileRoom j;
       many = refl;
       none = λ e. refl;

@@ -13,11 +13,13 @@ use Rattle.octets.proofs.Below.{both-test}
 use Rattle.octets.proofs.Compare.{equals-refl, equals-sound}
 use Rattle.protocol.specs.declared.Found.{Found}
 use Rattle.protocol.specs.declared.Found.the-variants as Found
-use Rattle.protocol.proofs.Laws.{first-at}
+use Rattle.protocol.proofs.Laws.{no-way, first-at}
 use Rattle.sending.specs.Transfers.{freeFile, currentPlace, idOf, fileIdOf, isKnown, hasFileId}
 use Rattle.sending.specs.Transfers.{isSending, moved, sentLimit, grown, pieceStage, added}
 use Rattle.sending.specs.Story.{Mark}
-use Rattle.sending.specs.Telling.{pendingIn, equalsSome, sumIn, someRead, fileStoppedIn, sendingIn}
+use Rattle.sending.specs.Telling.{pendingIn, equalsSome, sumIn, someRead, fileStoppedIn, agreedIn, sendingIn}
+use Rattle.sending.specs.Every.{stageBy}
+use Rattle.sending.specs.declared.FileStage.the-variants as FileStage
 use Rattle.sending.specs.declared.SentFile.{SentFile}
 use Rattle.sending.specs.declared.Transfer.{Transfer}
 use Rattle.sending.proofs.Firsts.{first-same}
@@ -28,6 +30,18 @@ use Rattle.sending.proofs.KeptWrites.{found-same, not-found, allowed-as
 piece-known : (last : Bool) → isKnown (pieceStage last) ≡ true
 piece-known true = refl
 piece-known false = refl
+
+-- the stage of a file that is being sent: no status stops it, and no OK has closed it
+sending-by : (s a p : Bool) → isSending (stageBy s a p) ≡ true → FileStage.Sending ≡ stageBy s a p
+sending-by true a p e = no-way (sym e)
+sending-by false true p e = no-way (sym e)
+sending-by false false true e = refl
+sending-by false false false e = no-way (sym e)
+
+sent-by : (s a p : Bool) → isSending (stageBy s a p) ≡ true → FileStage.Sent ≡ stageBy s a false
+sent-by true a p e = no-way (sym e)
+sent-by false true p e = no-way (sym e)
+sent-by false false p e = refl
 
 module _ {t : Transfer} {m : List Mark} (b : List ℕ) (last : Bool) (k : Kept t m) (c : ℕ) (n : t .count ≡ suc c)
     (busy : sendingIn m ≡ true) where
@@ -82,10 +96,26 @@ module _ {t : Transfer} {m : List Mark} (b : List ℕ) (last : Bool) (k : Kept t
   other-going true j i q u = u .going ∙ rw (pending, q)
   other-going false j i q u = u .going
 
+  -- and its stage
+  own-staged : (l : Bool) (j : List ℕ) (i : ℕ) → Counted m j i file
+      → pieceStage l ≡ stageBy (fileStoppedIn j m) (agreedIn j m) (equalsSome j (cond l Option.none (pendingIn m)))
+  own-staged true j i u = sent-by (fileStoppedIn j m) (agreedIn j m) (equalsSome j (pendingIn m)) (rw (u .staged) at sends)
+  own-staged false j i u = sending-by (fileStoppedIn j m) (agreedIn j m) (equalsSome j (pendingIn m)) (rw (u .staged) at sends)
+
+  other-staged : (l : Bool) (j : List ℕ) (i : ℕ) {f : SentFile} → equals (fileIdOf file) j ≡ false → Counted m j i f
+      → f .stage ≡ stageBy (fileStoppedIn j m) (agreedIn j m) (equalsSome j (cond l Option.none (pendingIn m)))
+  other-staged true j i q u = u .staged ∙ rw (pending, q)
+  other-staged false j i q u = u .staged
+
   new-file : (j : List ℕ) (f : Found) → found fs j ≡ f → FileOK fs m j f → FileOK fs′ (Mark.pieced b last ∷ m) j f
   unfolding someRead grown
   new-file j Found.Nowhere e u =
-      record { filed = u .filed; none = other-sum j (apart (equals (fileIdOf file) j) refl) ∙ u .none; going = u .going }
+      record {
+        filed = u .filed;
+        none = other-sum j (apart (equals (fileIdOf file) j) refl) ∙ u .none;
+        going = u .going;
+        agreed = u .agreed;
+      }
     where
       apart : (x : Bool) → equals (fileIdOf file) j ≡ x → equals (fileIdOf file) j ≡ false
       apart false q = q
@@ -100,11 +130,24 @@ module _ {t : Transfer} {m : List Mark} (b : List ℕ) (last : Bool) (k : Kept t
           let s : sumIn j (Mark.pieced b last ∷ m) ≡ length b + sumIn j m = rw (pending, w, equals-refl j) in
           let v : Counted m j c file = rw z at u in
           let old : file .sent ≡ min (sumIn j m) sentLimit = v .counted in
-          rw (z, here) (record { filed = v .filed; place = v .place; counted = rw s (omega arith); going = own-going last j c v })
+          rw (z, here)
+          (record {
+            filed = v .filed;
+            place = v .place;
+            counted = rw s (omega arith);
+            going = own-going last j c v;
+            staged = own-staged last j c v;
+          })
       go (no z) =
           let q : equals (fileIdOf file) j ≡ false = apart (equals (fileIdOf file) j) refl in
           rw (getD-set-other fs c i file′ freeFile z)
-          (record { filed = u .filed; place = u .place; counted = rw (other-sum j q) (u .counted); going = other-going last j i q u })
+          (record {
+            filed = u .filed;
+            place = u .place;
+            counted = rw (other-sum j q) (u .counted);
+            going = other-going last j i q u;
+            staged = other-staged last j i q u;
+          })
         where
           apart : (x : Bool) → equals (fileIdOf file) j ≡ x → equals (fileIdOf file) j ≡ false
           apart false q = q

@@ -13,7 +13,8 @@ use Rattle.sending.specs.Transfers as Transfers
 use Rattle.sending.specs.Transfers.{freeFile, isKnown, hasFileId, isSending, putFile, moved}
 use Rattle.sending.specs.Sayings.{saying}
 use Rattle.sending.specs.Story.{Mark, isUnheard}
-use Rattle.sending.specs.Telling.{forSession, forFile, someRead, allowedIn, fileStoppedIn, commandSaying}
+use Rattle.sending.specs.Telling.{forSession, forFile, someRead, allowedIn, fileStoppedIn, agreesFor, agreedIn, commandSaying}
+use Rattle.sending.specs.Every.{stageIn}
 use Rattle.sending.specs.declared.FileStage.{FileStage}
 use Rattle.sending.specs.declared.SentFile.{SentFile}
 use Rattle.sending.specs.declared.Transfer.{Transfer}
@@ -44,16 +45,18 @@ module _ {t : Transfer} {m : List Mark} (c : List Value) (k : Kept t m) (s : for
   current-on : (d : ℕ) → t .count ≡ suc d → CurrentOK (t .files) (Mark.read c ∷ m) d
   current-on d q = let o = k .current d q in record { pending = o .pending; there = o .there }
 
-  -- nothing is stopped: all is as before
-  pub unmoved : forFile Word.Other c m ≡ false → Kept t (Mark.read c ∷ m)
+  -- nothing is stopped, and no file closed: all is as before
+  pub unmoved : forFile Word.Other c m ≡ false → ((j : List ℕ) → agreesFor j c m ≡ false) → Kept t (Mark.read c ∷ m)
   unfolding someRead
-  unmoved f =
+  unmoved f g =
       record {
         sized = k .sized;
         session = session-on;
         safe = k .safe;
         short = k .short;
-        files = λ j. same-file m (Mark.read c ∷ m) j (t .files) refl refl refl (rw (f, and-false)) (found (t .files) j) (k .files j);
+        files =
+            λ j. same-file m (Mark.read c ∷ m) j (t .files) refl refl refl (rw (f, and-false)) (rw (g j))
+            (found (t .files) j) (k .files j);
         free = k .free;
         many = k .many;
         none = k .none;
@@ -76,7 +79,9 @@ module _ {t : Transfer} {m : List Mark} (c : List Value) (k : Kept t m) (s : for
 
     module _ (same : isKnown g ≡ isKnown (file .stage))
         (stays : (j : List ℕ) → found fs j ≡ Found.At i → isSending g ≡ isSendingFor j (Mark.read c ∷ m))
-        (others : (j : List ℕ) → (found fs j ≡ Found.At i → ⊥) → fileStoppedIn j (Mark.read c ∷ m) ≡ fileStoppedIn j m) where
+        (staged : (j : List ℕ) → found fs j ≡ Found.At i → g ≡ stageIn j (Mark.read c ∷ m))
+        (others : (j : List ℕ) → (found fs j ≡ Found.At i → ⊥) → fileStoppedIn j (Mark.read c ∷ m) ≡ fileStoppedIn j m)
+        (apart : (j : List ℕ) → (found fs j ≡ Found.At i → ⊥) → agreedIn j (Mark.read c ∷ m) ≡ agreedIn j m) where
       here : getD fs′ i freeFile ≡ file′
       here = getD-set-same fs i file′ freeFile h
 
@@ -85,21 +90,30 @@ module _ {t : Transfer} {m : List Mark} (c : List Value) (k : Kept t m) (s : for
 
       new-file : (j : List ℕ) (f : Found) → found fs j ≡ f → FileOK fs m j f → FileOK fs′ (Mark.read c ∷ m) j f
       new-file j Found.Nowhere e u =
-          record { filed = u .filed; none = u .none; going = others j (λ q. not-found (sym e ∙ q)) ∙ u .going }
+          let away : found fs j ≡ Found.At i → ⊥ = λ q. not-found (sym e ∙ q) in
+          record { filed = u .filed; none = u .none; going = others j away ∙ u .going; agreed = apart j away ∙ u .agreed }
       new-file j (Found.At d) e u = go (ℕ-discrete d i)
         where
           go : Dec (d ≡ i) → Counted (Mark.read c ∷ m) j d (getD fs′ d freeFile)
           go (yes z) =
               let v : Counted m j i file = rw z at u in
               rw (z, here)
-              (record { filed = v .filed; place = v .place; counted = v .counted; going = stays j (rw z at e) })
+              (record {
+                filed = v .filed;
+                place = v .place;
+                counted = v .counted;
+                going = stays j (rw z at e);
+                staged = staged j (rw z at e);
+              })
           go (no z) =
+              let away : found fs j ≡ Found.At i → ⊥ = λ r. z (found-same (sym e ∙ r)) in
               rw (getD-set-other fs i d file′ freeFile z)
               (record {
                 filed = u .filed;
                 place = u .place;
                 counted = u .counted;
-                going = rw (others j (λ r. z (found-same (sym e ∙ r)))) (u .going);
+                going = rw (others j away) (u .going);
+                staged = rw (others j away, apart j away) (u .staged);
               })
 
       free-on : (j : ℕ) → t .count ≤ j → isKnown (getD fs′ j freeFile .stage) ≡ false

@@ -1,7 +1,7 @@
 -- What is written keeps it.
 use Prim.Native.Nat.{ℕ, _≤_, _<_}
 use mathlib.Core.Path.{_≡_, refl, sym, _∙_}
-use mathlib.Core.Bool.{Bool, true, false}
+use mathlib.Core.Bool.{Bool, true, false, not, _&&_}
 use mathlib.Core.Option.{Option}
 use mathlib.Core.List.{List, _∷_}
 use native.Mathlib.Omega.{arith}
@@ -20,7 +20,8 @@ use Rattle.sending.specs.Transfers.{freeFile, idOf, fileIdOf, isKnown, h
 use Rattle.sending.specs.Transfers.{isFresh, isOpen, withStage, asked, begun}
 use Rattle.sending.specs.Story.{Mark}
 use Rattle.sending.specs.Telling.{sessionIn, pendingIn, finishedIn, filesIn, sumIn, someRead, allowedIn, stoppedIn, fileStoppedIn}
-use Rattle.sending.specs.Telling.{sendingIn}
+use Rattle.sending.specs.Telling.{equalsSome, agreedIn, sendingIn}
+use Rattle.sending.specs.Every.{stageBy}
 use Rattle.sending.specs.declared.Stage.{Stage}
 use Rattle.sending.specs.declared.Stage.the-variants as Stage
 use Rattle.sending.specs.declared.FileStage.the-variants as FileStage
@@ -39,10 +40,18 @@ not-found e = let z : _≡_ {A = ℕ} 0 1 = cc in absurd (omega arith)
 
 -- ---- marks that say the same of an id
 pub same-file : (m m′ : List Mark) (k : List ℕ) (fs : List SentFile) → filesIn m′ ≡ filesIn m → pendingIn m′ ≡ pendingIn m
-    → sumIn k m′ ≡ sumIn k m → fileStoppedIn k m′ ≡ fileStoppedIn k m → (f : Found) → FileOK fs m k f → FileOK fs m′ k f
-same-file m m′ k fs e p s g Found.Nowhere u = record { filed = rw e (u .filed); none = s ∙ u .none; going = g ∙ u .going }
-same-file m m′ k fs e p s g (Found.At i) c =
-    record { filed = rw e (c .filed); place = rw e (c .place); counted = rw s (c .counted); going = rw (p, g) (c .going) }
+    → sumIn k m′ ≡ sumIn k m → fileStoppedIn k m′ ≡ fileStoppedIn k m → agreedIn k m′ ≡ agreedIn k m
+    → (f : Found) → FileOK fs m k f → FileOK fs m′ k f
+same-file m m′ k fs e p s g a Found.Nowhere u =
+    record { filed = rw e (u .filed); none = s ∙ u .none; going = g ∙ u .going; agreed = a ∙ u .agreed }
+same-file m m′ k fs e p s g a (Found.At i) c =
+    record {
+      filed = rw e (c .filed);
+      place = rw e (c .place);
+      counted = rw s (c .counted);
+      going = rw (p, g) (c .going);
+      staged = rw (p, g, a) (c .staged);
+    }
 
 -- and of the session; a stopped one may be allowed or not
 abbrev pub AllowedAs : Bool → Bool → Stage → Type 0
@@ -89,7 +98,7 @@ kept-sent {t} {m} id k e l safe =
       session = rw (padded-id id l) (record { session = refl; allowed = s .allowed; stopped = s .stopped; finished = s .finished });
       safe = rw (padded-id id l) safe;
       short = rw (padded-id id l) l;
-      files = λ j. same-file m (Mark.sent id ∷ m) j (t .files) refl refl refl refl (found (t .files) j) (k .files j);
+      files = λ j. same-file m (Mark.sent id ∷ m) j (t .files) refl refl refl refl refl (found (t .files) j) (k .files j);
       free = k .free;
       many = k .many;
       none = k .none;
@@ -114,7 +123,7 @@ kept-finished {t} {m} k e =
       session = record { session = s .session; allowed = s .allowed; stopped = s .stopped; finished = refl };
       safe = k .safe;
       short = k .short;
-      files = λ j. same-file m (Mark.finished ∷ m) j (t .files) refl refl refl refl (found (t .files) j) (k .files j);
+      files = λ j. same-file m (Mark.finished ∷ m) j (t .files) refl refl refl refl refl (found (t .files) j) (k .files j);
       free = k .free;
       many = k .many;
       none = k .none;
@@ -122,6 +131,13 @@ kept-finished {t} {m} k e =
     }
 
 -- ---- file
+-- one that is not being sent is in the stage of one that is not pending
+stage-idle : (s a p : Bool) → (p && not s) ≡ false → stageBy s a p ≡ stageBy s a false
+stage-idle true a p e = refl
+stage-idle false true p e = refl
+stage-idle false false true e = no-way e
+stage-idle false false false e = refl
+
 module _ {t : Transfer} {m : List Mark} (id : List ℕ) (k : Kept t m) (l : length id ≤ idRoom) (room : t .count < fileRoom)
     (new : found (t .files) id ≡ Found.Nowhere) (idle : sendingIn m ≡ false) where
   abbrev fs : List SentFile
@@ -151,17 +167,19 @@ module _ {t : Transfer} {m : List Mark} (id : List ℕ) (k : Kept t m) (l : leng
     where
       -- another id is found where it was
       old : (f : Found) → found fs j ≡ f → equals id j ≡ false → FileOK fs m j f → FileOK fs′ (Mark.filed id ∷ m) j f
-      old Found.Nowhere e q u = record { filed = rw q (u .filed); none = u .none; going = u .going }
+      old Found.Nowhere e q u = record { filed = rw q (u .filed); none = u .none; going = u .going; agreed = u .agreed }
       old (Found.At i) e q c =
           let p = first-at (hasFileId j) freeFile fs i e in
           let known : isKnown (getD fs i freeFile .stage) ≡ true = both-test _ _ (p .1) .0 in
           let other : i ≡ t .count → ⊥ = λ z. no-way (sym known ∙ rw z (k .free (t .count) (omega arith))) in
+          let unpending = stage-idle (fileStoppedIn j m) (agreedIn j m) (equalsSome j (pendingIn m)) (idle-for j m idle) in
           rw (getD-set-other fs (t .count) i file freeFile other)
           (record {
             filed = rw q (c .filed);
             place = rw q (c .place);
             counted = c .counted;
             going = rw q (c .going ∙ idle-for j m idle);
+            staged = rw q (c .staged ∙ unpending);
           })
 
       go : (b : Bool) → equals id j ≡ b → FileOK fs′ (Mark.filed id ∷ m) j (found fs′ j)
@@ -174,6 +192,7 @@ module _ {t : Transfer} {m : List Mark} (id : List ℕ) (k : Kept t m) (l : leng
             place = rw (equals-refl id) (k .many);
             counted = rw (u .none);
             going = rw (equals-refl id, u .going);
+            staged = rw (equals-refl id, u .going, u .agreed);
           })
       go false q =
           let free : hasFileId j (getD fs (t .count) freeFile) ≡ false = rw (k .free (t .count) (omega arith)) in

@@ -19,14 +19,19 @@ use Rattle.command.specs.Framed.{frameRoom}
 use Rattle.protocol.specs.Files.{partLimit}
 use Rattle.protocol.proofs.Laws.{no-way, equals-same}
 use Rattle.protocol.proofs.Refuting.{carry₀, scratch₀}
+use Rattle.sending.specs.Transfers.{fileAt}
 use Rattle.sending.specs.Commands.{sendValues, fileValues, pieceValues, finishValues}
 use Rattle.sending.specs.Calls.{Listening}
 use Rattle.sending.specs.Machine.{Machine}
 use Rattle.sending.specs.Sayings.{Saying, saying}
-use Rattle.sending.specs.Story.{Call, World, isUnheard, marksOf, Lent, step, start}
+use Rattle.sending.specs.Story.{Call, World, Mark, isUnheard, marksOf, Lent, step, start}
 use Rattle.sending.specs.Telling.{sessionIn, pendingIn, orEmpty, isUnsent, idleIn, busyIn, takenIn}
+use Rattle.sending.specs.Telling.{filesIn, isAmong, placeAmong}
 use Rattle.sending.specs.Every.{answerIn, answerBy, Answers, toldAfter, sayingOf, Heard, Right, AllLent, AllRight, EverySender}
+use Rattle.sending.specs.Every.{stageIn, AllShown}
 use Rattle.sending.specs.Cuts.{after}
+use Rattle.sending.specs.declared.FileStage.{FileStage}
+use Rattle.sending.specs.declared.FileStage.the-variants as FileStage
 use Rattle.sending.specs.declared.Sender.{Sender}
 use Rattle.sending.specs.declared.Wrote.{Wrote}
 
@@ -70,8 +75,8 @@ module _ (m : Machine) where
 
   right-after : (w : World) (ds : List Deed) (d : Deed) → AllRight m w (calls w (ds ++ (d ∷ [])))
       → Right m (afterwards w ds) (callOf (afterwards w ds) d)
-  right-after w [] d r = r .0
-  right-after w (x ∷ ds) d r = right-after (step m w (callOf w x)) ds d (r .1)
+  right-after w [] d r = r .1
+  right-after w (x ∷ ds) d r = right-after (step m w (callOf w x)) ds d (r .2)
 
   abbrev pub afterAll : List Deed → World
   afterAll ds = afterwards (start carry₀) ds
@@ -80,6 +85,10 @@ module _ (m : Machine) where
   right-at ds d claim =
       let cs = ds ++ (d ∷ []) in
       right-after (start carry₀) ds d (claim carry₀ (calls (start carry₀) cs) (all-lent (start carry₀) cs))
+
+  shown-after : (w : World) (ds : List Deed) → AllRight m w (calls w ds) → AllShown (afterwards w ds)
+  shown-after w [] r = r
+  shown-after w (x ∷ ds) r = shown-after (step m w (callOf w x)) ds (r .2)
 
 -- ---- the claim's words as tests
 -- an answer and the first bytes of the buffer, as numbers
@@ -186,3 +195,29 @@ pub wrong-at : (m : Machine) (ds : List Deed) (d : Deed) → WrongAt m ds d → 
 wrong-at m ds d e claim =
     let w = afterAll m ds in
     no-way (sym (is-right m w (callOf w d) (right-at m ds d claim)) ∙ e .wrong)
+
+-- ---- or what is shown of a file after these: its stage
+abbrev stageCode : FileStage → ℕ
+stageCode FileStage.Free = 0
+stageCode FileStage.Sending = 1
+stageCode FileStage.Sent = 2
+stageCode FileStage.Closed = 3
+stageCode FileStage.Stopped = 4
+
+abbrev marksAt : Machine → List Deed → List Mark
+marksAt m ds = marksOf (afterAll m ds .story)
+
+abbrev pub shownAt : Machine → List Deed → List ℕ → Bool
+shownAt m ds k =
+    let f = fileAt (afterAll m ds .sender .transfer) (placeAmong k (filesIn (marksAt m ds))) in
+    eqb (stageCode (f .stage)) (stageCode (stageIn k (marksAt m ds)))
+
+pub record WrongShown (m : Machine) (ds : List Deed) (k : List ℕ) : Type 0 where
+  pub filed : isAmong k (filesIn (marksAt m ds)) ≡ true
+  pub wrong : shownAt m ds k ≡ false
+
+pub wrong-shown : (m : Machine) (ds : List Deed) (k : List ℕ) → WrongShown m ds k → EverySender m → ⊥
+wrong-shown m ds k e claim =
+    let w = start carry₀ in
+    let shown = shown-after m w ds (claim carry₀ (calls m w ds) (all-lent m w ds)) k (e .filed) in
+    no-way (sym (eq-eqb _ _ (ap stageCode (shown .stage))) ∙ e .wrong)

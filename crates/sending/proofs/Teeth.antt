@@ -18,11 +18,11 @@ use Rattle.sending.specs.Telling.{someRead}
 use Rattle.sending.specs.Cuts.{allGiven, after, writingCalls, SenderCutsAlike}
 use Rattle.sending.specs.WrongSenders.{early, deaf, misplacing, pushing, hasty, unending, oneMore, lastOnly, encoding}
 use Rattle.sending.specs.WrongSenders.{countingRefused, declaring}
-use Rattle.sending.specs.WrongSenders.{trusting, otherFile, otherSize, swallowing}
+use Rattle.sending.specs.WrongSenders.{trusting, otherFile, otherSize, presuming, condoning, swallowing}
 use Rattle.sending.specs.WrongSenders.{refusing, mute, emptying, stalling, closerLost, SenderTeeth}
 use Rattle.sending.proofs.Examples.{writing, heeding}
 use Rattle.sending.proofs.Refuting.{out₀, Deed, send, file, piece, finish, hear, calls, all-lent}
-use Rattle.sending.proofs.Refuting.{rightAt, WrongAt, wrong-at}
+use Rattle.sending.proofs.Refuting.{rightAt, WrongAt, wrong-at, shownAt, WrongShown, wrong-shown}
 
 -- ---- what is heard: the session's OK, its stop, and statuses of file a
 abbrev allowing : Deed
@@ -83,6 +83,8 @@ record Computed : Type 0 where
   declaring-hears : WrongAt declaring sent threeBytes
   otherFile-hears : WrongAt otherFile sent twoBytes
   otherSize-hears : WrongAt otherSize sent twoBytes
+  presuming-shows : WrongShown presuming sent (ascii "a")
+  condoning-shows : WrongShown condoning (sent ++ (twoBytes ∷ [])) (ascii "a")
   refusing-sends : WrongAt refusing [] (send (ascii "m"))
   mute-sends : WrongAt mute [] (send (ascii "m"))
   emptying-pieces : WrongAt emptying begun (piece (ascii "ab") false)
@@ -101,6 +103,9 @@ record Computed : Type 0 where
   ours-files : rightAt ours allowed fileA ≡ true
   ours-pieces : rightAt ours begun (piece (ascii "ab") false) ≡ true
   ours-hears : rightAt ours sent twoBytes ≡ true
+  ours-sent : shownAt ours sent (ascii "a") ≡ true
+  ours-differing : shownAt ours (sent ++ (twoBytes ∷ [])) (ascii "a") ≡ true
+  ours-closed : shownAt ours (sent ++ (threeBytes ∷ [])) (ascii "a") ≡ true
   ours-parted : length (allGiven ours (start carry₀) (calls ours (start carry₀) parted)) ≡ 1
 
 computed : Computed
@@ -121,6 +126,8 @@ computed = record {
   declaring-hears = record { wrong = refl };
   otherFile-hears = record { wrong = refl };
   otherSize-hears = record { wrong = refl };
+  presuming-shows = record { filed = refl; wrong = refl };
+  condoning-shows = record { filed = refl; wrong = refl };
   refusing-sends = record { wrong = refl };
   mute-sends = record { wrong = refl };
   emptying-pieces = record { wrong = refl };
@@ -135,6 +142,9 @@ computed = record {
   ours-files = refl;
   ours-pieces = refl;
   ours-hears = refl;
+  ours-sent = refl;
+  ours-differing = refl;
+  ours-closed = refl;
   ours-parted = refl;
 }
 
@@ -165,6 +175,8 @@ teeth =
       declaredSize = wrong-at _ _ _ (computed .declaring-hears);
       otherFileNamed = wrong-at _ _ _ (computed .otherFile-hears);
       otherSizeNamed = wrong-at _ _ _ (computed .otherSize-hears);
+      closedByTheLastPiece = wrong-shown _ _ _ (computed .presuming-shows);
+      closedByADifferingOk = wrong-shown _ _ _ (computed .condoning-shows);
       allRefused = wrong-at _ _ _ (computed .refusing-sends);
       nothingWritten = wrong-at _ _ _ (computed .mute-sends);
       emptyPieces = wrong-at _ _ _ (computed .emptying-pieces);

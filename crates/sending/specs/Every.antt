@@ -1,5 +1,5 @@
 -- What holds of a machine at each call of every list of calls on a fresh sender.
-use Prim.Native.Nat.{ℕ, _≤_}
+use Prim.Native.Nat.{ℕ, _≤_, min}
 use mathlib.Core.Path.{_≡_}
 use mathlib.Core.Bool.{Bool, true, false, cond, _||_}
 use mathlib.Core.List.{List, [], _∷_}
@@ -15,12 +15,17 @@ use Rattle.command.specs.Read.{scratchRoom}
 use Rattle.command.specs.Write.{Answer}
 use Rattle.command.specs.Framed.{frameRoom, framedOf}
 use Rattle.protocol.specs.Files.{partLimit}
+use Rattle.sending.specs.Transfers.{fileAt, sentLimit}
 use Rattle.sending.specs.Commands.{sendValues, fileValues, pieceValues, finishValues}
 use Rattle.sending.specs.Calls.{Listening, listening, unheard}
 use Rattle.sending.specs.Machine.{Machine}
 use Rattle.sending.specs.Sayings.{Saying, saying}
 use Rattle.sending.specs.Story.{Call, World, Mark, isUnheard, marksOf, modeAfter, step, Lent, start}
 use Rattle.sending.specs.Telling.{sessionIn, pendingIn, orEmpty, isUnsent, idleIn, busyIn, takenIn, toldSaying}
+use Rattle.sending.specs.Telling.{filesIn, equalsSome, isAmong, placeAmong, sumIn, fileStoppedIn, agreedIn}
+use Rattle.sending.specs.declared.FileStage.{FileStage}
+use Rattle.sending.specs.declared.FileStage.the-variants as FileStage
+use Rattle.sending.specs.declared.SentFile.{SentFile}
 use Rattle.sending.specs.declared.Sender.{Sender}
 use Rattle.sending.specs.declared.Writing.{Writing}
 use Rattle.sending.specs.declared.Writing.the-variants as Writing
@@ -90,14 +95,35 @@ Right m w (Call.finish out) =
     Answers (w .sender) false (idleIn k) (finishValues (orEmpty (sessionIn k))) out (m .finishes (w .sender) out)
 Right m w (Call.hear bytes carry scratch) = Heard w bytes carry scratch (m .hears (w .sender) bytes carry scratch)
 
+-- ---- what a caller reads of a file whose file command is written
+-- a status stops it for good, also a closed one; else "an OK that agrees after the last piece" closes it, and nothing else does
+abbrev pub stageBy : (stopped agreed pending : Bool) → FileStage
+stageBy stopped agreed pending =
+    cond stopped FileStage.Stopped (cond agreed FileStage.Closed (cond pending FileStage.Sending FileStage.Sent))
+
+abbrev pub stageIn : List ℕ → List Mark → FileStage
+stageIn k m = stageBy (fileStoppedIn k m) (agreedIn k m) (equalsSome k (pendingIn m))
+
+-- the stage of the file with the id k, and how many bytes of it were sent: the count stays at 2^64 - 1
+pub record Shown (m : List Mark) (k : List ℕ) (f : SentFile) : Type 0 where
+  pub stage : f .stage ≡ stageIn k m
+  pub sent : f .sent ≡ min (sumIn k m) sentLimit
+
+-- each at its place
+abbrev pub AllShown : World → Type 0
+AllShown w =
+    let m = marksOf (w .story) in
+    (k : List ℕ) → isAmong k (filesIn m) ≡ true → Shown m k (fileAt (w .sender .transfer) (placeAmong k (filesIn m)))
+
 -- ---- every list of calls, refused ones included
 abbrev pub AllLent : Machine → World → List Call → Type 0
 AllLent m w [] = Unit {0}
 AllLent m w (c ∷ cs) = Lent m w c × AllLent m (step m w c) cs
 
+-- each call is right, and before and after each the records show what the story says
 abbrev pub AllRight : Machine → World → List Call → Type 0
-AllRight m w [] = Unit {0}
-AllRight m w (c ∷ cs) = Right m w c × AllRight m (step m w c) cs
+AllRight m w [] = AllShown w
+AllRight m w (c ∷ cs) = AllShown w × Right m w c × AllRight m (step m w c) cs
 
 -- the claim
 abbrev pub EverySender : Machine → Type 0

@@ -124,6 +124,14 @@ stoppedIn m = someRead (forSession Word.Other) m
 abbrev pub fileStoppedIn : List ℕ → List Mark → Bool
 fileStoppedIn k m = someRead (λ c p. equals (fileIdOf c) k && forFile Word.Other c p) m
 
+-- "an OK that agrees after the last piece": its `sz` is the sum of the pieces that were written for the file until then
+abbrev pub agreesFor : List ℕ → List Value → List Mark → Bool
+agreesFor k c m =
+    equals (fileIdOf c) k && (forFile Word.Ok c m && (isCount (sizeOf c) (sumIn k m) && not (equalsSome k (pendingIn m))))
+
+abbrev pub agreedIn : List ℕ → List Mark → Bool
+agreedIn k m = someRead (agreesFor k) m
+
 -- ---- what is ready
 -- send, where none is written
 abbrev pub isUnsent : Option (List ℕ) → Bool

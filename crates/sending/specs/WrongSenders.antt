@@ -13,7 +13,7 @@ use Rattle.frames.specs.declared.Framing.the-variants as Framing
 use Rattle.frames.specs.declared.Report.the-variants as Report
 use Rattle.command.specs.Values.{count}
 use Rattle.protocol.specs.Files.{partLimit}
-use Rattle.sending.specs.Transfers.{currentPlace, currentFile, withStage, putFile, moved}
+use Rattle.sending.specs.Transfers.{fileAt, currentPlace, currentFile, withStage, putFile, moved}
 use Rattle.sending.specs.Calls.{withTransfer, unwritten, sendOf, fileOf, pieceOf, finishOf, Listening, listening, unheard, hearOf}
 use Rattle.sending.specs.Machine.{Machine}
 use Rattle.sending.specs.Every.{EverySender}
@@ -224,6 +224,38 @@ otherFile = hearingBy (λ s bytes carry scratch. telling (differing suc (λ z. z
 abbrev pub otherSize : Machine
 otherSize = hearingBy (λ s bytes carry scratch. telling (differing (λ i. i) (λ z. count 0)) (hearOf s bytes carry scratch))
 
+-- ---- senders that close a file too early
+-- one file of the transfer closed
+abbrev pub closing : ℕ → Sender → Sender
+closing i s =
+    let t = s .transfer in
+    let x = fileAt t i in
+    withTransfer s (putFile t i (moved x FileStage.Closed (x .sent)))
+
+-- with its last piece, before any OK
+abbrev pub presuming : Machine
+presuming =
+    piecingBy (λ s contents last out.
+    let o = pieceOf s contents last out in
+    cond last (leavingWritten (closing (currentPlace (s .transfer))) o) o)
+
+-- with an OK whose size differs, of which it tells
+abbrev pub closingDiffering : News → Sender → Sender
+closingDiffering News.Nothing s = s
+closingDiffering (News.Refused n) s = s
+closingDiffering News.Ignored s = s
+closingDiffering News.Noted s = s
+closingDiffering News.Allowed s = s
+closingDiffering (News.Differs i z) s = closing i s
+closingDiffering (News.FileStopped i p) s = s
+closingDiffering (News.SessionStopped p) s = s
+
+abbrev pub condoning : Machine
+condoning =
+    hearingBy (λ s bytes carry scratch.
+    let l = hearOf s bytes carry scratch in
+    leavingHeard (closingDiffering (l .listened .news)) l)
+
 -- ---- senders of no use
 -- one that refuses every call
 abbrev pub refusing : Machine
@@ -300,6 +332,8 @@ pub record SenderTeeth : Type 0 where
   pub declaredSize : EverySender declaring → ⊥
   pub otherFileNamed : EverySender otherFile → ⊥
   pub otherSizeNamed : EverySender otherSize → ⊥
+  pub closedByTheLastPiece : EverySender presuming → ⊥
+  pub closedByADifferingOk : EverySender condoning → ⊥
   pub allRefused : EverySender refusing → ⊥
   pub nothingWritten : EverySender mute → ⊥
   pub emptyPieces : EverySender emptying → ⊥
