@@ -198,6 +198,7 @@ module _ (w : World) (v : Inv w) where
                 short = rw short;
                 refused = λ q. refl;
                 progress = λ q. no-way q;
+                through = λ q. no-way q;
                 reports = λ q. no-way q;
                 tells = λ q. no-way q;
               };
@@ -228,6 +229,7 @@ module _ (w : World) (v : Inv w) where
                 short = rw (roomy, rep .taken);
                 refused = λ q. no-way (sym q ∙ rep .taken);
                 progress = λ q h. consumes (s .framing) bytes carry long .2 h;
+                through = λ q e. consumes (s .framing) bytes carry long .1 e;
                 reports = λ q. sym (f .0);
                 tells = λ q. rw (f .0) (rep .tells);
               };

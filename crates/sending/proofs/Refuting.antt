@@ -12,6 +12,8 @@ use Rattle.octets.specs.Slices.{equals}
 use Rattle.frames.specs.Stream.{Told, textLimit}
 use Rattle.frames.specs.Calls.{textOf}
 use Rattle.frames.specs.Follows.{toldOf}
+use Rattle.frames.specs.declared.Report.{Report}
+use Rattle.frames.specs.declared.Report.the-variants as Report
 use Rattle.command.specs.Values.{Value}
 use Rattle.command.specs.Read.{scratchRoom}
 use Rattle.command.specs.Write.{Answer}
@@ -125,6 +127,17 @@ isShort carry scratch = ltb (length carry) textLimit || ltb (length scratch) scr
 abbrev progresses : List ℕ → ℕ → Bool
 progresses bytes consumed = eqb (length bytes) 0 || ltb 0 consumed
 
+abbrev isNothing : Report → Bool
+isNothing Report.Nothing = true
+isNothing (Report.InPiece start n) = false
+isNothing (Report.InCarry n) = false
+isNothing Report.TooLong = false
+isNothing Report.Abandoned = false
+isNothing Report.ShortCarry = false
+
+abbrev isThrough : List ℕ → Report → ℕ → Bool
+isThrough bytes r consumed = not (isNothing r) || eqb consumed (length bytes)
+
 abbrev tellsRight : World → List ℕ → Listening → Bool
 tellsRight w bytes l =
     equals (sayingCode (saying (l .listened .news) (l .scratch)))
@@ -136,10 +149,14 @@ reportsRight w bytes l =
     let a = l .listened in
     eqb (length (toldOf (a .report) (textOf bytes (l .carry) (a .report)))) (length (toldAfter w (take (a .consumed) bytes)))
 
+abbrev takenRight : World → List ℕ → Listening → Bool
+takenRight w bytes l =
+    let a = l .listened in
+    progresses bytes (a .consumed) && (isThrough bytes (a .report) (a .consumed) && (reportsRight w bytes l && tellsRight w bytes l))
+
 abbrev hearsRight : World → (bytes carry scratch : List ℕ) → Listening → Bool
 hearsRight w bytes carry scratch l =
-    cond (isUnheard (l .listened .news)) (isShort carry scratch)
-    (not (isShort carry scratch) && (progresses bytes (l .listened .consumed) && (reportsRight w bytes l && tellsRight w bytes l)))
+    cond (isUnheard (l .listened .news)) (isShort carry scratch) (not (isShort carry scratch) && takenRight w bytes l)
 
 progress-right : (bytes : List ℕ) (n : ℕ) → (1 ≤ length bytes → 1 ≤ n) → progresses bytes n ≡ true
 progress-right bytes n h = go (eqb (length bytes) 0) refl
@@ -148,17 +165,25 @@ progress-right bytes n h = go (eqb (length bytes) 0) refl
     go true e = refl
     go false e = let some : length bytes ≡ 0 → ⊥ = eqb-false _ _ e in lt-ltb 0 n (h (omega arith))
 
+through-right : (bytes : List ℕ) (r : Report) (n : ℕ) → (r ≡ Report.Nothing → n ≡ length bytes) → isThrough bytes r n ≡ true
+through-right bytes Report.Nothing n h = eq-eqb _ _ (h refl)
+through-right bytes (Report.InPiece start k) n h = refl
+through-right bytes (Report.InCarry k) n h = refl
+through-right bytes Report.TooLong n h = refl
+through-right bytes Report.Abandoned n h = refl
+through-right bytes Report.ShortCarry n h = refl
+
 hears-right : (w : World) (bytes carry scratch : List ℕ) (l : Listening) → Heard w bytes carry scratch l
     → hearsRight w bytes carry scratch l ≡ true
 hears-right w bytes carry scratch l h = go (isUnheard (l .listened .news)) refl
   where
-    go : (b : Bool) → isUnheard (l .listened .news) ≡ b → cond b (isShort carry scratch)
-        (not (isShort carry scratch) && (progresses bytes (l .listened .consumed) && (reportsRight w bytes l && tellsRight w bytes l)))
-        ≡ true
+    go : (b : Bool) → isUnheard (l .listened .news) ≡ b
+        → cond b (isShort carry scratch) (not (isShort carry scratch) && takenRight w bytes l) ≡ true
     go true e = sym (h .short) ∙ e
     go false e =
         let reports : reportsRight w bytes l ≡ true = eq-eqb _ _ (ap (λ (ds : List Told). length ds) (h .reports e)) in
-        rw (← h .short, e, progress-right bytes (l .listened .consumed) (h .progress e), reports)
+        let through = through-right bytes (l .listened .report) (l .listened .consumed) (h .through e) in
+        rw (← h .short, e, progress-right bytes (l .listened .consumed) (h .progress e), through, reports)
         (equals-same _ _ (ap sayingCode (h .tells e)))
 
 -- the call is right, as far as these tests see

@@ -19,7 +19,7 @@ use Rattle.sending.specs.Cuts.{allGiven, after, writingCalls, SenderCuts
 use Rattle.sending.specs.WrongSenders.{early, deaf, misplacing, pushing, hasty, unending, oneMore, lastOnly, encoding}
 use Rattle.sending.specs.WrongSenders.{countingRefused, declaring}
 use Rattle.sending.specs.WrongSenders.{trusting, otherFile, otherSize, presuming, condoning, swallowing}
-use Rattle.sending.specs.WrongSenders.{refusing, mute, emptying, stalling, closerLost, SenderTeeth}
+use Rattle.sending.specs.WrongSenders.{refusing, mute, emptying, stalling, dawdling, closerLost, SenderTeeth}
 use Rattle.sending.proofs.Examples.{writing, heeding}
 use Rattle.sending.proofs.Refuting.{out₀, Deed, send, file, piece, finish, hear, calls, all-lent}
 use Rattle.sending.proofs.Refuting.{rightAt, WrongAt, wrong-at, shownAt, WrongShown, wrong-shown}
@@ -89,6 +89,7 @@ record Computed : Type 0 where
   mute-sends : WrongAt mute [] (send (ascii "m"))
   emptying-pieces : WrongAt emptying begun (piece (ascii "ab") false)
   stalling-hears : WrongAt stalling asked allowing
+  dawdling-hears : WrongAt dawdling asked allowing
   swallowing-hears : WrongAt swallowing asked (hear (framed (ascii "5113;ac=status;id=m;st=T0s=") ++ framed (ascii "5113;ac=status;id=m")))
   -- two ways to bring the same bytes, with no call that writes: one report, and none
   same-bytes : bytesOf (after closerLost (start carry₀) (calls closerLost (start carry₀) whole) .story)
@@ -132,6 +133,7 @@ computed = record {
   mute-sends = record { wrong = refl };
   emptying-pieces = record { wrong = refl };
   stalling-hears = record { wrong = refl };
+  dawdling-hears = record { wrong = refl };
   swallowing-hears = record { wrong = refl };
   same-bytes = refl;
   same-calls = refl;
@@ -181,6 +183,7 @@ teeth =
       nothingWritten = wrong-at _ _ _ (computed .mute-sends);
       emptyPieces = wrong-at _ _ _ (computed .emptying-pieces);
       nothingHeard = wrong-at _ _ _ (computed .stalling-hears);
+      restLeft = wrong-at _ _ _ (computed .dawdling-hears);
       secondTextLost = wrong-at _ _ _ (computed .swallowing-hears);
       cutCloserLost = cut-closer-lost;
     }

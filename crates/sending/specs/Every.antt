@@ -9,6 +9,7 @@ use Rattle.octets.specs.Outcome.{Outcome, outcome}
 use Rattle.frames.specs.Stream.{Told, textLimit, stream, framed}
 use Rattle.frames.specs.Calls.{textOf}
 use Rattle.frames.specs.Follows.{toldOf}
+use Rattle.frames.specs.declared.Report.the-variants as Report
 use Rattle.command.specs.Values.{Value}
 use Rattle.command.specs.Meaning.{Meaning, meaningOf}
 use Rattle.command.specs.Read.{scratchRoom}
@@ -67,11 +68,12 @@ sayingOf m [] = Saying.nothing
 sayingOf m (d ∷ ds) = toldSaying m d
 
 -- "9: carry under 8,192, scratch under 6,144, nothing consumed"; else some of a piece that has bytes is consumed, "through the first
--- command text that ends": what is reported, with its text, is all that the bytes consumed tell
+-- command text that ends": what is reported, with its text, is all that the bytes consumed tell, and where none is, all are consumed
 pub record Heard (w : World) (bytes carry scratch : List ℕ) (l : Listening) : Type 0 where
   pub short : isUnheard (l .listened .news) ≡ (ltb (length carry) textLimit || ltb (length scratch) scratchRoom)
   pub refused : isUnheard (l .listened .news) ≡ true → l ≡ listening (unheard (w .sender) 9) carry scratch
   pub progress : isUnheard (l .listened .news) ≡ false → 1 ≤ length bytes → 1 ≤ l .listened .consumed
+  pub through : isUnheard (l .listened .news) ≡ false → l .listened .report ≡ Report.Nothing → l .listened .consumed ≡ length bytes
   pub reports : isUnheard (l .listened .news) ≡ false
       → toldOf (l .listened .report) (textOf bytes (l .carry) (l .listened .report)) ≡ toldAfter w (take (l .listened .consumed) bytes)
   pub tells : isUnheard (l .listened .news) ≡ false

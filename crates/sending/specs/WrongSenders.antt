@@ -3,7 +3,7 @@
 use Prim.Native.Nat.{ℕ, suc, _+_, _-_}
 use mathlib.Core.Bool.{Bool, true, false, cond}
 use mathlib.Core.List.{List, [], _∷_}
-use lib.ListN.{length, drop}
+use lib.ListN.{length, take, drop}
 use lib.Dec.{ltb}
 use Rattle.octets.specs.Outcome.{Outcome, outcome}
 use Rattle.octets.specs.Slices.{equals}
@@ -292,6 +292,10 @@ stalling =
     hearingBy (λ s bytes carry scratch.
     listening (record { sender = s; consumed = 0; report = Report.Nothing; news = News.Nothing }) carry scratch)
 
+-- one that hears a piece byte by byte: it leaves the rest where no text has ended
+abbrev pub dawdling : Machine
+dawdling = hearingBy (λ s bytes. hearOf s (take 1 bytes))
+
 -- one that hears two texts at once, and tells of the first
 abbrev pub swallowing : Machine
 swallowing =
@@ -338,5 +342,6 @@ pub record SenderTeeth : Type 0 where
   pub nothingWritten : EverySender mute → ⊥
   pub emptyPieces : EverySender emptying → ⊥
   pub nothingHeard : EverySender stalling → ⊥
+  pub restLeft : EverySender dawdling → ⊥
   pub secondTextLost : EverySender swallowing → ⊥
   pub cutCloserLost : SenderCutsAlike closerLost → ⊥
