@@ -3,7 +3,9 @@ use Prim.Native.Nat.{ℕ, _≤_, _<_}
 use mathlib.Core.Path.{_≡_, refl, sym, ap, _∙_}
 use mathlib.Core.Bool.{Bool, true, false, not, cond, _||_}
 use mathlib.Core.List.{List, [], _∷_, append-nil}
-use lib.ListN.{length}
+use native.Mathlib.Omega.{arith}
+use lib.ListN.{length, take}
+use lib.Seq.{take-length}
 use lib.Dec.{ltb, leb}
 use borrow.Author.Tests.{ltb-false, leb-false}
 use Rattle.octets.specs.Outcome.{Outcome}
@@ -12,6 +14,8 @@ use Rattle.frames.specs.Stream.{Mode, textLimit, stream}
 use Rattle.frames.specs.Stream as Stream
 use Rattle.frames.specs.Calls.{scanOf, textOf}
 use Rattle.frames.specs.Follows.{Follows, consumedBy}
+use Rattle.frames.specs.declared.Framing.{Framing}
+use Rattle.frames.specs.declared.Report.the-variants as Report
 use Rattle.frames.specs.declared.Scanned.{Scanned}
 use Rattle.frames.proofs.CallLaws.{call-report, consumes}
 use Rattle.frames.proofs.Follows.{stream-append, fresh-follows, call-follows}
@@ -60,6 +64,15 @@ pub record Good (w : World) (c : Call) : Type 0 where
 not-true : (b : Bool) → not b ≡ true → b ≡ false
 not-true true e = no-way (sym e)
 not-true false e = refl
+
+-- fewer bytes than a call consumes tell nothing: it would consume them all, and report nothing
+nothing-told : (f : Framing) (c : List ℕ) (m : Mode) (xs : List ℕ) (k : ℕ) → textLimit ≤ length c → Follows f c m
+    → k < scanOf f xs c .answer .consumed → stream m (take k xs) .0 ≡ []
+nothing-told f c m xs k long follows h =
+    let none : scanOf f (take k xs) c .answer .report ≡ Report.Nothing = consumes f xs c long .0 k h in
+    let all : scanOf f (take k xs) c .answer .consumed ≡ length (take k xs) = consumes f (take k xs) c long .1 none in
+    let told = call-follows (take k xs) follows .0 in
+    rw (all, take-length (take k xs), none) at told
 
 module _ (w : World) (v : Inv w) where
   abbrev s : Sender
@@ -199,6 +212,7 @@ module _ (w : World) (v : Inv w) where
                 refused = λ q. refl;
                 progress = λ q. no-way q;
                 through = λ q. no-way q;
+                ends = λ n h. absurd (omega (arith, h));
                 reports = λ q. no-way q;
                 tells = λ q. no-way q;
               };
@@ -230,6 +244,7 @@ module _ (w : World) (v : Inv w) where
                 refused = λ q. no-way (sym q ∙ rep .taken);
                 progress = λ q h. consumes (s .framing) bytes carry long .2 h;
                 through = λ q e. consumes (s .framing) bytes carry long .1 e;
+                ends = λ n h. nothing-told (s .framing) carry (modeAfter (w .story)) bytes n long before h;
                 reports = λ q. sym (f .0);
                 tells = λ q. rw (f .0) (rep .tells);
               };

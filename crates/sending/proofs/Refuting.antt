@@ -1,5 +1,5 @@
 -- How a claim is refuted of a machine: a list of calls on a fresh sender, and a test that computes to false at its end.
-use Prim.Native.Nat.{ℕ, _≤_}
+use Prim.Native.Nat.{ℕ, _-_, _≤_, _<_}
 use mathlib.Core.Path.{_≡_, refl, sym, ap, _∙_}
 use mathlib.Core.Bool.{Bool, true, false, not, cond, _&&_, _||_}
 use mathlib.Core.List.{List, [], _∷_, _++_}
@@ -149,10 +149,15 @@ reportsRight w bytes l =
     let a = l .listened in
     eqb (length (toldOf (a .report) (textOf bytes (l .carry) (a .report)))) (length (toldAfter w (take (a .consumed) bytes)))
 
+-- one byte fewer tells nothing
+abbrev endsRight : World → List ℕ → ℕ → Bool
+endsRight w bytes consumed = eqb consumed 0 || eqb (length (toldAfter w (take (consumed - 1) bytes))) 0
+
 abbrev takenRight : World → List ℕ → Listening → Bool
 takenRight w bytes l =
     let a = l .listened in
-    progresses bytes (a .consumed) && (isThrough bytes (a .report) (a .consumed) && (reportsRight w bytes l && tellsRight w bytes l))
+    progresses bytes (a .consumed) && (isThrough bytes (a .report) (a .consumed)
+    && (endsRight w bytes (a .consumed) && (reportsRight w bytes l && tellsRight w bytes l)))
 
 abbrev hearsRight : World → (bytes carry scratch : List ℕ) → Listening → Bool
 hearsRight w bytes carry scratch l =
@@ -173,6 +178,15 @@ through-right bytes Report.TooLong n h = refl
 through-right bytes Report.Abandoned n h = refl
 through-right bytes Report.ShortCarry n h = refl
 
+ends-right : (w : World) (bytes : List ℕ) (n : ℕ) → ((k : ℕ) → k < n → toldAfter w (take k bytes) ≡ []) → endsRight w bytes n ≡ true
+ends-right w bytes n h = go (eqb n 0) refl
+  where
+    go : (b : Bool) → eqb n 0 ≡ b → (b || eqb (length (toldAfter w (take (n - 1) bytes))) 0) ≡ true
+    go true e = refl
+    go false e =
+        let some : n ≡ 0 → ⊥ = eqb-false _ _ e in
+        eq-eqb _ _ (ap (λ (ds : List Told). length ds) (h (n - 1) (omega arith)))
+
 hears-right : (w : World) (bytes carry scratch : List ℕ) (l : Listening) → Heard w bytes carry scratch l
     → hearsRight w bytes carry scratch l ≡ true
 hears-right w bytes carry scratch l h = go (isUnheard (l .listened .news)) refl
@@ -182,8 +196,9 @@ hears-right w bytes carry scratch l h = go (isUnheard (l .listened .news)) refl
     go true e = sym (h .short) ∙ e
     go false e =
         let reports : reportsRight w bytes l ≡ true = eq-eqb _ _ (ap (λ (ds : List Told). length ds) (h .reports e)) in
+        let ends = ends-right w bytes (l .listened .consumed) (h .ends) in
         let through = through-right bytes (l .listened .report) (l .listened .consumed) (h .through e) in
-        rw (← h .short, e, progress-right bytes (l .listened .consumed) (h .progress e), through, reports)
+        rw (← h .short, e, progress-right bytes (l .listened .consumed) (h .progress e), through, ends, reports)
         (equals-same _ _ (ap sayingCode (h .tells e)))
 
 -- the call is right, as far as these tests see

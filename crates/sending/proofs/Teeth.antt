@@ -19,7 +19,7 @@ use Rattle.sending.specs.Cuts.{allGiven, after, writingCalls, SenderCuts
 use Rattle.sending.specs.WrongSenders.{early, deaf, misplacing, pushing, hasty, unending, oneMore, lastOnly, encoding}
 use Rattle.sending.specs.WrongSenders.{countingRefused, declaring}
 use Rattle.sending.specs.WrongSenders.{trusting, otherFile, otherSize, presuming, condoning, swallowing}
-use Rattle.sending.specs.WrongSenders.{refusing, mute, emptying, stalling, dawdling, closerLost, SenderTeeth}
+use Rattle.sending.specs.WrongSenders.{refusing, mute, emptying, stalling, dawdling, overtaking, closerLost, SenderTeeth}
 use Rattle.sending.proofs.Examples.{writing, heeding}
 use Rattle.sending.proofs.Refuting.{out₀, Deed, send, file, piece, finish, hear, calls, all-lent}
 use Rattle.sending.proofs.Refuting.{rightAt, WrongAt, wrong-at, shownAt, WrongShown, wrong-shown}
@@ -90,6 +90,7 @@ record Computed : Type 0 where
   emptying-pieces : WrongAt emptying begun (piece (ascii "ab") false)
   stalling-hears : WrongAt stalling asked allowing
   dawdling-hears : WrongAt dawdling asked allowing
+  overtaking-hears : WrongAt overtaking asked (hear (framed (ascii "5113;ac=status;id=m;st=T0s=") ++ ascii "x"))
   swallowing-hears : WrongAt swallowing asked (hear (framed (ascii "5113;ac=status;id=m;st=T0s=") ++ framed (ascii "5113;ac=status;id=m")))
   -- two ways to bring the same bytes, with no call that writes: one report, and none
   same-bytes : bytesOf (after closerLost (start carry₀) (calls closerLost (start carry₀) whole) .story)
@@ -134,6 +135,7 @@ computed = record {
   emptying-pieces = record { wrong = refl };
   stalling-hears = record { wrong = refl };
   dawdling-hears = record { wrong = refl };
+  overtaking-hears = record { wrong = refl };
   swallowing-hears = record { wrong = refl };
   same-bytes = refl;
   same-calls = refl;
@@ -184,6 +186,7 @@ teeth =
       emptyPieces = wrong-at _ _ _ (computed .emptying-pieces);
       nothingHeard = wrong-at _ _ _ (computed .stalling-hears);
       restLeft = wrong-at _ _ _ (computed .dawdling-hears);
+      byteTooMany = wrong-at _ _ _ (computed .overtaking-hears);
       secondTextLost = wrong-at _ _ _ (computed .swallowing-hears);
       cutCloserLost = cut-closer-lost;
     }

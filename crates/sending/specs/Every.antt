@@ -1,5 +1,5 @@
 -- What holds of a machine at each call of every list of calls on a fresh sender.
-use Prim.Native.Nat.{ℕ, _≤_, min}
+use Prim.Native.Nat.{ℕ, _≤_, _<_, min}
 use mathlib.Core.Path.{_≡_}
 use mathlib.Core.Bool.{Bool, true, false, cond, _||_}
 use mathlib.Core.List.{List, [], _∷_}
@@ -68,12 +68,14 @@ sayingOf m [] = Saying.nothing
 sayingOf m (d ∷ ds) = toldSaying m d
 
 -- "9: carry under 8,192, scratch under 6,144, nothing consumed"; else some of a piece that has bytes is consumed, "through the first
--- command text that ends": what is reported, with its text, is all that the bytes consumed tell, and where none is, all are consumed
+-- command text that ends": what is reported, with its text, is all that the bytes consumed tell, and no fewer of them tell anything;
+-- where nothing is reported, all are consumed
 pub record Heard (w : World) (bytes carry scratch : List ℕ) (l : Listening) : Type 0 where
   pub short : isUnheard (l .listened .news) ≡ (ltb (length carry) textLimit || ltb (length scratch) scratchRoom)
   pub refused : isUnheard (l .listened .news) ≡ true → l ≡ listening (unheard (w .sender) 9) carry scratch
   pub progress : isUnheard (l .listened .news) ≡ false → 1 ≤ length bytes → 1 ≤ l .listened .consumed
   pub through : isUnheard (l .listened .news) ≡ false → l .listened .report ≡ Report.Nothing → l .listened .consumed ≡ length bytes
+  pub ends : (k : ℕ) → k < l .listened .consumed → toldAfter w (take k bytes) ≡ []
   pub reports : isUnheard (l .listened .news) ≡ false
       → toldOf (l .listened .report) (textOf bytes (l .carry) (l .listened .report)) ≡ toldAfter w (take (l .listened .consumed) bytes)
   pub tells : isUnheard (l .listened .news) ≡ false

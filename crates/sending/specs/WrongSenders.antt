@@ -292,25 +292,33 @@ stalling =
     hearingBy (λ s bytes carry scratch.
     listening (record { sender = s; consumed = 0; report = Report.Nothing; news = News.Nothing }) carry scratch)
 
--- one that hears a piece byte by byte: it leaves the rest where no text has ended
-abbrev pub dawdling : Machine
-dawdling = hearingBy (λ s bytes. hearOf s (take 1 bytes))
-
--- one that hears two texts at once, and tells of the first
-abbrev pub swallowing : Machine
-swallowing =
-    hearingBy (λ s bytes carry scratch.
-    let l = hearOf s bytes carry scratch in
+-- two hears as one, which tells of the first: the second is given the sender, the carry and how many bytes are consumed
+abbrev pub both : Listening → (Sender → List ℕ → ℕ → Listening) → Listening
+both l next =
     let a = l .listened in
-    let k = hearOf (a .sender) (drop (a .consumed) bytes) (l .carry) scratch in
-    let both : Listened =
+    let k = next (a .sender) (l .carry) (a .consumed) in
+    let b : Listened =
     record {
       sender = k .listened .sender;
       consumed = a .consumed + k .listened .consumed;
       report = a .report;
       news = a .news;
     } in
-    listening both (k .carry) (l .scratch))
+    listening b (k .carry) (l .scratch)
+
+-- one that hears a piece byte by byte: it leaves the rest where no text has ended
+abbrev pub dawdling : Machine
+dawdling = hearingBy (λ s bytes. hearOf s (take 1 bytes))
+
+-- one that takes a byte more than it tells of
+abbrev pub overtaking : Machine
+overtaking =
+    hearingBy (λ s bytes carry scratch. both (hearOf s bytes carry scratch) (λ r c n. hearOf r (take 1 (drop n bytes)) c scratch))
+
+-- one that hears two texts at once, and tells of the first
+abbrev pub swallowing : Machine
+swallowing =
+    hearingBy (λ s bytes carry scratch. both (hearOf s bytes carry scratch) (λ r c n. hearOf r (drop n bytes) c scratch))
 
 -- ---- cuts
 -- a closer is lost whose 1B and 5C fall in two pieces
@@ -343,5 +351,6 @@ pub record SenderTeeth : Type 0 where
   pub emptyPieces : EverySender emptying → ⊥
   pub nothingHeard : EverySender stalling → ⊥
   pub restLeft : EverySender dawdling → ⊥
+  pub byteTooMany : EverySender overtaking → ⊥
   pub secondTextLost : EverySender swallowing → ⊥
   pub cutCloserLost : SenderCutsAlike closerLost → ⊥
