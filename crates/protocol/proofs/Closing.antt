@@ -14,7 +14,8 @@ use Rattle.octets.specs.Slices.{equals}
 use Rattle.octets.proofs.Below.{both-test}
 use Rattle.octets.proofs.Compare.{equals-refl, equals-sound}
 use Rattle.frames.specs.declared.Framing.{Framing}
-use Rattle.protocol.specs.Table.{noFile, noSession, sessionAt, fileAt, idOf, fileIdOf, isPresent, isUsed, isDone, putFile, moved}
+use Rattle.protocol.specs.Table.{noFile, noSession, sessionAt, fileAt, idOf, fileIdOf, isPresent, isUsed, fileUsed, isDone}
+use Rattle.protocol.specs.Table.{putFile, moved}
 use Rattle.protocol.specs.Replies.{replyRoom}
 use Rattle.protocol.specs.Change.{cleared, after}
 use Rattle.protocol.specs.Rule.{grown, doneBy}
@@ -23,6 +24,7 @@ use Rattle.protocol.specs.Calls.{isOwed, replied, guarded, doneOf}
 use Rattle.protocol.specs.History.{Command, Heard, Event, Mark, marksOf, Question, lastAsk}
 use Rattle.protocol.specs.Stretches.{Key, parts, contents}
 use Rattle.protocol.specs.Machine.{Call, World}
+use Rattle.protocol.specs.Sound.{IsId, SoundFile}
 use Rattle.protocol.specs.Claim.{isDoneAs, Closes, DirectoryAsked, keyIn, Closed}
 use Rattle.protocol.specs.declared.FileState.{FileState}
 use Rattle.protocol.specs.declared.FileState.the-variants as FileState
@@ -41,7 +43,7 @@ use Rattle.protocol.proofs.Done.{keyAt, WasDone, NoneDone, counts-done,
 use Rattle.protocol.proofs.Puts.{free-files, none-same, none-free, only-there, none-file, none-closes}
 use Rattle.protocol.proofs.SoundRule.{grown-held}
 use Rattle.protocol.proofs.Obeyed.{sessionIn}
-use Rattle.protocol.proofs.Settled.{is-for, sound-here, inside, is-open, fits, asking, s-ok, part-done}
+use Rattle.protocol.proofs.Settled.{is-for, sound-here, inside, is-open, fits, asking, s-ok, part-done, same-none}
 use Rattle.protocol.proofs.Worlds.{WorldOK}
 use Rattle.protocol.proofs.Feeds.{world}
 use Rattle.protocol.proofs.ClosingReplies.{ReplyLaw, closing-reply}
@@ -53,6 +55,7 @@ isLast (Question.asks d Heard.opens) = false
 isLast (Question.asks d (Heard.writes p)) = false
 isLast (Question.asks d (Heard.writesLast p)) = true
 isLast (Question.asks d Heard.commits) = false
+isLast (Question.asks d Heard.requests) = false
 
 no-last : {A : Type 0} {q : Question} {c d : Command} {a : Heard} {p : List ℕ} → q ≡ Question.asks c a → isLast (Question.asks c a) ≡ false
     → q ≡ Question.asks d (Heard.writesLast p) → A
@@ -63,6 +66,14 @@ pub done-is : (w : World) (reply : List ℕ) → replyRoom ≤ length reply
     → doneOf (w .receiver) reply ≡ replied (w .receiver .framing) (settleDone (w .receiver .table)) reply
 unfolding doneOf guarded
 done-is w reply h = rw (le-ltb (length reply) replyRoom h)
+
+-- a file that is started has an id that is not empty
+named-id : {f : FileRecord} → SoundFile f → fileUsed f ≡ true → (f .state ≡ FileState.Named → ⊥) → IsId (fileIdOf f)
+named-id ok used n = let k = ok .named used in record { safe = k .safe; some = k .some n; short = k .short }
+
+started-named : {g : FileState} → g ≡ FileState.Started → g ≡ FileState.Named → ⊥
+started-named {g} e z =
+    let x : FileState.Started ≡ FileState.Named = sym e ∙ z in let y : _≡_ {A = ℕ} 0 1 = cc in omega arith
 
 not-done : FileState.Started ≡ FileState.Done → ⊥
 not-done e = let z : _≡_ {A = ℕ} 0 1 = cc in omega arith
@@ -146,7 +157,7 @@ module _ (g : Framing) (ss : List Session) (carry : List ℕ) (h : List Event) (
         action = rw (a .about .action);
         directory = rw (a .about .kind);
         forIt = is-for s j (a .command) (a .id) (a .about .file);
-        unstarted = s-ok (ok .sound) (ok .table) .unstarted (fileIdOf (fileAt s j)) (λ n p e.
+        unstarted = s-ok (ok .sound) (ok .table) refl .unstarted (fileIdOf (fileAt s j)) (λ n p e.
             let used = past-used (fileAt s n .state) p in
             let q : n ≡ j = sound-here (ok .sound) (ok .table) .alone n j used (ap isUsed (at .state)) e in
             no-way (sym (rw (q, at .state) at p)));
@@ -172,7 +183,7 @@ module _ (g : Framing) (ss : List Session) (carry : List ℕ) (h : List Event) (
 
     file-after : FileOK false (Mark.answer true (lastAsk (marksOf h)) ∷ marksOf h) k size (fileAt s j .declared)
     file-after =
-        part-done (ok .sound) (ok .table) true j n (fits (ok .sound) (ok .table)) (asking (ok .sound) (ok .table) .about)
+        part-done (ok .sound) (ok .table) refl true j n (fits (ok .sound) (ok .table)) (asking (ok .sound) (ok .table) .about)
 
     joined-after : contents k (file-after .stretch .marks) ≡ parts k (file-after .stretch .marks)
     joined-after = rw append-nil at (file-after .joined)
@@ -196,8 +207,8 @@ module _ (g : Framing) (ss : List Session) (carry : List ℕ) (h : List Event) (
           declared = λ some. grown-held (fits (ok .sound) (ok .table)) (rw (file-after .declares) some) ∙ file-after .declares;
           replied =
               rw (done-is w reply room)
-              (closing-reply s (fileAt s j) size law (t .named (ap isPresent (is-open (ok .sound) (ok .table))))
-              (t .each j .named (ap isUsed (at .state))) (omega arith) g _ reply refl room);
+              (closing-reply s (fileAt s j) size law (t .named (ap isPresent (is-open (ok .sound) (ok .table) refl)))
+              (named-id (t .each j) (ap isUsed (at .state)) (started-named (at .state))) (omega arith) g _ reply refl room);
         }
 
     closes : (d : Command) (p : List ℕ) → lastAsk (marksOf h) ≡ Question.asks d (Heard.writesLast p)
@@ -245,6 +256,8 @@ module _ (g : Framing) (ss : List Session) (carry : List ℕ) (h : List Event) (
       rw (e .0, e .1, e .2) (inr (whole j n ok law))
   turned-due law Due.Commit ok k c quiet x =
       no-turn Due.Commit k c quiet (none-free (table ss (Owed.For i Due.Commit)) i _ (left Due.Commit) free-files) x
+  turned-due law Due.Request ok k c quiet x =
+      no-turn Due.Request k c quiet (same-none ss i Due.Request (Owed.For i Due.Request)) x
 
   -- a last part asked last and answered is the one that is due
   pub closed-due : (due : Due) → WorldOK (before due) → (d : Command) (p : List ℕ)
@@ -255,6 +268,7 @@ module _ (g : Framing) (ss : List Session) (carry : List ℕ) (h : List Event) (
   closed-due (Due.Write j n) ok d p e = let a = asking (ok .sound) (ok .table) in no-last (a .asked) (rw (a .about .heard)) e
   closed-due (Due.WriteLast j n) ok d p e = closes j n ok d p e
   closed-due Due.Commit ok d p e = let a = asking (ok .sound) (ok .table) in no-last (a .asked) (rw (a .about)) e
+  closed-due Due.Request ok d p e = let a = asking (ok .sound) (ok .table) in no-last (a .asked) (rw (a .about .0)) e
 
 -- ---- whatever is owed
 module _ (g : Framing) (ss : List Session) (carry : List ℕ) (h : List Event) (reply : List ℕ) (room : replyRoom ≤ length reply) where

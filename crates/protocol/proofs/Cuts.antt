@@ -67,6 +67,8 @@ report-is (Move.deny id) e = no-way (sym e)
 report-is (Move.drop id) e = no-way (sym e)
 report-is Move.done e = no-way (sym e)
 report-is (Move.failed code) e = no-way (sym e)
+report-is Move.unlisted e = no-way (sym e)
+report-is (Move.supply u) e = no-way (sym e)
 
 same-receiver : (r₁ r₂ : Receiver) → r₁ .framing ≡ r₂ .framing → r₁ .table ≡ r₂ .table → r₁ ≡ r₂
 same-receiver r₁ r₂ f t =

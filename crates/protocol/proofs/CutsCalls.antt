@@ -12,19 +12,22 @@ use Rattle.frames.specs.Stream as Stream
 use Rattle.frames.specs.Stream.{Mode, stream}
 use Rattle.frames.specs.Calls.{scanOf, textOf}
 use Rattle.frames.specs.Follows.{Follows, toldOf}
+use Rattle.frames.specs.declared.Framing.the-variants as Framing
 use Rattle.frames.specs.declared.Report.{Report}
 use Rattle.frames.specs.declared.Report.the-variants as Report
 use Rattle.frames.proofs.CallLaws.{call-report}
 use Rattle.frames.proofs.Follows.{stream-append, fresh-follows, call-follows}
 use Rattle.command.specs.Slots.{valuesOf}
 use Rattle.command.specs.Read.{scratchRoom, readOf}
+use Rattle.command.specs.Framed.{frameRoom}
 use Rattle.protocol.specs.Table.{findSession}
 use Rattle.protocol.specs.Replies.{replyRoom, replyBytes, repliedOf}
 use Rattle.protocol.specs.Change.{telling}
 use Rattle.protocol.specs.Rule.{decidedBy}
-use Rattle.protocol.specs.Sessions.{settleDone, settleFailed, decidedAt, decidedOf}
+use Rattle.protocol.specs.Sessions.{settleDone, settleFailed, settleUnlisted, decidedAt, decidedOf}
 use Rattle.protocol.specs.Calls.{isOwed, Feeding, feeding, Acted, readAct, reportAct, feedRefused, scannedFeed, isShort, feedOf}
-use Rattle.protocol.specs.Calls.{answeredBy, replied, guarded, allowOf, denyOf, dropOf, doneOf, failedOf}
+use Rattle.protocol.specs.Calls.{answeredBy, replied, guarded, allowOf, denyOf, dropOf, doneOf, failedOf, unlistedOf}
+use Rattle.protocol.specs.Supplies.{Supply, supplyOf}
 use Rattle.protocol.specs.History.{Event, bytesOf, modeAfter}
 use Rattle.protocol.specs.Machine.{Call, World, isUnfed, isRefused, afterFeed, afterCall, start}
 use Rattle.protocol.specs.Cuts.{saying, Move, Output, reporting, answering, isReport, isReportMove, reportOf, answerOf}
@@ -41,11 +44,12 @@ use Rattle.protocol.specs.declared.Found.the-variants as Found
 use Rattle.protocol.proofs.Ours.{Lent, step, given}
 use Rattle.protocol.proofs.ReplyBytes.{SizedReply, reply-sent}
 use Rattle.protocol.proofs.Sizes.{SizedStep, none-sized, empty-sized}
-use Rattle.protocol.proofs.Sizes.{done-sized, failed-sized, decided-sized}
+use Rattle.protocol.proofs.Sizes.{done-sized, failed-sized, unlisted-sized, supply-sized, decided-sized}
 use Rattle.protocol.proofs.ReplyLengths.{report-sized, Roomy, roomy}
 use Rattle.protocol.proofs.CutsReading.{same-reading}
 use Rattle.protocol.proofs.CutsSteps.{SameAct, unread-same, act-same}
-use Rattle.protocol.proofs.CutsRun.{zeros, textIn, actOn, reported, moveBy, move, Moves, none, one}
+use Rattle.protocol.proofs.CutsRun.{zeros, textIn, actOn, reported, moveBy, frameZeros, suppliedOn, move, Moves, none, one}
+use Rattle.protocol.proofs.SupplyWays.{Alike, alike, supply-alike}
 
 -- ---- what every call keeps
 pub record Kept (w : World) : Type 0 where
@@ -169,7 +173,7 @@ record Answers (r : Receiver) (a : Outcome Answered) (os : List Output) : Type 0
 
 answers : (r : Receiver) → Sized (r .table) → (m : Move) → isReportMove m ≡ false → (s : Stepped) (reply : List ℕ) → SizedStep s
     → ((ds : List Stream.Told) → move (r .table) m ds ≡ moveBy m s ds)
-    → Answers r (guarded r s reply) (answerOf m reply (guarded r s reply))
+    → Answers r (guarded r s reply) (answerOf replyRoom m reply (guarded r s reply))
 unfolding guarded
 answers r h m c s reply z e = go (ltb (length reply) replyRoom) refl
   where
@@ -186,6 +190,24 @@ answers r h m c s reply z e = go (ltb (length reply) replyRoom) refl
         let sent = reply-sent (s .reply) reply (z .reply) (ltb-false _ _ q) .bytes in
         let o : out (replied (r .framing) s reply) ≡ moveBy m s [] .output = rw sent in
         record { framing = refl; moves = rw o (one (moveBy m s [] .output) [] (rw c) e); sized = z .table }
+
+-- one that is lent a buffer for what it writes
+supply-answers : (r : Receiver) → Sized (r .table) → (u : Supply) (out : List ℕ)
+    → Answers r (supplyOf r u out) (answerOf frameRoom (Move.supply u) out (supplyOf r u out))
+unfolding supplyOf
+supply-answers r h u out = go (ltb (length out) frameRoom) refl
+  where
+    go : (b : Bool) → ltb (length out) frameRoom ≡ b
+        → Answers r (supplyOf r u out) (cond b [] (answering (Move.supply u) (supplyOf r u out .answer .told)
+        (take (supplyOf r u out .answer .«reply_len») (supplyOf r u out .buffer)) ∷ []))
+    go true q = rw q (record { framing = refl; moves = none refl; sized = h })
+    go false q =
+        by (supply-alike (r .framing) Framing.Plain (r .table) u out frameZeros (ltb-false _ _ q) (lit≤ tt)) refl (supply-sized r u out h)
+      where
+        by : {o o′ : Outcome Answered} → Alike (r .framing) Framing.Plain o o′ → suppliedOn (r .table) u ≡ o′
+            → Sized (o .answer .receiver .table)
+            → Answers r o (answering (Move.supply u) (o .answer .told) (take (o .answer .«reply_len») (o .buffer)) ∷ [])
+        by (alike s n b b′ e) q z = record { framing = refl; moves = one _ [] refl (λ rest. rw (q, e)); sized = z }
 
 -- drop replies nothing
 drop-silent : (t : Table) (id : List ℕ) → replyBytes (decidedOf t Decision.Drop id .reply) ≡ []
@@ -205,6 +227,8 @@ consumed w (Call.deny id reply) = []
 consumed w (Call.drop id) = []
 consumed w (Call.done reply) = []
 consumed w (Call.failed code reply) = []
+consumed w (Call.unlisted reply) = []
+consumed w (Call.supply u out) = []
 
 abbrev pub toldBy : World → Call → List Stream.Told
 toldBy w c = toldAfter w (consumed w c)
@@ -234,7 +258,7 @@ module _ (w : World) (ok : Kept w) where
   console-kept a h′ q f z = record { follows = rw (f, modeAfter, q, append-nil (bytesOf h)) (ok .follows); sized = z }
 
   pub steps : (c : Call) → Lent w c → Steps w c
-  unfolding stream allowOf denyOf dropOf doneOf failedOf
+  unfolding stream allowOf denyOf dropOf doneOf failedOf unlistedOf
   steps (Call.feed piece carry scratch reply) lent =
       let f = feeds w ok piece carry scratch reply lent in
       record { bytes = refl; moves = f .moves; kept = f .kept }
@@ -265,3 +289,12 @@ module _ (w : World) (ok : Kept w) where
       let a = answers r (ok .sized) (Move.failed code) refl (settleFailed t code) reply z (λ ds. refl) in
       let q = noted-bytes (isRefused (failedOf r code reply .answer .told)) (Event.answered false) h refl in
       record { bytes = q; moves = a .moves; kept = console-kept (failedOf r code reply .answer) _ q (a .framing) (a .sized) }
+  steps (Call.unlisted reply) lent =
+      let z = unlisted-sized t (ok .sized) in
+      let a = answers r (ok .sized) Move.unlisted refl (settleUnlisted t) reply z (λ ds. refl) in
+      let q = noted-bytes (isRefused (unlistedOf r reply .answer .told)) (Event.answered false) h refl in
+      record { bytes = q; moves = a .moves; kept = console-kept (unlistedOf r reply .answer) _ q (a .framing) (a .sized) }
+  steps (Call.supply u out) lent =
+      let a = supply-answers r (ok .sized) u out in
+      let q = sym (append-nil (bytesOf h)) in
+      record { bytes = q; moves = a .moves; kept = console-kept (supplyOf r u out .answer) _ q (a .framing) (a .sized) }

@@ -3,18 +3,23 @@ use mathlib.Core.Bool.{cond}
 use Prim.Native.Nat.{ℕ}
 use mathlib.Core.Path.{_≡_}
 use mathlib.Core.List.{List, [], _∷_, _++_}
-use lib.ListN.{length, replicate}
+use lib.ListN.{length, take, replicate}
+use Rattle.octets.specs.Outcome.{Outcome}
 use Rattle.frames.specs.Stream as Stream
+use Rattle.frames.specs.declared.Framing.the-variants as Framing
 use Rattle.command.specs.Slots.{valuesOf}
 use Rattle.command.specs.Read.{scratchRoom, readOf}
+use Rattle.command.specs.Framed.{frameRoom}
 use Rattle.protocol.specs.Replies.{replyBytes}
-use Rattle.protocol.specs.Sessions.{settleDone, settleFailed, decidedOf}
+use Rattle.protocol.specs.Sessions.{settleDone, settleFailed, settleUnlisted, decidedOf}
 use Rattle.protocol.specs.Calls.{Acted, unread, readAct}
+use Rattle.protocol.specs.Supplies.{Supply, supplyOf}
 use Rattle.protocol.specs.Cuts.{Saying, saying, Move, isReportMove, Output, reporting, answering}
 use Rattle.protocol.specs.declared.Decision.the-variants as Decision
 use Rattle.protocol.specs.declared.Table.{Table}
 use Rattle.protocol.specs.declared.Told.the-variants as Told
 use Rattle.protocol.specs.declared.Stepped.{Stepped}
+use Rattle.protocol.specs.declared.Answered.{Answered}
 use Rattle.protocol.proofs.CutsMoves as CutsMoves
 
 -- ---- moves on a table
@@ -53,6 +58,18 @@ moveReport t (d ∷ ds) = moved (reported t d) (actOn t d .step .table) ds
 abbrev pub moveBy : Move → Stepped → List Stream.Told → Moved
 moveBy m s ds = moved (answering m (s .told) (replyBytes (s .reply))) (s .table) ds
 
+-- one that supplies something, with a buffer of zeros
+abbrev pub frameZeros : List ℕ
+frameZeros = replicate frameRoom 0
+
+abbrev pub suppliedOn : Table → Supply → Outcome Answered
+suppliedOn t u = supplyOf (record { framing = Framing.Plain; table = t }) u frameZeros
+
+abbrev pub moveSupply : Table → Supply → List Stream.Told → Moved
+moveSupply t u ds =
+    let o = suppliedOn t u in
+    moved (answering (Move.supply u) (o .answer .told) (take (o .answer .«reply_len») (o .buffer))) (o .answer .receiver .table) ds
+
 abbrev pub move : Table → Move → List Stream.Told → Moved
 move t Move.report ds = moveReport t ds
 move t (Move.allow id) ds = moveBy (Move.allow id) (decidedOf t Decision.Allow id) ds
@@ -60,6 +77,8 @@ move t (Move.deny id) ds = moveBy (Move.deny id) (decidedOf t Decision.Deny id) 
 move t (Move.drop id) ds = moveBy (Move.drop id) (decidedOf t Decision.Drop id) ds
 move t Move.done ds = moveBy Move.done (settleDone t) ds
 move t (Move.failed code) ds = moveBy (Move.failed code) (settleFailed t code) ds
+move t Move.unlisted ds = moveBy Move.unlisted (settleUnlisted t) ds
+move t (Move.supply u) ds = moveSupply t u ds
 
 -- from a table to another by moves that give these outputs, and take what is told
 abbrev pub Moves : Table → Table → List Output → List Stream.Told → Type 0

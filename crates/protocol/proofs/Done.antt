@@ -37,6 +37,7 @@ done-state FileState.Opening e = no-way (sym e)
 done-state FileState.Started e = no-way (sym e)
 done-state FileState.Done e = refl
 done-state FileState.Failed e = no-way (sym e)
+done-state FileState.Named e = no-way (sym e)
 
 -- a record that is done was so before, with the same ids, count and quiet
 abbrev pub WasDone : Session → Session → ℕ → Type 0

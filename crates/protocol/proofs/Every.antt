@@ -8,8 +8,8 @@ use lib.ListN.{length}
 use lib.Dec.{ltb}
 use borrow.Author.Tests.{ltb-false}
 use Rattle.protocol.specs.Replies.{replyRoom}
-use Rattle.protocol.specs.Sessions.{settleDone, settleFailed, decidedOf}
-use Rattle.protocol.specs.Calls.{isOwed, guarded, allowOf, denyOf, dropOf, doneOf, failedOf}
+use Rattle.protocol.specs.Sessions.{settleDone, settleFailed, settleUnlisted, decidedOf}
+use Rattle.protocol.specs.Calls.{isOwed, guarded, allowOf, denyOf, dropOf, doneOf, failedOf, unlistedOf}
 use Rattle.protocol.specs.History.{Command, Heard, Event, Mark, marksOf, Question, lastAsk}
 use Rattle.protocol.specs.Stretches.{Key}
 use Rattle.protocol.specs.Machine.{ours, Call, World, isRefused, afterCall, start}
@@ -22,8 +22,9 @@ use Rattle.protocol.proofs.Laws.{no-way}
 use Rattle.protocol.proofs.Done.{NoneDone}
 use Rattle.protocol.proofs.Backs.{not-owed}
 use Rattle.protocol.proofs.Puts.{none-same, none-closes}
-use Rattle.protocol.proofs.SoundTable.{done-sound, failed-sound, decided-sound}
-use Rattle.protocol.proofs.Settled.{done-noted, failed-noted, failed-none}
+use Rattle.protocol.proofs.SoundTable.{done-sound, failed-sound, unlisted-sound, supply-sound, decided-sound}
+use Rattle.protocol.proofs.Settled.{done-noted, failed-noted, failed-none, unlisted-noted, unlisted-none}
+use Rattle.protocol.proofs.Supplying.{supplied}
 use Rattle.protocol.proofs.Console.{allow-noted, deny-moved, drop-noted}
 use Rattle.protocol.proofs.Worlds.{WorldOK, start-ok, noted-ok, guarded-ok, by-guard}
 use Rattle.protocol.proofs.Feeds.{feed-ok}
@@ -32,7 +33,7 @@ use Rattle.protocol.proofs.Closing.{done-is, turned, closed}
 
 -- ---- every call keeps the invariant
 step-ok : (w : World) → WorldOK w → (c : Call) → Lent w c → WorldOK (step w c)
-unfolding marksOf allowOf denyOf dropOf doneOf failedOf
+unfolding marksOf allowOf denyOf dropOf doneOf failedOf unlistedOf
 step-ok w ok (Call.feed piece carry scratch reply) lent = feed-ok w ok piece carry scratch reply lent .ok
 step-ok w ok (Call.allow id reply) _ =
     let t = w .receiver .table in
@@ -61,6 +62,18 @@ step-ok w ok (Call.failed code reply) _ =
     let m = marksOf (w .history) in
     guarded-ok ok (Event.answered false) (Mark.answer false (lastAsk m)) refl refl (settleFailed t code) reply
     (failed-sound t code (ok .sound)) (failed-noted (t .sessions) code (t .owed) m (ok .sound) (ok .table))
+step-ok w ok (Call.unlisted reply) _ =
+    let t = w .receiver .table in
+    let m = marksOf (w .history) in
+    guarded-ok ok (Event.answered false) (Mark.answer false (lastAsk m)) refl refl (settleUnlisted t) reply
+    (unlisted-sound t (ok .sound)) (unlisted-noted (t .sessions) (t .owed) m (ok .sound) (ok .table))
+step-ok w ok (Call.supply u out) _ =
+    let s = supplied (w .receiver) (ok .sound) (ok .table) u out in
+    record {
+      follows = rw (s .framing) (ok .follows);
+      sound = supply-sound (w .receiver) u out (ok .sound);
+      table = s .ok;
+    }
 
 -- ---- which call turns a record done
 -- a console call with a reply buffer turns none done that its step does not
@@ -94,7 +107,7 @@ module _ (law : ReplyLaw) where
 
   turned-done : (w : World) → WorldOK w → (c : Call) → Lent w c → (k : Key) (s quiet : ℕ)
       → Closes (w .receiver .table) (step w c .receiver .table) k s quiet → TurnedDone w c k s quiet
-  unfolding allowOf denyOf dropOf failedOf
+  unfolding allowOf denyOf dropOf failedOf unlistedOf
   turned-done w ok (Call.feed piece carry scratch reply) lent =
       never w (Call.feed piece carry scratch reply) (feed-ok w ok piece carry scratch reply lent .none)
   turned-done w ok (Call.allow id reply) _ =
@@ -108,6 +121,10 @@ module _ (law : ReplyLaw) where
   turned-done w ok (Call.failed code reply) _ =
       let t = w .receiver .table in
       never w (Call.failed code reply) (guarded-none w (settleFailed t code) reply (failed-none (t .sessions) code (t .owed)))
+  turned-done w ok (Call.unlisted reply) _ =
+      let t = w .receiver .table in
+      never w (Call.unlisted reply) (guarded-none w (settleUnlisted t) reply (unlisted-none (t .sessions) (t .owed)))
+  turned-done w ok (Call.supply u out) _ = never w (Call.supply u out) (supplied (w .receiver) (ok .sound) (ok .table) u out .none)
 
 -- ---- a last part answered done closes its file
 done-closes : (w : World) → WorldOK w → (d : Command) (p reply : List ℕ)
@@ -134,6 +151,7 @@ module _ (law : ReplyLaw) where
         closes = turned-done law w ok c lent;
         closed = λ d p reply ask e q. rw e (done-closes w ok d p reply ask q);
         partsStand = step-ok w ok c lent .table .told;
+        supplies = step-ok w ok c lent .table .served;
       }
 
   everywhere : (w : World) → WorldOK w → (calls : List Call) → Everywhere w calls

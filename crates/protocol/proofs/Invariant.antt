@@ -13,8 +13,10 @@ use Rattle.protocol.specs.Table.{noSession, sessionAt, fileAt, idOf, fil
 use Rattle.protocol.specs.Calls.{isOwed}
 use Rattle.protocol.specs.History.{Command, Heard, Mark, Question, lastAsk}
 use Rattle.protocol.specs.Stretches.{Key, partFor, declaredIn, Stretch, since, parts, contents, startStands, stands, AllStand}
+use Rattle.protocol.specs.Supplied.{writtenParts, suppliedParts}
 use Rattle.protocol.specs.declared.FileState.the-variants as FileState
 use Rattle.protocol.specs.declared.FileRecord.{FileRecord}
+use Rattle.protocol.specs.declared.SessionState.{SessionState}
 use Rattle.protocol.specs.declared.SessionState.the-variants as SessionState
 use Rattle.protocol.specs.declared.Session.{Session}
 use Rattle.protocol.specs.declared.Due.{Due}
@@ -52,6 +54,7 @@ commitsFor i (Question.asks d Heard.opens) = false
 commitsFor i (Question.asks d (Heard.writes p)) = false
 commitsFor i (Question.asks d (Heard.writesLast p)) = false
 commitsFor i (Question.asks d Heard.commits) = equals i (Meaning.idOf d)
+commitsFor i (Question.asks d Heard.requests) = false
 
 -- it stands in the history, or its commit is owed
 pub data Holds (owed : Bool) (i : List ℕ) (m : List Mark) : Type 0 where
@@ -76,8 +79,20 @@ pub record OpenOK (owed : Bool) (m : List Mark) (s : Session) : Type 0 where
   pub each : (j : ℕ) → fileAt s j .state ≡ FileState.Started → RecordOK owed m s (fileAt s j)
   pub unstarted : Unstarted m s
 
-abbrev pub SessionOK : Bool → List Mark → Session → Type 0
-SessionOK owed m s = s .state ≡ SessionState.Open → OpenOK owed m s
+-- an open receive session
+abbrev pub isSupplied : SessionState → Bool
+isSupplied SessionState.Absent = false
+isSupplied SessionState.Asked = false
+isSupplied SessionState.Open = false
+isSupplied SessionState.Naming = false
+isSupplied SessionState.Waiting = false
+isSupplied SessionState.Listing = true
+isSupplied SessionState.Serving = true
+
+-- an open send session is as above, and an open receive session stands
+pub record SessionOK (owed : Bool) (m : List Mark) (s : Session) : Type 0 where
+  pub sends : s .state ≡ SessionState.Open → OpenOK owed m s
+  pub serves : isSupplied (s .state) ≡ true → stands (idOf s) m ≡ true
 
 -- ---- what is due for a session
 -- the file j of the session is that of the command
@@ -108,6 +123,7 @@ About s d a (Due.OpenDirectory j) = OpenAsked 1 s d a j
 About s d a (Due.Write j n) = PartAsked false s d a j n
 About s d a (Due.WriteLast j n) = PartAsked true s d a j n
 About s d a Due.Commit = a ≡ Heard.commits
+About s d a Due.Request = (a ≡ Heard.requests) × IsFile s 0 d
 
 -- it is what the ask told last is about
 pub record Asking (s : Session) (q : Question) (due : Due) : Type 0 where
@@ -121,8 +137,12 @@ abbrev pub AskedLast : List Session → Question → Owed → Type 0
 AskedLast ss q Owed.Nothing = Unit {0}
 AskedLast ss q (Owed.For i d) = Asking (getD ss i noSession) q d
 
--- ---- the table: parts were handed over in standing sessions only
+-- ---- the table: parts were handed over in standing sessions only, and what was written is what was supplied
+abbrev pub Served : List Mark → Type 0
+Served m = (k : Key) → writtenParts k m ≡ suppliedParts k m
+
 pub record TableOK (t : Table) (m : List Mark) : Type 0 where
   pub each : (i : ℕ) → SessionOK (isOwed (t .owed)) m (sessionAt t i)
   pub owed : AskedLast (t .sessions) (lastAsk m) (t .owed)
   pub told : AllStand m
+  pub served : Served m

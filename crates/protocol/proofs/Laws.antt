@@ -157,6 +157,7 @@ isPast FileState.Opening = false
 isPast FileState.Started = true
 isPast FileState.Done = true
 isPast FileState.Failed = true
+isPast FileState.Named = false
 
 pub past-used : (g : FileState) → isPast g ≡ true → isUsed g ≡ true
 past-used FileState.Free e = no-way (sym e)
@@ -164,3 +165,4 @@ past-used FileState.Opening e = refl
 past-used FileState.Started e = refl
 past-used FileState.Done e = refl
 past-used FileState.Failed e = refl
+past-used FileState.Named e = refl

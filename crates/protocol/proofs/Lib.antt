@@ -17,8 +17,10 @@ pub mod Examples
 pub mod Feeds
 pub mod Invariant
 pub mod Laws
+pub mod Frames
 pub mod Marks
 pub mod Means
+pub mod SupplyWays
 pub mod Obeyed
 pub mod ObeyedRule
 pub mod ObeyedWays
@@ -35,9 +37,11 @@ pub mod SoundCalls
 pub mod SoundRule
 pub mod SoundSteps
 pub mod SoundTable
+pub mod Supplying
 pub mod Starred
 pub mod StatusText
 pub mod Teeth
+pub mod SupplyTeeth
 pub mod Tellings
 pub mod Ways
 pub mod Worlds

@@ -1,6 +1,6 @@
 -- What it is that a command, read while nothing is owed, keeps the invariant; and how the session that it concerns is put back.
 use Prim.Native.Nat.{ℕ, _<_}
-use mathlib.Core.Path.{_≡_, ap, _∙_}
+use mathlib.Core.Path.{_≡_, _∙_}
 use mathlib.Core.Bool.{true, false}
 use mathlib.Core.Option.{Option}
 use mathlib.Core.List.{List, _∷_}
@@ -8,7 +8,7 @@ use lib.ListN.{length, getD, set}
 use Rattle.octets.specs.Slices.{equals}
 use Rattle.command.specs.Meaning as Meaning
 use Rattle.command.specs.declared.Command.{Command as PlacedCommand}
-use Rattle.protocol.specs.Table.{noSession, idOf, findSession, isPresent, sessionUsed}
+use Rattle.protocol.specs.Table.{noSession, idOf, findSession, sessionUsed}
 use Rattle.protocol.specs.Change.{stepped}
 use Rattle.protocol.specs.Sessions.{idIn}
 use Rattle.protocol.specs.Calls.{isOwed}
@@ -16,7 +16,6 @@ use Rattle.protocol.specs.History.{Command, Heard, hearing, Mark, hearin
 use Rattle.protocol.specs.Stretches.{AllStand}
 use Rattle.protocol.specs.Machine.{isUnfed}
 use Rattle.protocol.specs.Sound.{Sound}
-use Rattle.protocol.specs.declared.SessionState.the-variants as SessionState
 use Rattle.protocol.specs.declared.Session.{Session}
 use Rattle.protocol.specs.declared.Owed.{Owed}
 use Rattle.protocol.specs.declared.Owed.the-variants as Owed
@@ -28,7 +27,7 @@ use Rattle.protocol.specs.declared.Found.the-variants as Found
 use Rattle.protocol.proofs.Laws.{found-at, unique-other}
 use Rattle.protocol.proofs.Means.{Means}
 use Rattle.protocol.proofs.Invariant.{SessionOK, AskedLast, TableOK}
-use Rattle.protocol.proofs.Marks.{isHeard, session-read}
+use Rattle.protocol.proofs.Marks.{isHeard, session-read, served-read}
 use Rattle.protocol.proofs.Done.{NoneDone}
 use Rattle.protocol.proofs.Tellings.{isPlain, plain}
 use Rattle.protocol.proofs.Backs.{table}
@@ -67,8 +66,8 @@ here {ss} {c} {text} means i e =
 
 module _ {ss : List Session} {m : List Mark} {d : Command} (sound : Sound (idle ss)) (ok : TableOK (idle ss) m)
     {i : ℕ} (h : Here ss d i) where
-  pub others : (j : ℕ) → (j ≡ i → ⊥) → sessionIn ss j .state ≡ SessionState.Open → equals (idOf (sessionIn ss j)) (Meaning.idOf d) ≡ false
-  others j n o = unique-other sessionUsed idOf noSession ss i (Meaning.idOf d) (sound .alone) (h .used) (h .id) j n (ap isPresent o)
+  pub others : (j : ℕ) → (j ≡ i → ⊥) → sessionUsed (sessionIn ss j) ≡ true → equals (idOf (sessionIn ss j)) (Meaning.idOf d) ≡ false
+  others j n o = unique-other sessionUsed idOf noSession ss i (Meaning.idOf d) (sound .alone) (h .used) (h .id) j n o
 
   -- it is put back as s, with an ask told and owed, or none
   pub kept-put : {scratch : List ℕ} (s : Session) (o : Owed) (w : Told) (r : Reply) (x : Option Heard) → hearing w scratch ≡ x
@@ -84,7 +83,8 @@ module _ {ss : List Session} {m : List Mark} {d : Command} (sound : Sound (idle 
         ok =
             rw hears
             (put-ok (idle ss) i s o (h .inside)
-            (λ j n. rw owes (session-read d m x (sessionIn ss j) (others j n) (ok .each j))) (rw owes mine) asked told);
+            (λ j n. rw owes (session-read d m x (sessionIn ss j) (others j n) (ok .each j))) (rw owes mine) asked told
+            (served-read m d x (ok .served)));
         none = none;
         taken = taken;
       }

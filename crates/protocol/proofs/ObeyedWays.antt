@@ -15,10 +15,11 @@ use Rattle.command.specs.declared.Action.the-variants as Action
 use Rattle.command.specs.declared.FileType.{FileType}
 use Rattle.command.specs.declared.FileType.the-variants as FileType
 use Rattle.command.specs.declared.Command.{Command as PlacedCommand}
-use Rattle.protocol.specs.Table.{absentSession, noFile, fileAt, fileIdOf, isUsed, fileUsed, isFree, putFile, moved}
+use Rattle.protocol.specs.Table.{absentSession, noFile, fileAt, idOf, fileIdOf, isUsed, fileUsed, isFree, waiting, putFile, moved}
 use Rattle.protocol.specs.Replies.{noReply}
-use Rattle.protocol.specs.Change.{asks, opens, askOf, stepBy}
+use Rattle.protocol.specs.Change.{change, asks, opens, askOf, stepBy}
 use Rattle.protocol.specs.Files.{Request, opening, linkLike, declaredBy, isDirectory, openDue, failedFile, writeDue}
+use Rattle.protocol.specs.Receives.{named, requestOf}
 use Rattle.protocol.specs.Sessions.{requestIn}
 use Rattle.protocol.specs.History.{Command, Heard, hearing, Mark, hearingMark, Question}
 use Rattle.protocol.specs.Stretches.{isData, isEnd, Key, partFor, contentFor, declaredIn, stands, StandsFor}
@@ -33,17 +34,19 @@ use Rattle.protocol.specs.declared.Due.the-variants as Due
 use Rattle.protocol.specs.declared.Owed.the-variants as Owed
 use Rattle.protocol.specs.declared.Status.{Status}
 use Rattle.protocol.specs.declared.Told.the-variants as Told
+use Rattle.protocol.specs.declared.Edit.the-variants as Edit
+use Rattle.protocol.specs.declared.News.the-variants as News
 use Rattle.protocol.specs.declared.Change.{Change}
 use Rattle.protocol.proofs.Laws.{isPast, no-way, equals-same, first-at, found-at, unique-other, padded-id}
 use Rattle.protocol.proofs.Means.{Means, acts-as}
 use Rattle.protocol.proofs.Invariant.{keyOf, fileKey, Holds, standing, committing, OpenOK, SessionOK, OpenAsked, writeHeard, About}
-use Rattle.protocol.proofs.Invariant.{TableOK}
+use Rattle.protocol.proofs.Invariant.{isSupplied, TableOK}
 use Rattle.protocol.proofs.Marks.{file-other, content-other, content-none, handed, isHeard, holds-read, file-read, none-read}
-use Rattle.protocol.proofs.Marks.{session-heard}
+use Rattle.protocol.proofs.Marks.{stands-read, session-heard}
 use Rattle.protocol.proofs.Tellings.{plain}
-use Rattle.protocol.proofs.Puts.{absent-ok, free-files, put-file, asked-here, none-put, none-free, none-file}
+use Rattle.protocol.proofs.Puts.{shut-ok, absent-ok, free-files, put-file, asked-here, none-put, none-free, none-file}
 use Rattle.protocol.proofs.Ways.{brings, ends, NewFile, PartOf, Way, nothing, dropped, openAsked, partFailed, writeAsked}
-use Rattle.protocol.proofs.Ways.{commitAsked, for-none}
+use Rattle.protocol.proofs.Ways.{commitAsked, pathNamed, lastNamed, requestAsked, for-none}
 use Rattle.protocol.proofs.Obeyed.{idle, sessionIn, Kept, Here, kept-put}
 
 -- what an open session holds while nothing is owed
@@ -58,6 +61,7 @@ free-past FileState.Opening e p = no-way (sym p)
 free-past FileState.Started e p = no-way (sym e)
 free-past FileState.Done e p = no-way (sym e)
 free-past FileState.Failed e p = no-way (sym e)
+free-past FileState.Named e p = no-way (sym e)
 
 module _ {ss : List Session} {c : PlacedCommand} {text scratch : List ℕ} {d : Command} {m : List Mark} (means : Means c text scratch d)
     (sound : Sound (idle ss)) (ok : TableOK (idle ss) m) {i : ℕ} (h : Here ss d i) where
@@ -82,9 +86,10 @@ module _ {ss : List Session} {c : PlacedCommand} {text scratch : List ℕ} {d : 
 
   -- the session stays, and its started files get what is handed over
   stays : (x : Option Heard) → isEnd d ≡ false
-      → ((j : ℕ) → fileAt s j .state ≡ FileState.Started → let k = keyOf s (fileAt s j) in contentFor k d ≡ handed k d x)
+      → (s .state ≡ SessionState.Open → (j : ℕ) → fileAt s j .state ≡ FileState.Started
+      → let k = keyOf s (fileAt s j) in contentFor k d ≡ handed k d x)
       → SessionOK (isHeard x) (marks x) s
-  stays x e f = session-heard d m x s (λ o. holds-read d x (rw e)) (λ o j. f j) (ok .each i)
+  stays x e f = session-heard d m x s (λ o. holds-read d x (rw e)) f (λ _. rw e) (ok .each i)
 
   -- ---- nothing changes
   nothing-brought : (b : Bool) → isData d ≡ b
@@ -95,7 +100,7 @@ module _ {ss : List Session} {c : PlacedCommand} {text scratch : List ℕ} {d : 
   nothing-brought false e f j g = content-none (keyOf s (fileAt s j)) d e
 
   -- ---- a new record, opening
-  module _ (j : ℕ) (o : s .state ≡ SessionState.Open) (n : NewFile s q j) where
+  module _ (j : ℕ) (o : s .state ≡ SessionState.Open) (n : NewFile s q j) (type-ok : linkLike (q .type) ≡ false) where
     abbrev record-asked : FileRecord
     record-asked = opening (q .file) (declaredBy (q .type) (q .size))
 
@@ -113,7 +118,7 @@ module _ {ss : List Session} {c : PlacedCommand} {text scratch : List ℕ} {d : 
 
     opened : OpenOK true (marks (Option.some Heard.opens)) new
     opened =
-        let a = ok .each i o in
+        let a = ok .each i .sends o in
         put-file s j record-asked a within
         (holds-read d (Option.some Heard.opens) (rw acts) (a .stand))
         (λ k _ w. file-read d (Option.some Heard.opens) (content-none (keyOf s (fileAt s k)) d is-file) (a .each k w))
@@ -149,9 +154,9 @@ module _ {ss : List Session} {c : PlacedCommand} {text scratch : List ℕ} {d : 
     open-kept =
         let due = openDue (isDirectory (q .type)) j in
         kept-put sound ok h new (Owed.For i due) _ noReply (Option.some Heard.opens) (hears-open (isDirectory (q .type))) refl refl
-        (λ _. opened)
+        (record { sends = λ _. opened; serves = λ e. no-way (sym e ∙ ap isSupplied o) })
         (asked-here ss i new (Question.asks d Heard.opens) due (h .inside)
-        (record { command = d; heard = Heard.opens; asked = refl; id = h .id; about = about (q .type) refl (n .type) }))
+        (record { command = d; heard = Heard.opens; asked = refl; id = h .id; about = about (q .type) refl type-ok }))
         (tt, ok .told)
         (none-file (idle ss) i j record-asked (Owed.For i due)
         (λ (e : FileState.Opening ≡ FileState.Done). let z : _≡_ {A = ℕ} 0 1 = cc in omega arith))
@@ -159,7 +164,7 @@ module _ {ss : List Session} {c : PlacedCommand} {text scratch : List ℕ} {d : 
   -- ---- a part for a started file
   module _ (j : ℕ) (o : s .state ≡ SessionState.Open) (p : PartOf s q j) where
     abbrev s-ok : OpenOK false m s
-    s-ok = ok .each i o
+    s-ok = ok .each i .sends o
 
     file : (j < length (s .files)) × (fileUsed (fileAt s j) ≡ true) × (fileIdOf (fileAt s j) ≡ q .file)
     file = found-at fileUsed fileIdOf noFile (s .files) (q .file) j (p .found)
@@ -175,11 +180,14 @@ module _ {ss : List Session} {c : PlacedCommand} {text scratch : List ℕ} {d : 
     failed-kept w =
         let f = moved (fileAt s j) FileState.Failed (fileAt s j .count) in
         kept-put sound ok h (putFile s j f) Owed.Nothing (Told.Status w) _ Option.none refl refl refl
-        (λ _. put-file s j f s-ok (file .0) (holds-read d Option.none (rw ends-not) (s-ok .stand))
-        (λ n u v. let k = keyOf s (fileAt s n) in
-        file-read d Option.none (content-other k d (file-other k d (other-file n u v))) (s-ok .each n v))
-        (λ (e : FileState.Failed ≡ FileState.Started). let z : _≡_ {A = ℕ} 0 1 = cc in absurd (omega arith))
-        (λ _. (refl, refl)) (λ g _. none-read m (fileKey s g) d Option.none))
+        (record {
+          sends = λ _. put-file s j f s-ok (file .0) (holds-read d Option.none (rw ends-not) (s-ok .stand))
+              (λ n u v. let k = keyOf s (fileAt s n) in
+              file-read d Option.none (content-other k d (file-other k d (other-file n u v))) (s-ok .each n v))
+              (λ (e : FileState.Failed ≡ FileState.Started). let z : _≡_ {A = ℕ} 0 1 = cc in absurd (omega arith))
+              (λ _. (refl, refl)) (λ g _. none-read m (fileKey s g) d Option.none);
+          serves = λ e. no-way (sym e ∙ ap isSupplied o);
+        })
         tt (ok .told)
         (none-file (idle ss) i j f Owed.Nothing (λ (e : FileState.Failed ≡ FileState.Done). let z : _≡_ {A = ℕ} 0 1 = cc in omega arith))
       where
@@ -215,22 +223,69 @@ module _ {ss : List Session} {c : PlacedCommand} {text scratch : List ℕ} {d : 
       write-kept =
           let due = writeDue last j (q .long) in
           kept-put sound ok h s (Owed.For i due) _ noReply (Option.some heard) (hears-part last) refl refl
-          (stays (Option.some heard) ends-not (λ n _. part-content last (keyOf s (fileAt s n))))
+          (stays (Option.some heard) ends-not (λ _ n _. part-content last (keyOf s (fileAt s n))))
           (asked-here ss i s (Question.asks d heard) due (h .inside)
           (record { command = d; heard = heard; asked = refl; id = h .id; about = part-about last }))
           (part-stands last, ok .told)
           (none-put (idle ss) i s (Owed.For i due) (λ n g. (g, refl, refl, refl)))
 
   -- ---- a commit is asked: the session stands no more
-  commit-kept : isData d ≡ false → Keeps (asks Due.Commit)
-  commit-kept b =
+  commit-kept : s .state ≡ SessionState.Open → isData d ≡ false → Keeps (asks Due.Commit)
+  commit-kept o b =
       kept-put sound ok h s (Owed.For i Due.Commit) _ noReply (Option.some Heard.commits) refl refl refl
       (session-heard d m (Option.some Heard.commits) s (λ _ _. committing refl (equals-same _ _ (h .id)))
-      (λ _ j _. content-none (keyOf s (fileAt s j)) d b) (ok .each i))
+      (λ _ j _. content-none (keyOf s (fileAt s j)) d b) (λ e. no-way (sym e ∙ ap isSupplied o)) (ok .each i))
       (asked-here ss i s (Question.asks d Heard.commits) Due.Commit (h .inside)
       (record { command = d; heard = Heard.commits; asked = refl; id = h .id; about = refl }))
       (tt, ok .told)
       (none-put (idle ss) i s (Owed.For i Due.Commit) (λ n g. (g, refl, refl, refl)))
+
+  -- ---- paths: one that names them is not open, nor is one that waits
+  path-kept : (j : ℕ) → s .state ≡ SessionState.Naming → Keeps (change (Edit.Filed j) (named (q .file)) (News.Tells Told.Path) noReply)
+  path-kept j o =
+      kept-put sound ok h (putFile s j (named (q .file))) Owed.Nothing Told.Path noReply Option.none refl refl refl
+      (shut-ok
+      (λ (z : s .state ≡ SessionState.Open). let x : SessionState.Naming ≡ SessionState.Open = sym o ∙ z in
+      let w : _≡_ {A = ℕ} 0 1 = cc in omega arith) (ap isSupplied o))
+      tt (ok .told)
+      (none-file (idle ss) i j (named (q .file)) Owed.Nothing
+      (λ (e : FileState.Named ≡ FileState.Done). let z : _≡_ {A = ℕ} 0 1 = cc in omega arith))
+
+  last-kept : Keeps (change Edit.Waits noFile (News.Tells Told.LastPath) noReply)
+  last-kept =
+      kept-put sound ok h (waiting s) Owed.Nothing Told.LastPath noReply Option.none refl refl refl
+      (shut-ok (λ (z : SessionState.Waiting ≡ SessionState.Open). let w : _≡_ {A = ℕ} 0 1 = cc in omega arith) refl)
+      tt (ok .told) (none-free (idle ss) i (waiting s) Owed.Nothing free-files)
+
+  -- ---- a request: the session stands, and its first record has the command's file id
+  module _ (o : s .state ≡ SessionState.Serving) (a : q .action ≡ Action.File) where
+    abbrev asked-for : Session
+    asked-for = putFile s 0 (named (q .file))
+
+    acts-file : Meaning.actionCode d ≡ Slots.actionCode Action.File
+    acts-file = acts-as means Action.File a
+
+    still-stands : (k : List ℕ) → idOf s ≡ k → stands k (Mark.read d ∷ m) ≡ true
+    still-stands k e = stands-read k m d Option.none (rw acts-file) (rw (← e) (ok .each i .serves (ap isSupplied o)))
+
+    first-id : fileIdOf (fileAt asked-for 0) ≡ Meaning.fileIdOf d
+    first-id =
+        rw (getD-set-same (s .files) 0 (named (q .file)) noFile (rw (sound .each i .room) (omega arith)))
+        (padded-id (q .file) (rw (means .file) (means .named .file-short)) ∙ means .file)
+
+    request-kept : Keeps (requestOf (q .file))
+    request-kept =
+        kept-put sound ok h asked-for (Owed.For i Due.Request) _ noReply (Option.some Heard.requests) refl refl refl
+        (record {
+          sends = λ (z : s .state ≡ SessionState.Open). let x : SessionState.Serving ≡ SessionState.Open = sym o ∙ z in
+              let w : _≡_ {A = ℕ} 0 1 = cc in absurd (omega arith);
+          serves = λ _. still-stands (idOf s) refl;
+        })
+        (asked-here ss i asked-for (Question.asks d Heard.requests) Due.Request (h .inside)
+        (record { command = d; heard = Heard.requests; asked = refl; id = h .id; about = (refl, first-id) }))
+        (still-stands (Meaning.idOf d) (h .id), ok .told)
+        (none-file (idle ss) i 0 (named (q .file)) (Owed.For i Due.Request)
+        (λ (e : FileState.Named ≡ FileState.Done). let z : _≡_ {A = ℕ} 0 1 = cc in omega arith))
 
   -- ---- whatever the way
   pub way-kept : {x : Change} → Way s q x → Keeps x
@@ -238,13 +293,16 @@ module _ {ss : List Session} {c : PlacedCommand} {text scratch : List ℕ} {d : 
       let p = plain w e in
       kept-put sound ok h s Owed.Nothing w r Option.none (p .silent scratch) (p .taken) refl
       (stays Option.none (ends-as ∙ f)
-      (nothing-brought (isData d) refl (λ n u b. for-none s q (sound .each i .alone) (g (sym brings-as ∙ b)) n u)))
+      (λ o. nothing-brought (isData d) refl (λ n u b. for-none s q (sound .each i .alone) (g o (sym brings-as ∙ b)) n u)))
       tt (ok .told) (none-put (idle ss) i s Owed.Nothing (λ n u. (u, refl, refl, refl)))
   way-kept (dropped w r e _) =
       let p = plain w e in
       kept-put sound ok h absentSession Owed.Nothing w r Option.none (p .silent scratch) (p .taken) refl absent-ok tt (ok .told)
       (none-free (idle ss) i absentSession Owed.Nothing free-files)
-  way-kept (openAsked j o n) = open-kept j o n
+  way-kept (openAsked j o n t) = open-kept j o n t
   way-kept (partFailed j w o p) = failed-kept j o p w
   way-kept (writeAsked last j o p _ _ _) = write-kept j o p last
-  way-kept (commitAsked o b _) = commit-kept (brings-as ∙ b)
+  way-kept (commitAsked o b _) = commit-kept o (brings-as ∙ b)
+  way-kept (pathNamed j o n) = path-kept j o
+  way-kept (lastNamed o a) = last-kept
+  way-kept (requestAsked o a) = request-kept o a

@@ -1,4 +1,5 @@
--- WHAT EVERY CALL PROMISES, of the receiver's own: a refused one changes nothing, a feed goes on, and no reply is over 124 bytes.
+-- WHAT EVERY CALL PROMISES, of the receiver's own: a refused one changes nothing, a feed goes on, and no reply is over 124 bytes, nothing
+-- supplied over a frame.
 use Prim.Native.Nat.{ℕ}
 use mathlib.Core.Path.{_≡_, refl, sym, ap, _∙_}
 use mathlib.Core.Bool.{Bool, true, false, cond}
@@ -7,7 +8,7 @@ use native.Mathlib.Omega.{arith}
 use lib.ListN.{length}
 use lib.Dec.{ltb}
 use borrow.Author.Tests.{ltb-false}
-use Rattle.octets.specs.Outcome.{outcome}
+use Rattle.octets.specs.Outcome.{Outcome, outcome}
 use Rattle.frames.specs.Calls.{scanOf, textOf}
 use Rattle.frames.proofs.CallLaws.{call-report, consumed-le, consumes}
 use Rattle.protocol.specs.Table.{sessionAt, findSession}
@@ -15,12 +16,13 @@ use Rattle.protocol.specs.Replies.{replyRoom, noReply}
 use Rattle.command.specs.Slots.{nowhere}
 use Rattle.frames.proofs.Choices.{by-cond}
 use Rattle.protocol.specs.Change.{tells, toldBy, telling, stepBy}
-use Rattle.protocol.specs.Rule.{doneBy, failedBy, isAsked, notAsked, allowed, denied, decidedBy}
-use Rattle.protocol.specs.Sessions.{answeredWith, settleDone, settleFailed, decidedAt, decidedOf}
+use Rattle.protocol.specs.Rule.{doneBy, failedBy, unlistedBy, isAsked, notAsked, allowed, denied, decidedBy}
+use Rattle.protocol.specs.Sessions.{answeredWith, settleDone, settleFailed, unlistedFor, settleUnlisted, decidedAt, decidedOf}
 use Rattle.protocol.specs.Calls.{isOwed, Feeding, feeding, feedRefused, scannedFeed, isShort, feedOf}
-use Rattle.protocol.specs.Calls.{answeredBy, replied, guarded, allowOf, denyOf, dropOf, doneOf, failedOf}
+use Rattle.protocol.specs.Calls.{answeredBy, replied, guarded, allowOf, denyOf, dropOf, doneOf, failedOf, unlistedOf}
+use Rattle.protocol.specs.Supplies.{Supply, valuesFor, changeFor, supplyOf}
 use Rattle.protocol.specs.Machine.{ours, isUnfed, isRefused}
-use Rattle.protocol.specs.Promises.{Sized, FeedPromise, CallPromise, EveryCall}
+use Rattle.protocol.specs.Promises.{Sized, FeedPromise, CallPromise, SupplyPromise, EveryCall}
 use Rattle.protocol.specs.declared.Session.{Session}
 use Rattle.protocol.specs.declared.Due.{Due}
 use Rattle.protocol.specs.declared.Owed.{Owed}
@@ -33,13 +35,16 @@ use Rattle.protocol.specs.declared.Decision.the-variants as Decision
 use Rattle.protocol.specs.declared.Told.the-variants as Told
 use Rattle.protocol.specs.declared.Change.{Change}
 use Rattle.protocol.specs.declared.Stepped.{Stepped}
+use Rattle.protocol.specs.declared.Answered.{Answered}
 use Rattle.protocol.specs.declared.Found.{Found}
 use Rattle.protocol.specs.declared.Found.the-variants as Found
 use Rattle.protocol.proofs.Laws.{no-way}
 use Rattle.protocol.proofs.Backs.{told-step}
-use Rattle.protocol.proofs.Tellings.{done-told, failed-told}
+use Rattle.protocol.proofs.Tellings.{AnswerTold, done-told, failed-told, unlisted-told}
+use Rattle.protocol.proofs.Frames.{written-length}
+use Rattle.protocol.proofs.SupplyWays as SupplyWays
 use Rattle.protocol.proofs.ReplyBytes.{reply-sent, not-due}
-use Rattle.protocol.proofs.Sizes.{SizedStep, done-sized, failed-sized, decided-sized}
+use Rattle.protocol.proofs.Sizes.{SizedStep, done-sized, failed-sized, unlisted-sized, decided-sized}
 use Rattle.protocol.proofs.ReplyLengths.{roomy, report-sized}
 use Rattle.protocol.proofs.CutsCalls.{report-taken}
 
@@ -71,11 +76,18 @@ decided-leaves t d id = found (findSession t id)
     found Found.Nowhere = λ _. (refl, refl)
     found (Found.At i) = step i d
 
--- an answer is refused where nothing is owed, and nowhere else
-answered-leaves : (t : Table) (f : Session → Due → Change) → ((s : Session) (d : Due) → isRefused (toldBy nowhere (f s d .news)) ≡ false)
-    → (o : Owed) → Leaves t (answeredWith t f o)
-answered-leaves t f l Owed.Nothing e = (refl, refl)
-answered-leaves t f l (Owed.For i d) e = no-way (sym e ∙ l (sessionAt t i) d)
+-- an answer is refused where nothing is owed, and for one that is out of turn
+module _ (t : Table) (f : Session → Due → Change) (told : (s : Session) (d : Due) → AnswerTold (f s d)) where
+  answer-leaves : (i : ℕ) (d : Due) → Leaves t (stepBy t i nowhere (f (sessionAt t i) d))
+  answer-leaves i d = go (told (sessionAt t i) d)
+    where
+      go : {c : Change} → AnswerTold c → Leaves t (stepBy t i nowhere c)
+      go (AnswerTold.taken l) e = no-way (sym e ∙ l)
+      go (AnswerTold.refused z) e = rw z (refusal-leaves t i 18 refl)
+
+  answered-leaves : (o : Owed) → Leaves t (answeredWith t f o)
+  answered-leaves Owed.Nothing = λ _. (refl, refl)
+  answered-leaves (Owed.For i d) = answer-leaves i d
 
 done-leaves : (t : Table) → Leaves t (settleDone t)
 unfolding settleDone
@@ -84,6 +96,14 @@ done-leaves t = answered-leaves t doneBy done-told (t .owed)
 failed-leaves : (t : Table) (code : Failure) → Leaves t (settleFailed t code)
 unfolding settleFailed
 failed-leaves t code = answered-leaves t (failedBy code) (failed-told code) (t .owed)
+
+unlisted-leaves : (t : Table) → Leaves t (settleUnlisted t)
+unfolding settleUnlisted
+unlisted-leaves t = go (t .owed)
+  where
+    go : (o : Owed) → Leaves t (unlistedFor t o)
+    go Owed.Nothing = λ _. (refl, refl)
+    go (Owed.For i d) = answer-leaves t unlistedBy unlisted-told i d
 
 -- ---- a call that is lent a reply buffer
 call-promise : (r : Receiver) (s : Stepped) (reply : List ℕ) → Leaves (r .table) s → SizedStep s → CallPromise r reply (guarded r s reply)
@@ -144,10 +164,28 @@ module _ (r : Receiver) (h : Sized (r .table)) (piece carry scratch reply : List
       go false e true = refused-promise 10 refl
       go false e false = taken-promise e
 
+-- ---- a call that supplies something
+supply-promise : (r : Receiver) (u : Supply) (out : List ℕ) → SupplyPromise r out (supplyOf r u out)
+supply-promise r u out = go (SupplyWays.way r u out)
+  where
+    -- what is taken is not refused
+    told : (v : Supply) → isRefused (toldBy nowhere (changeFor v .news)) ≡ false
+    told (Supply.list e text contents) = refl
+    told (Supply.listFailed text id path code) = refl
+    told (Supply.home id path) = refl
+    told (Supply.part false bytes) = refl
+    told (Supply.part true bytes) = refl
+
+    go : {o : Outcome Answered} → SupplyWays.Way r u out o → SupplyPromise r out o
+    go (SupplyWays.refused n) = record { refused = λ _. (refl, refl, refl); short = omega arith }
+    go (SupplyWays.held i n _ _ _ _ _) = record { refused = λ q. no-way (sym q ∙ told u); short = omega arith }
+    go (SupplyWays.wrote i n _ e _ _ _) =
+        record { refused = λ q. no-way (sym q ∙ told u); short = written-length (valuesFor (sessionAt (r .table) i) u) out n e }
+
 -- ---- every call
 pub every-call : EveryCall ours
-unfolding allowOf denyOf dropOf doneOf failedOf
-every-call r h piece carry scratch reply id code =
+unfolding allowOf denyOf dropOf doneOf failedOf unlistedOf
+every-call r h piece carry scratch reply id code u out =
     let t = r .table in
     let leaves : (d : Decision) → Leaves t (decidedOf t d id) = λ d. decided-leaves t d id in
     let sized : (d : Decision) → SizedStep (decidedOf t d id) = λ d. decided-sized t h d id in
@@ -158,4 +196,6 @@ every-call r h piece carry scratch reply id code =
       dones = call-promise r (settleDone t) reply (done-leaves t) (done-sized t h);
       fails = call-promise r (settleFailed t code) reply (failed-leaves t code) (failed-sized t h code);
       drops = λ e. rw (leaves Decision.Drop e .0);
+      unlists = call-promise r (settleUnlisted t) reply (unlisted-leaves t) (unlisted-sized t h);
+      supplies = supply-promise r u out;
     }

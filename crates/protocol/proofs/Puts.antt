@@ -2,7 +2,7 @@
 -- done by a store that puts no done one.
 use Prim.Native.Nat.{ℕ, _<_}
 use mathlib.Core.Path.{_≡_, refl, sym, _∙_}
-use mathlib.Core.Bool.{Bool, true, cond}
+use mathlib.Core.Bool.{Bool, true, false, cond}
 use mathlib.Core.Logic.{_⊎_, inl, inr}
 use mathlib.Core.List.{List, _∷_}
 use native.Mathlib.Omega.{arith}
@@ -26,9 +26,10 @@ use Rattle.protocol.specs.declared.Owed.the-variants as Owed
 use Rattle.protocol.specs.declared.Table.{Table}
 use Rattle.protocol.specs.declared.Stepped.{Stepped}
 use Rattle.protocol.proofs.Done.{stateAt, WasDone, NoneDone, none-le}
-use Rattle.protocol.proofs.Laws.{isPast, set-each, set-any, replicate-each}
+use Rattle.protocol.proofs.Laws.{no-way, isPast, set-each, set-any, replicate-each}
 use Rattle.protocol.proofs.Backs.{table}
-use Rattle.protocol.proofs.Invariant.{keyOf, fileKey, RecordOK, NoneStands, Holds, OpenOK, SessionOK, Asking, AskedLast, TableOK}
+use Rattle.protocol.proofs.Invariant.{keyOf, fileKey, RecordOK, NoneStands, Holds, OpenOK, isSupplied, SessionOK, Asking, AskedLast}
+use Rattle.protocol.proofs.Invariant.{Served, TableOK}
 
 -- the marks after a console call's step, which is refused or adds the mark x
 abbrev pub notedMarks : List Mark → Mark → Stepped → List Mark
@@ -47,16 +48,23 @@ pub put-ok : (t : Table) {m : List Mark} (i : ℕ) (s : Session) (o : Owed) → 
     → SessionOK (isOwed o) m s
     → AskedLast (set (t .sessions) i s) (lastAsk m) o
     → AllStand m
+    → Served m
     → TableOK (table (set (t .sessions) i s) o) m
-put-ok t {m} i s o h there here owed told =
+put-ok t {m} i s o h there here owed told served =
     record {
       each = set-each (λ (x : Session). SessionOK (isOwed o) m x) noSession (t .sessions) i s h here there;
       owed = owed;
       told = told;
+      served = served;
     }
 
+-- of a session that is not open
+pub shut-ok : {b : Bool} {m : List Mark} {s : Session} → (s .state ≡ SessionState.Open → ⊥) → isSupplied (s .state) ≡ false
+    → SessionOK b m s
+shut-ok o n = record { sends = λ e. absurd (o e); serves = λ e. no-way (sym e ∙ n) }
+
 pub absent-ok : {b : Bool} {m : List Mark} → SessionOK b m absentSession
-absent-ok e = absurd (absent-open e)
+absent-ok = shut-ok absent-open refl
 
 pub free-files : (j : ℕ) → fileAt absentSession j .state ≡ FileState.Free
 free-files j = replicate-each (λ (f : FileRecord). f .state ≡ FileState.Free) refl refl fileRoom j

@@ -1,7 +1,7 @@
 -- How a claim is refuted of a machine: a list of calls from a fresh receiver, and a test that computes to false at its end.
 use Prim.Native.Nat.{ℕ, zero, suc, _≤_}
 use mathlib.Core.Path.{_≡_, refl, sym, ap, _∙_}
-use mathlib.Core.Bool.{Bool, true, false, not, _&&_, _||_}
+use mathlib.Core.Bool.{Bool, true, false, not, cond, _&&_, _||_}
 use mathlib.Core.Logic.{_⊎_, inl, inr}
 use mathlib.Core.Option.{Option}
 use mathlib.Core.List.{List, [], _∷_, _++_}
@@ -18,11 +18,14 @@ use Rattle.decimal.specs.declared.Number.{Number}
 use Rattle.frames.specs.Stream.{textLimit}
 use Rattle.command.specs.Meaning.{Meaning, meaningOf, sizeOf}
 use Rattle.command.specs.Read.{scratchRoom}
+use Rattle.command.specs.Framed.{frameRoom}
 use Rattle.protocol.specs.Table.{noFile, noSession, sessionAt, isDone}
 use Rattle.protocol.specs.Replies.{replyRoom}
-use Rattle.protocol.specs.History.{Command, Heard, Mark, marksOf, Question, lastAsk}
+use Rattle.protocol.specs.Supplies.{Supply}
+use Rattle.protocol.specs.History.{Command, Heard, Mark, Part, marksOf, Question, lastAsk}
 use Rattle.protocol.specs.Stretches.{Key, isFor, isFile, isDirectory, declaredIn, Stretch, since, parts, contents, startStands}
 use Rattle.protocol.specs.Stretches.{AllStand}
+use Rattle.protocol.specs.Supplied.{writtenParts, suppliedParts}
 use Rattle.protocol.specs.Machine.{Machine, Call, World, isRefused, Lent, step, start}
 use Rattle.protocol.specs.Claim.{doneAs, keyIn, LastPartAsked, DirectoryAsked, ClosingReply, ClosedWhole, TurnedDone}
 use Rattle.protocol.specs.Claim.{Right, Everywhere, EveryHistory}
@@ -50,12 +53,16 @@ scratch₀ = replicate scratchRoom 0
 unfoldable pub reply₀ : List ℕ
 reply₀ = replicate replyRoom 0
 
+unfoldable pub out₀ : List ℕ
+out₀ = replicate frameRoom 0
+
 pub data Deed : Type 0 where
   feed : List ℕ → Deed
   allow : List ℕ → Deed
   done : Deed
   dropped : List ℕ → Deed
   failed : Deed
+  supply : Supply → Deed
 
 abbrev pub callOf : World → Deed → Call
 callOf w (Deed.feed piece) = Call.feed piece (w .carry) scratch₀ reply₀
@@ -63,6 +70,7 @@ callOf w (Deed.allow id) = Call.allow id reply₀
 callOf w Deed.done = Call.done reply₀
 callOf w (Deed.dropped id) = Call.drop id
 callOf w Deed.failed = Call.failed Failure.Eio reply₀
+callOf w (Deed.supply u) = Call.supply u out₀
 
 lent : (m : Machine) (w : World) (c : Deed) → Lent m w (callOf w c)
 lent m w (Deed.feed piece) = λ _. refl
@@ -70,6 +78,7 @@ lent m w (Deed.allow id) = tt
 lent m w Deed.done = tt
 lent m w (Deed.dropped id) = tt
 lent m w Deed.failed = tt
+lent m w (Deed.supply u) = tt
 
 module _ (m : Machine) where
   abbrev pub calls : World → List Deed → List Call
@@ -99,12 +108,44 @@ module _ (m : Machine) where
   pub sound-at-last : (cs : List Deed) → EverySound m → Sound (afterAll cs .receiver .table)
   sound-at-last cs claim = sound-after m (start carry₀) (calls (start carry₀) cs) (claim carry₀ (calls (start carry₀) cs))
 
--- ---- a part is handed over where none may be, at the feed of a piece
-abbrev pub HandsBadly : Machine → List Deed → List ℕ → Type 0
-HandsBadly m cs piece = AllStand (marksOf (step m (afterAll m cs) (callOf (afterAll m cs) (Deed.feed piece)) .history)) → ⊥
+-- the marks after one call more
+abbrev pub marksWith : Machine → List Deed → Deed → List Mark
+marksWith m cs d = marksOf (step m (afterAll m cs) (callOf (afterAll m cs) d) .history)
 
-pub hands-badly : (m : Machine) (cs : List Deed) (piece : List ℕ) → HandsBadly m cs piece → EveryHistory m → ⊥
-hands-badly m cs piece h claim = h (right-at m cs (Deed.feed piece) claim .partsStand)
+-- ---- a part is handed over where none may be, or something is asked for or written
+abbrev pub HandsBadly : Machine → List Deed → Deed → Type 0
+HandsBadly m cs d = AllStand (marksWith m cs d) → ⊥
+
+pub hands-badly : (m : Machine) (cs : List Deed) (d : Deed) → HandsBadly m cs d → EveryHistory m → ⊥
+hands-badly m cs d h claim = h (right-at m cs d claim .partsStand)
+
+abbrev pub key : Key
+key = record { id = ascii "m"; file = ascii "a" }
+
+-- ---- what is written is not what was supplied
+abbrev sameParts : List Part → List Part → Bool
+sameParts [] [] = true
+sameParts [] (q ∷ qs) = false
+sameParts (p ∷ ps) [] = false
+sameParts (p ∷ ps) (q ∷ qs) =
+    (cond (p .last) (q .last) (not (q .last)) && equals (p .bytes) (q .bytes)) && sameParts ps qs
+
+same-parts : (ps : List Part) → sameParts ps ps ≡ true
+same-parts [] = refl
+same-parts (p ∷ ps) = rw (same-last (p .last), equals-same (p .bytes) (p .bytes) refl) (same-parts ps)
+  where
+    same-last : (b : Bool) → cond b b (not b) ≡ true
+    same-last true = refl
+    same-last false = refl
+
+abbrev pub SuppliesBadly : Machine → List Deed → Deed → Type 0
+SuppliesBadly m cs d = let x = marksWith m cs d in sameParts (writtenParts key x) (suppliedParts key x) ≡ false
+
+pub supplies-badly : (m : Machine) (cs : List Deed) (d : Deed) → SuppliesBadly m cs d → EveryHistory m → ⊥
+supplies-badly m cs d h claim =
+    let x = marksWith m cs d in
+    let e : writtenParts key x ≡ suppliedParts key x = right-at m cs d claim .supplies key in
+    no-way (sym (same-parts (suppliedParts key x)) ∙ (rw e at h))
 
 -- ---- no record of a table is done
 abbrev undone : FileRecord → Bool
@@ -126,9 +167,6 @@ none-done t t′ e i j q =
     no-way (sym (every-at undone noFile refl (sessionAt t′ i .files) here j) ∙ ap (λ (g : FileState). not (isDone g)) q)
 
 -- ---- a file closes that is not whole: the claim's words as tests
-abbrev pub key : Key
-key = record { id = ascii "m"; file = ascii "a" }
-
 -- the open of a directory
 abbrev opensDirectory : Key → Question → Bool
 opensDirectory k Question.none = false
@@ -136,6 +174,7 @@ opensDirectory k (Question.asks d Heard.opens) = isFile d && (isDirectory d && i
 opensDirectory k (Question.asks d (Heard.writes p)) = false
 opensDirectory k (Question.asks d (Heard.writesLast p)) = false
 opensDirectory k (Question.asks d Heard.commits) = false
+opensDirectory k (Question.asks d Heard.requests) = false
 
 abbrev isDirectoryDone : Key → List Mark → Bool
 isDirectoryDone k m = not (startStands k (since k m)) && opensDirectory k (lastAsk m)
@@ -150,6 +189,7 @@ asksLast k (Question.asks d Heard.opens) = false
 asksLast k (Question.asks d (Heard.writes p)) = false
 asksLast k (Question.asks d (Heard.writesLast p)) = isFor k d
 asksLast k (Question.asks d Heard.commits) = false
+asksLast k (Question.asks d Heard.requests) = false
 
 last-asked : (k : Key) (q : Question) → LastPartAsked k q → asksLast k q ≡ true
 last-asked k q l = rw (l .asked) (l .forIt)
@@ -227,6 +267,8 @@ module _ (m : Machine) (cs : List Deed) where
   replyIn (Call.drop id) = []
   replyIn (Call.done reply) = reply
   replyIn (Call.failed code reply) = []
+  replyIn (Call.unlisted reply) = []
+  replyIn (Call.supply u out) = []
 
   turns-right : (n : ℕ) → DirectoryAsked key (marksOf (w .history)) ⊎ ClosedWhole m w reply₀ key n 0 → turnsRight n ≡ true
   turns-right n (inl d) = rw (directory-done key (marksOf (w .history)) d)

@@ -17,9 +17,9 @@ use Rattle.command.specs.declared.Command.{Command}
 use Rattle.command.proofs.SimulationHeld.{read-held}
 use Rattle.protocol.specs.Table.{sessionAt}
 use Rattle.protocol.specs.Replies.{replyRoom}
-use Rattle.protocol.specs.Sessions.{settleDone, settleFailed, decidedOf}
+use Rattle.protocol.specs.Sessions.{settleDone, settleFailed, settleUnlisted, decidedOf}
 use Rattle.protocol.specs.Calls.{isOwed, Feeding, readAct, reportAct, scannedFeed, isShort, feedOf}
-use Rattle.protocol.specs.Calls.{guarded, allowOf, denyOf, dropOf, doneOf, failedOf}
+use Rattle.protocol.specs.Calls.{guarded, allowOf, denyOf, dropOf, doneOf, failedOf, unlistedOf}
 use Rattle.protocol.specs.Machine.{Machine, ours, Call, World, step, start}
 use Rattle.protocol.specs.Sound.{Sound, AllSound, EverySound}
 use Rattle.protocol.specs.Cuts.{after}
@@ -35,7 +35,7 @@ use Rattle.protocol.proofs.Backs.{not-owed}
 use Rattle.protocol.proofs.Means.{Means, Read, command, refused, text-read}
 use Rattle.protocol.proofs.Counts.{right-counts}
 use Rattle.protocol.proofs.SoundTable.{empty-sound, ReadWell}
-use Rattle.protocol.proofs.SoundTable.{obey-sound, done-sound, failed-sound, decided-sound}
+use Rattle.protocol.proofs.SoundTable.{obey-sound, done-sound, failed-sound, unlisted-sound, decided-sound, supply-sound}
 
 -- ---- feed
 pub means-well : {c : Command} {text scratch : List ℕ} {d : List Value} → Means c text scratch d → ReadWell c text
@@ -99,7 +99,7 @@ guarded-sound r s reply ok after =
 
 -- ---- every call, and every list of them
 pub step-sound : (w : World) (c : Call) → Sound (w .receiver .table) → Sound (step ours w c .receiver .table)
-unfolding allowOf denyOf dropOf doneOf failedOf
+unfolding allowOf denyOf dropOf doneOf failedOf unlistedOf
 step-sound w (Call.feed piece carry scratch reply) ok = feed-sound (w .receiver) piece carry scratch reply ok
 step-sound w (Call.allow id reply) ok =
     let t = w .receiver .table in
@@ -112,6 +112,9 @@ step-sound w (Call.done reply) ok =
     let t = w .receiver .table in guarded-sound (w .receiver) (settleDone t) reply ok (done-sound t ok)
 step-sound w (Call.failed code reply) ok =
     let t = w .receiver .table in guarded-sound (w .receiver) (settleFailed t code) reply ok (failed-sound t code ok)
+step-sound w (Call.unlisted reply) ok =
+    let t = w .receiver .table in guarded-sound (w .receiver) (settleUnlisted t) reply ok (unlisted-sound t ok)
+step-sound w (Call.supply u out) ok = supply-sound (w .receiver) u out ok
 
 all-sound : (w : World) → Sound (w .receiver .table) → (calls : List Call) → AllSound ours w calls
 all-sound w ok [] = ok

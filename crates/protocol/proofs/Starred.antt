@@ -27,6 +27,7 @@ use Rattle.protocol.specs.Table.{first, adjusted}
 use Rattle.protocol.specs.Actions.{resultIn, kindOf}
 use Rattle.protocol.specs.Replies.{statusText, replyBytes, repliedOf}
 use Rattle.protocol.specs.Files.{fileChecked, fileOf, partAsked, dataOf, finishOf}
+use Rattle.protocol.specs.Receives.{pathChecked, pathOf}
 use Rattle.protocol.specs.Rule.{obeyedBy, doneBy, decidedBy}
 use Rattle.protocol.specs.Sessions.{obeyOf, settleDone, decidedOf}
 use Rattle.protocol.specs.Calls.{scannedFeed, feedOf, guarded, allowOf, doneOf}
@@ -63,8 +64,8 @@ unfolding actionOf fileTypeOf transmissionOf commandOf kept readOf
 reading = tt
 
 rule : Unit {0}
-unfolding adjusted first resultIn kindOf statusText replyBytes repliedOf fileChecked fileOf partAsked dataOf finishOf obeyedBy doneBy
-    decidedBy
+unfolding adjusted first resultIn kindOf statusText replyBytes repliedOf fileChecked fileOf partAsked dataOf finishOf pathChecked pathOf
+    obeyedBy doneBy decidedBy
 rule = tt
 
 sessions : Unit {0}

@@ -18,6 +18,7 @@ use Rattle.protocol.specs.Sound.{opensAt, dueOf, EverySound}
 use Rattle.protocol.specs.Promises.{EveryCall}
 use Rattle.protocol.specs.Cuts.{allGiven, after, consoleCalls, CutsAlike}
 use Rattle.protocol.specs.Counts.{EveryCount}
+use Rattle.protocol.specs.Serving.{homed}
 use Rattle.protocol.specs.WrongMachines.{sendPiece, filePiece, declaredPiece, directoryPiece, dataPiece, longerIdPiece, endPiece}
 use Rattle.protocol.specs.WrongMachines.{oneTooSmall, lastOnly, otherSize, skipping, twice, shorterIds, dataOpens, reopening}
 use Rattle.protocol.specs.WrongMachines.{cancelPiece, undeclaring, neverClosing, unasked, deaf, withOwed, keepingOwed, stuckOpening}
@@ -114,8 +115,8 @@ record Computed : Type 0 where
   reopening-closes : ClosesBadly reopening (started ++ (feed directoryPiece ∷ []))
   undeclaring-closes : ClosesBadly undeclaring (startedDeclared ++ (feed dataPiece ∷ done ∷ feed endPiece ∷ []))
   neverClosing-stays : StaysOpen neverClosing ended (lastCommand neverClosing ended) (ascii "A")
-  unasked-hands : HandsBadly unasked unallowed dataPiece
-  deaf-hands : HandsBadly deaf canceled dataPiece
+  unasked-hands : HandsBadly unasked unallowed (feed dataPiece)
+  deaf-hands : HandsBadly deaf canceled (feed dataPiece)
   keepingOwed-owes : tableAfter keepingOwed dropping .owed ≡ Owed.For 0 (Due.OpenFile 0)
   keepingOwed-drops : sessionAt (tableAfter keepingOwed dropping) 0 .state ≡ SessionState.Absent
   stuckOpening-owes : dueOf (tableAfter stuckOpening failing .owed) 0 ≡ Option.none
@@ -216,19 +217,19 @@ cut-closer-lost alike =
 
 refused-consumes : EveryCall hungry → ⊥
 refused-consumes every =
-    let kept = every owing empty-sized (65 ∷ []) carry₀ scratch₀ reply₀ [] Failure.Eio .feeds .unfed (computed .hungry-told) in
+    let kept = every owing empty-sized (65 ∷ []) carry₀ scratch₀ reply₀ [] Failure.Eio homed [] .feeds .unfed (computed .hungry-told) in
     let z : _≡_ {A = ℕ} 1 0 = sym (computed .hungry-consumes) ∙ kept .1 in
     omega arith
 
 refused-replies : EveryCall talking → ⊥
 refused-replies every =
-    let kept = every owing empty-sized (65 ∷ []) carry₀ scratch₀ reply₀ [] Failure.Eio .feeds .unfed (computed .talking-told) in
+    let kept = every owing empty-sized (65 ∷ []) carry₀ scratch₀ reply₀ [] Failure.Eio homed [] .feeds .unfed (computed .talking-told) in
     let z : _≡_ {A = ℕ} 1 0 = sym (computed .talking-replies) ∙ kept .2 in
     omega arith
 
 feed-stalls : EveryCall stalling → ⊥
 feed-stalls every =
-    let feeds = every freshReceiver empty-sized (65 ∷ []) carry₀ scratch₀ reply₀ [] Failure.Eio .feeds in
+    let feeds = every freshReceiver empty-sized (65 ∷ []) carry₀ scratch₀ reply₀ [] Failure.Eio homed [] .feeds in
     let z : 1 ≤ 0 = feeds .progress (computed .stalling-told) (omega arith) in
     omega arith
 
@@ -245,8 +246,8 @@ teeth =
       directoryOverAStartedFile = closes-badly _ _ (computed .reopening-closes);
       closedShort = closes-badly _ _ (computed .undeclaring-closes);
       neverClosed = stays-open _ _ (computed .neverClosing-stays);
-      neverAllowed = hands-badly unasked unallowed dataPiece (computed .unasked-hands);
-      afterACancel = hands-badly deaf canceled dataPiece (computed .deaf-hands);
+      neverAllowed = hands-badly unasked unallowed (feed dataPiece) (computed .unasked-hands);
+      afterACancel = hands-badly deaf canceled (feed dataPiece) (computed .deaf-hands);
       droppedOwes = dropped-owes;
       openingForGood = opening-for-good;
       droppedCounts = dropped-counts;

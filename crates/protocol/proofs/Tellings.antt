@@ -6,9 +6,9 @@ use mathlib.Core.Option.{Option}
 use mathlib.Core.List.{List}
 use Rattle.command.specs.Slots.{nowhere}
 use Rattle.command.specs.declared.Place.{Place}
-use Rattle.protocol.specs.Replies.{failureStatus}
 use Rattle.protocol.specs.Change.{askOf, toldBy}
-use Rattle.protocol.specs.Rule.{doneBy, fileDue, failedAt, failedBy}
+use Rattle.protocol.specs.Receives.{outOfTurn}
+use Rattle.protocol.specs.Rule.{doneBy, failedBy, unlistedBy}
 use Rattle.protocol.specs.Sessions.{stringIn}
 use Rattle.protocol.specs.History.{hearing}
 use Rattle.protocol.specs.Machine.{isUnfed, isRefused}
@@ -19,8 +19,7 @@ use Rattle.protocol.specs.declared.Session.{Session}
 use Rattle.protocol.specs.declared.Failure.{Failure}
 use Rattle.protocol.specs.declared.Told.{Told}
 use Rattle.protocol.specs.declared.Told.the-variants as Told
-use Rattle.protocol.specs.declared.Found.{Found}
-use Rattle.protocol.specs.declared.Found.the-variants as Found
+use Rattle.protocol.specs.declared.Change.{Change}
 use Rattle.protocol.proofs.Laws.{no-way}
 
 -- neither an ask nor a refusal
@@ -29,6 +28,9 @@ isPlain Told.Nothing = true
 isPlain (Told.Refused n) = false
 isPlain Told.Ignored = true
 isPlain Told.Asked = true
+isPlain Told.Naming = true
+isPlain Told.Path = true
+isPlain Told.LastPath = true
 isPlain (Told.Ask a) = false
 isPlain (Told.Status w) = true
 isPlain Told.Withdrawn = true
@@ -46,6 +48,9 @@ plain Told.Nothing e = record { silent = λ _. refl; taken = refl; same = λ _ _
 plain (Told.Refused n) e = no-way (sym e)
 plain Told.Ignored e = record { silent = λ _. refl; taken = refl; same = λ _ _. refl }
 plain Told.Asked e = record { silent = λ _. refl; taken = refl; same = λ _ _. refl }
+plain Told.Naming e = record { silent = λ _. refl; taken = refl; same = λ _ _. refl }
+plain Told.Path e = record { silent = λ _. refl; taken = refl; same = λ _ _. refl }
+plain Told.LastPath e = record { silent = λ _. refl; taken = refl; same = λ _ _. refl }
 plain (Told.Ask a) e = no-way (sym e)
 plain (Told.Status w) e = record { silent = λ _. refl; taken = refl; same = λ _ _. refl }
 plain Told.Withdrawn e = record { silent = λ _. refl; taken = refl; same = λ _ _. refl }
@@ -70,20 +75,36 @@ tells-same scratch scratch′ e (asks (Due.OpenDirectory j)) = refl
 tells-same scratch scratch′ e (asks (Due.Write j n)) = rw e
 tells-same scratch scratch′ e (asks (Due.WriteLast j n)) = rw e
 tells-same scratch scratch′ e (asks Due.Commit) = refl
+tells-same scratch scratch′ e (asks Due.Request) = refl
 
--- an answer to what is due is never refused
-pub done-told : (s : Session) (d : Due) → isRefused (toldBy nowhere (doneBy s d .news)) ≡ false
+-- an answer to what is due is refused for a request alone, and then nothing else is told
+pub data AnswerTold (c : Change) : Type 0 where
+  taken : isRefused (toldBy nowhere (c .news)) ≡ false → AnswerTold c
+  refused : c ≡ outOfTurn → AnswerTold c
+
+pub done-told : (s : Session) (d : Due) → AnswerTold (doneBy s d)
 unfolding doneBy
-done-told s (Due.OpenFile j) = refl
-done-told s (Due.OpenDirectory j) = refl
-done-told s (Due.Write j n) = refl
-done-told s (Due.WriteLast j n) = refl
-done-told s Due.Commit = refl
+done-told s (Due.OpenFile j) = taken refl
+done-told s (Due.OpenDirectory j) = taken refl
+done-told s (Due.Write j n) = taken refl
+done-told s (Due.WriteLast j n) = taken refl
+done-told s Due.Commit = taken refl
+done-told s Due.Request = refused refl
 
-pub failed-told : (e : Failure) (s : Session) (d : Due) → isRefused (toldBy nowhere (failedBy e s d .news)) ≡ false
+pub failed-told : (e : Failure) (s : Session) (d : Due) → AnswerTold (failedBy e s d)
 unfolding failedBy
-failed-told e s d = go (fileDue d)
-  where
-    go : (f : Found) → isRefused (toldBy nowhere (failedAt (failureStatus e) s f .news)) ≡ false
-    go (Found.At j) = refl
-    go Found.Nowhere = refl
+failed-told e s (Due.OpenFile j) = taken refl
+failed-told e s (Due.OpenDirectory j) = taken refl
+failed-told e s (Due.Write j n) = taken refl
+failed-told e s (Due.WriteLast j n) = taken refl
+failed-told e s Due.Commit = taken refl
+failed-told e s Due.Request = taken refl
+
+pub unlisted-told : (s : Session) (d : Due) → AnswerTold (unlistedBy s d)
+unfolding unlistedBy
+unlisted-told s (Due.OpenFile j) = refused refl
+unlisted-told s (Due.OpenDirectory j) = refused refl
+unlisted-told s (Due.Write j n) = refused refl
+unlisted-told s (Due.WriteLast j n) = refused refl
+unlisted-told s Due.Commit = refused refl
+unlisted-told s Due.Request = taken refl

@@ -1,6 +1,6 @@
 -- The invariant of a world: what a fresh receiver has, and a console call keeps.
 use Prim.Native.Nat.{ℕ}
-use mathlib.Core.Path.{_≡_}
+use mathlib.Core.Path.{_≡_, refl}
 use mathlib.Core.Bool.{Bool, true, false, cond}
 use mathlib.Core.List.{List, [], _∷_}
 use lib.ListN.{length}
@@ -38,7 +38,12 @@ start-ok carry =
       follows = fresh-follows carry;
       sound = empty-sound;
       table =
-          record { each = replicate-each (λ (s : Session). SessionOK false [] s) absent-ok absent-ok sessionRoom; owed = tt; told = tt };
+          record {
+            each = replicate-each (λ (s : Session). SessionOK false [] s) absent-ok absent-ok sessionRoom;
+            owed = tt;
+            told = tt;
+            served = λ k. refl;
+          };
     }
 
 -- a property of the table that a refusal with 9 has, and the step

@@ -16,7 +16,7 @@ use Rattle.command.specs.Read.{Answer, scratchRoom, readOf}
 use Rattle.command.specs.declared.Command.{Command}
 use Rattle.protocol.specs.Replies.{replyRoom, repliedOf}
 use Rattle.protocol.specs.Change.{telling}
-use Rattle.protocol.specs.Sessions.{obeyOf, settleDone, settleFailed, decidedOf}
+use Rattle.protocol.specs.Sessions.{obeyOf, settleDone, settleFailed, settleUnlisted, decidedOf}
 use Rattle.protocol.specs.declared.Owed.{Owed}
 use Rattle.protocol.specs.declared.Owed.the-variants as Owed
 use Rattle.protocol.specs.declared.Table.{Table}
@@ -139,3 +139,6 @@ doneOf r reply = guarded r (settleDone (r .table)) reply
 
 unfoldable pub failedOf : Receiver → Failure → List ℕ → Outcome Answered
 failedOf r e reply = guarded r (settleFailed (r .table) e) reply
+
+unfoldable pub unlistedOf : Receiver → List ℕ → Outcome Answered
+unlistedOf r reply = guarded r (settleUnlisted (r .table)) reply

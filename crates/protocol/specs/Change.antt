@@ -4,10 +4,10 @@ use Prim.Native.Nat.{ℕ}
 use lib.ListN.{set}
 use lib.Dec.{eqb}
 use Rattle.command.specs.declared.Place.{Place}
-use Rattle.protocol.specs.Table.{absentSession, noFile, sessionAt, withState, putFile}
+use Rattle.protocol.specs.Table.{absentSession, noFile, sessionAt, withState, waiting, putFile}
 use Rattle.protocol.specs.Replies.{noReply}
 use Rattle.protocol.specs.declared.FileRecord.{FileRecord}
-use Rattle.protocol.specs.declared.SessionState.the-variants as SessionState
+use Rattle.protocol.specs.declared.SessionState.{SessionState}
 use Rattle.protocol.specs.declared.Session.{Session}
 use Rattle.protocol.specs.declared.Due.{Due}
 use Rattle.protocol.specs.declared.Due.the-variants as Due
@@ -39,7 +39,7 @@ tells w r = change Edit.Same noFile (News.Tells w) r
 abbrev pub asks : Due → Change
 asks d = change Edit.Same noFile (News.Asks d) noReply
 
--- a new file record at a place, and its open is asked
+-- a new file record at a place, and its open is asked, or its contents
 abbrev pub opens : ℕ → FileRecord → Due → Change
 opens j f d = change (Edit.Filed j) f (News.Asks d) noReply
 
@@ -51,11 +51,20 @@ files j f w r = change (Edit.Filed j) f (News.Clears (Told.Status w)) r
 abbrev pub drops : Told → Reply → Change
 drops w r = change Edit.Dropped noFile (News.Clears w) r
 
+-- in another state, told by nothing but the reply
+abbrev pub turns : SessionState → Reply → Change
+turns g r = change (Edit.Turned g) noFile (News.Tells Told.Nothing) r
+
+-- what the session owed is settled, and the status is all that happens
+abbrev pub settles : Status → Reply → Change
+settles w r = change Edit.Same noFile (News.Clears (Told.Status w)) r
+
 -- ---- the session afterwards
 abbrev pub edited : Session → FileRecord → Edit → Session
 edited s f Edit.Same = s
-edited s f Edit.Opened = withState s SessionState.Open
+edited s f (Edit.Turned g) = withState s g
 edited s f (Edit.Filed j) = putFile s j f
+edited s f Edit.Waits = waiting s
 edited s f Edit.Dropped = absentSession
 
 -- ---- what is owed afterwards, the session's place being i
@@ -76,6 +85,7 @@ askOf p (Due.OpenDirectory j) = Ask.Open
 askOf p (Due.Write j n) = Ask.Write p
 askOf p (Due.WriteLast j n) = Ask.WriteLast p
 askOf p Due.Commit = Ask.Commit
+askOf p Due.Request = Ask.Request
 
 abbrev pub toldBy : Place → News → Told
 toldBy p (News.Tells w) = w

@@ -17,6 +17,7 @@ use Rattle.protocol.specs.Table as Table
 use Rattle.protocol.specs.History.{Command, Heard, Mark, marksOf, Question, lastAsk}
 use Rattle.protocol.specs.Stretches.{Key, isFor, isFile, isDirectory, declaredIn, Stretch, since, parts, contents, startStands}
 use Rattle.protocol.specs.Stretches.{AllStand}
+use Rattle.protocol.specs.Supplied.{writtenParts, suppliedParts}
 use Rattle.protocol.specs.Machine.{Machine, Call, World, isRefused, step, Lent, start}
 use Rattle.protocol.specs.declared.FileRecord.{FileRecord}
 use Rattle.protocol.specs.declared.Session.{Session}
@@ -110,6 +111,9 @@ pub record Right (m : Machine) (w : World) (c : Call) : Type 0 where
       → Closed (w .receiver .table) (step m w c .receiver .table) d
   -- "No part is handed over outside a session that the user allowed and that still stands"
   pub partsStand : AllStand (marksOf (step m w c .history))
+  -- "the joined parts written for a file since its request are exactly those the console supplied for it, in order, without those refused":
+  -- part by part, and the last one as end_data
+  pub supplies : (k : Key) → writtenParts k (marksOf (step m w c .history)) ≡ suppliedParts k (marksOf (step m w c .history))
 
 -- at every place of a list of calls
 abbrev pub Everywhere : Machine → World → List Call → Type 0

@@ -10,8 +10,10 @@ use Rattle.frames.specs.Calls.{textOf}
 use Rattle.frames.specs.declared.Report.{Report}
 use Rattle.frames.specs.declared.Report.the-variants as Report
 use Rattle.command.specs.Slots.{valuesOf}
+use Rattle.command.specs.Framed.{frameRoom}
 use Rattle.protocol.specs.Replies.{replyRoom}
 use Rattle.protocol.specs.Calls.{Feeding}
+use Rattle.protocol.specs.Supplies.{Supply}
 use Rattle.protocol.specs.History.{Command, Heard, heardAsk, bytesOf}
 use Rattle.protocol.specs.Machine.{Machine, Call, World, Lent, step, start}
 use Rattle.protocol.specs.declared.Status.{Status}
@@ -27,6 +29,9 @@ pub data Saying : Type 0 where
   refused : ℕ → Saying
   ignored : Saying
   asked : Saying
+  naming : Saying
+  path : Saying
+  lastPath : Saying
   asks : Heard → Saying
   status : Status → Saying
   withdrawn : Saying
@@ -39,6 +44,9 @@ saying Told.Nothing scratch = Saying.nothing
 saying (Told.Refused n) scratch = Saying.refused n
 saying Told.Ignored scratch = Saying.ignored
 saying Told.Asked scratch = Saying.asked
+saying Told.Naming scratch = Saying.naming
+saying Told.Path scratch = Saying.path
+saying Told.LastPath scratch = Saying.lastPath
 saying (Told.Ask a) scratch = Saying.asks (heardAsk a scratch)
 saying (Told.Status w) scratch = Saying.status w
 saying Told.Withdrawn scratch = Saying.withdrawn
@@ -53,6 +61,8 @@ pub data Move : Type 0 where
   drop : (id : List ℕ) → Move
   done : Move
   failed : (code : Failure) → Move
+  unlisted : Move
+  supply : Supply → Move
 
 abbrev pub isReportMove : Move → Bool
 isReportMove Move.report = true
@@ -61,6 +71,8 @@ isReportMove (Move.deny id) = false
 isReportMove (Move.drop id) = false
 isReportMove Move.done = false
 isReportMove (Move.failed code) = false
+isReportMove Move.unlisted = false
+isReportMove (Move.supply u) = false
 
 -- what it gives: the reported text and the values of the command read, what is told, and the reply
 pub record Output : Type 0 where
@@ -93,18 +105,20 @@ reportOf piece f =
     let reply = take (f .fed .«reply_len») (f .reply) in
     cond (isReport (f .fed .report)) (reporting text command (saying (f .fed .told) (f .scratch)) reply ∷ []) []
 
--- of a console call that was lent that buffer: its answer; none of one refused with 9
-abbrev pub answerOf : Move → List ℕ → Outcome Answered → List Output
-answerOf m lent a =
-    cond (ltb (length lent) replyRoom) [] (answering m (a .answer .told) (take (a .answer .«reply_len») (a .buffer)) ∷ [])
+-- of a console call that was lent that buffer: its answer, and what it wrote; none where the buffer has not the room
+abbrev pub answerOf : ℕ → Move → List ℕ → Outcome Answered → List Output
+answerOf room m lent a =
+    cond (ltb (length lent) room) [] (answering m (a .answer .told) (take (a .answer .«reply_len») (a .buffer)) ∷ [])
 
 abbrev pub given : Machine → World → Call → List Output
 given m w (Call.feed piece carry scratch reply) = reportOf piece (m .feeds (w .receiver) piece carry scratch reply)
-given m w (Call.allow id reply) = answerOf (Move.allow id) reply (m .allows (w .receiver) id reply)
-given m w (Call.deny id reply) = answerOf (Move.deny id) reply (m .denies (w .receiver) id reply)
+given m w (Call.allow id reply) = answerOf replyRoom (Move.allow id) reply (m .allows (w .receiver) id reply)
+given m w (Call.deny id reply) = answerOf replyRoom (Move.deny id) reply (m .denies (w .receiver) id reply)
 given m w (Call.drop id) = answering (Move.drop id) (m .drops (w .receiver) id .told) [] ∷ []
-given m w (Call.done reply) = answerOf Move.done reply (m .dones (w .receiver) reply)
-given m w (Call.failed code reply) = answerOf (Move.failed code) reply (m .fails (w .receiver) code reply)
+given m w (Call.done reply) = answerOf replyRoom Move.done reply (m .dones (w .receiver) reply)
+given m w (Call.failed code reply) = answerOf replyRoom (Move.failed code) reply (m .fails (w .receiver) code reply)
+given m w (Call.unlisted reply) = answerOf replyRoom Move.unlisted reply (m .unlists (w .receiver) reply)
+given m w (Call.supply u out) = answerOf frameRoom (Move.supply u) out (m .supplies (w .receiver) u out)
 
 -- ---- a list of calls
 abbrev pub allGiven : Machine → World → List Call → List Output

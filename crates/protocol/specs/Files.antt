@@ -122,16 +122,17 @@ fileChecked s q =
     (cond (validName (q .name)) (fileRecorded s q (first isFree (s .files)))
     (fileStatus s (q .file) Status.Einval))))
 
--- "fid known EEXIST"
-abbrev pub fileKnown : Session → Request → Found → Change
-fileKnown s q Found.Nowhere = fileChecked s q
-fileKnown s q (Found.At j) = fileStatus s (q .file) Status.Eexist
+-- "fid known EEXIST"; x is what becomes of a file whose id is new
+abbrev pub unlessKnown : Session → (file : List ℕ) → Change → Found → Change
+unlessKnown s file x Found.Nowhere = x
+unlessKnown s file x (Found.At j) = fileStatus s file Status.Eexist
 
--- "empty fid EINVAL"
+-- "empty fid EINVAL", before that
+abbrev pub ifNew : Session → (file : List ℕ) → Change → Change
+ifNew s file x = cond (eqb (length file) 0) (fileStatus s file Status.Einval) (unlessKnown s file x (findFile s file))
+
 unfoldable pub fileOf : Session → Request → Change
-fileOf s q =
-    cond (eqb (length (q .file)) 0) (fileStatus s (q .file) Status.Einval)
-    (fileKnown s q (findFile s (q .file)))
+fileOf s q = ifNew s (q .file) (fileChecked s q)
 
 -- ---- data, end_data
 -- the record j moves to a state with a count, and a status with that `sz` is replied

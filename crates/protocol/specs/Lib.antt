@@ -1,15 +1,19 @@
 pub mod Lengths
 pub mod Table
 pub mod Actions
+pub mod Written
 pub mod Replies
 pub mod Change
 pub mod Files
+pub mod Receives
 pub mod Rule
 pub mod Sessions
 pub mod Calls
+pub mod Supplies
 pub mod Readings
 pub mod History
 pub mod Stretches
+pub mod Supplied
 pub mod Machine
 pub mod Sound
 pub mod Promises
@@ -17,4 +21,6 @@ pub mod Claim
 pub mod Cuts
 pub mod Counts
 pub mod WrongMachines
+pub mod Serving
+pub mod WrongSupplies
 pub mod Starred

@@ -10,11 +10,13 @@ use Rattle.octets.specs.Outcome.{Outcome}
 use Rattle.command.specs.Letters.{safeByte}
 use Rattle.command.specs.Canonical.{canonical}
 use Rattle.command.specs.Meaning.{Meaning, meaningOf}
+use Rattle.command.specs.Framed.{frameRoom}
 use Rattle.protocol.specs.Table.{idRoom, sessionAt, fileAt}
 use Rattle.protocol.specs.Replies.{replyRoom, statusWord, statusText, statusValues}
 use Rattle.protocol.specs.Files.{countLimit}
 use Rattle.protocol.specs.Sound.{IsId}
 use Rattle.protocol.specs.Calls.{Feeding}
+use Rattle.protocol.specs.Supplies.{Supply}
 use Rattle.protocol.specs.Machine.{Machine, isUnfed, isRefused}
 use Rattle.protocol.specs.declared.Session.{Session}
 use Rattle.protocol.specs.declared.Table.{Table}
@@ -48,18 +50,26 @@ pub record CallPromise (r : Receiver) (reply : List ℕ) (a : Outcome Answered) 
   pub refused : isRefused (a .answer .told) ≡ true → (a .answer .receiver ≡ r) × (a .answer .«reply_len» ≡ 0) × (a .buffer ≡ reply)
   pub short : a .answer .«reply_len» ≤ replyRoom
 
+-- ---- a call that supplies something: it is refused likewise, and writes a frame at most
+pub record SupplyPromise (r : Receiver) (out : List ℕ) (a : Outcome Answered) : Type 0 where
+  pub refused : isRefused (a .answer .told) ≡ true → (a .answer .receiver ≡ r) × (a .answer .«reply_len» ≡ 0) × (a .buffer ≡ out)
+  pub short : a .answer .«reply_len» ≤ frameRoom
+
 -- ---- every call
-pub record Promises (m : Machine) (r : Receiver) (piece carry scratch reply id : List ℕ) (code : Failure) : Type 0 where
+pub record Promises (m : Machine) (r : Receiver) (piece carry scratch reply id : List ℕ) (code : Failure) (u : Supply) (out : List ℕ)
+    : Type 0 where
   pub feeds : FeedPromise r piece carry scratch reply (m .feeds r piece carry scratch reply)
   pub allows : CallPromise r reply (m .allows r id reply)
   pub denies : CallPromise r reply (m .denies r id reply)
   pub dones : CallPromise r reply (m .dones r reply)
   pub fails : CallPromise r reply (m .fails r code reply)
   pub drops : isRefused (m .drops r id .told) ≡ true → m .drops r id .receiver ≡ r
+  pub unlists : CallPromise r reply (m .unlists r reply)
+  pub supplies : SupplyPromise r out (m .supplies r u out)
 
 abbrev pub EveryCall : Machine → Type 0
-EveryCall m = (r : Receiver) → Sized (r .table) → (piece carry scratch reply id : List ℕ) (code : Failure)
-    → Promises m r piece carry scratch reply id code
+EveryCall m = (r : Receiver) → Sized (r .table) → (piece carry scratch reply id : List ℕ) (code : Failure) (u : Supply) (out : List ℕ)
+    → Promises m r piece carry scratch reply id code u out
 
 -- ---- what a reply says
 -- "canonical text with `ac=status`, the id, the fid if the reply concerns a file, `sz` as above, `st`", which reads back as these

@@ -11,6 +11,8 @@ use Rattle.base64.specs.Encode as Base64
 use Rattle.decimal.specs.Write as Decimal
 use Rattle.frames.specs.Stream.{framed}
 use Rattle.command.specs.Values.{Value, count}
+use Rattle.command.specs.declared.Action.the-variants as Action
+use Rattle.protocol.specs.Written.{valuesWith}
 use Rattle.protocol.specs.Table.{zeros}
 use Rattle.protocol.specs.declared.FileRecord.{FileRecord}
 use Rattle.protocol.specs.declared.Session.{Session}
@@ -116,11 +118,7 @@ statusText id file size word = ascii "5113;" ++ join 59 (statusFields id file si
 
 -- the same as a command's values, whose canonical text it is where the ids are safe strings of 1 to 32 and 0 to 32 bytes
 abbrev pub statusValues : List ℕ → List ℕ → ℕ → List ℕ → List Value
-statusValues id file size word =
-    Value.number (count 8) ∷ Value.number (count 0) ∷ Value.number (count 0) ∷ Value.number (count 0)
-    ∷ Value.bytes id ∷ Value.bytes file ∷ Value.bytes [] ∷ Value.number (count 0)
-    ∷ Value.number (count 0) ∷ Value.number (count 0) ∷ Value.number (count size)
-    ∷ Value.bytes [] ∷ Value.bytes word ∷ Value.bytes [] ∷ Value.bytes [] ∷ []
+statusValues id file size word = valuesWith Action.Status id file size [] word []
 
 -- the bytes of a reply: none where none is due or quiet holds it back
 unfoldable pub replyBytes : Reply → List ℕ

@@ -2,6 +2,7 @@
 use Prim.Native.Nat.{ℕ, _+_, _≤_, _<_}
 use mathlib.Core.Path.{_≡_}
 use mathlib.Core.Bool.{Bool, true, false, cond}
+use mathlib.Core.Logic.{_⊎_}
 use mathlib.Core.Option.{Option}
 use mathlib.Core.List.{List, [], _∷_}
 use lib.ListN.{length, getD}
@@ -15,6 +16,7 @@ use Rattle.protocol.specs.Machine.{Machine, Call, World, step, start}
 use Rattle.protocol.specs.declared.FileState.{FileState}
 use Rattle.protocol.specs.declared.FileState.the-variants as FileState
 use Rattle.protocol.specs.declared.FileRecord.{FileRecord}
+use Rattle.protocol.specs.declared.SessionState.{SessionState}
 use Rattle.protocol.specs.declared.SessionState.the-variants as SessionState
 use Rattle.protocol.specs.declared.Session.{Session}
 use Rattle.protocol.specs.declared.Due.{Due}
@@ -31,6 +33,12 @@ pub record IsId (k : List ℕ) : Type 0 where
   pub some : 1 ≤ length k
   pub short : length k ≤ idRoom
 
+-- of a file that is asked for it may be empty
+pub record IsFileId (g : FileState) (k : List ℕ) : Type 0 where
+  pub safe : every safeByte k ≡ true
+  pub some : (g ≡ FileState.Named → ⊥) → 1 ≤ length k
+  pub short : length k ≤ idRoom
+
 -- the used members differ in their ids
 abbrev pub Unique : {A : Type 0} → (A → Bool) → (A → List ℕ) → A → List A → Type 0
 Unique used key d l =
@@ -44,11 +52,12 @@ Held FileState.Opening n d = n ≡ 0
 Held FileState.Started n d = 1 ≤ d → n ≤ d
 Held FileState.Done n d = 1 ≤ d → n ≡ d
 Held FileState.Failed n d = 1 ≤ d → n ≤ d
+Held FileState.Named n d = n ≡ 0
 
 -- its id padded with zeros, its count at most 2^40; a free one is blank
 pub record SoundFile (f : FileRecord) : Type 0 where
   pub blank : fileUsed f ≡ false → f ≡ freeFile
-  pub named : fileUsed f ≡ true → IsId (fileIdOf f)
+  pub named : fileUsed f ≡ true → IsFileId (f .state) (fileIdOf f)
   pub filled : f .id ≡ padded (fileIdOf f)
   pub counted : f .count ≤ countLimit
   pub held : Held (f .state) (f .count) (f .declared)
@@ -77,11 +86,20 @@ Fits s (Due.OpenDirectory j) = DirectoryFits s j
 Fits s (Due.Write j n) = PartFits s FileState.Started j n
 Fits s (Due.WriteLast j n) = PartFits s FileState.Done j n
 Fits s Due.Commit = first isStarted (s .files) ≡ Found.Nowhere
+Fits s Due.Request = FileIs s 0 FileState.Named
 
--- only an open session is asked for something
+-- the state of a session for which that is due: an open one's, which for a request is serving
+abbrev pub dueIn : Due → SessionState
+dueIn (Due.OpenFile j) = SessionState.Open
+dueIn (Due.OpenDirectory j) = SessionState.Open
+dueIn (Due.Write j n) = SessionState.Open
+dueIn (Due.WriteLast j n) = SessionState.Open
+dueIn Due.Commit = SessionState.Open
+dueIn Due.Request = SessionState.Serving
+
 abbrev pub DueFits : Session → Option Due → Type 0
 DueFits s Option.none = Unit {0}
-DueFits s (Option.some d) = (s .state ≡ SessionState.Open) × Fits s d
+DueFits s (Option.some d) = (s .state ≡ dueIn d) × Fits s d
 
 -- the file whose open is due
 abbrev pub opensAt : Option Due → Option ℕ
@@ -91,6 +109,18 @@ opensAt (Option.some (Due.OpenDirectory j)) = Option.some j
 opensAt (Option.some (Due.Write j n)) = Option.none
 opensAt (Option.some (Due.WriteLast j n)) = Option.none
 opensAt (Option.some Due.Commit) = Option.none
+opensAt (Option.some Due.Request) = Option.none
+
+-- the file record at place j, by the session's state: an open send session has any, one that names paths has these, one that serves has
+-- the file asked for at its first place, and any other session has none
+abbrev pub FileFor : SessionState → ℕ → FileRecord → Type 0
+FileFor SessionState.Absent j f = f ≡ freeFile
+FileFor SessionState.Asked j f = f ≡ freeFile
+FileFor SessionState.Open j f = f .state ≡ FileState.Named → ⊥
+FileFor SessionState.Naming j f = (f ≡ freeFile) ⊎ (f .state ≡ FileState.Named)
+FileFor SessionState.Waiting j f = f ≡ freeFile
+FileFor SessionState.Listing j f = f ≡ freeFile
+FileFor SessionState.Serving j f = (f ≡ freeFile) ⊎ ((j ≡ 0) × (f .state ≡ FileState.Named))
 
 -- ---- the numbers kept in a session: those counted from its records
 pub record Counted (s : Session) : Type 0 where
@@ -100,9 +130,9 @@ pub record Counted (s : Session) : Type 0 where
 -- ---- a session, with what is due for it
 pub record SoundSession (s : Session) (due : Option Due) : Type 0 where
   pub room : length (s .files) ≡ fileRoom
-  -- an absent one is blank, and one that is not open has no file
+  -- an absent one is blank
   pub blank : sessionUsed s ≡ false → s ≡ absentSession
-  pub shut : (s .state ≡ SessionState.Open → ⊥) → (j : ℕ) → fileAt s j ≡ freeFile
+  pub fileFor : (j : ℕ) → FileFor (s .state) j (fileAt s j)
   pub named : sessionUsed s ≡ true → IsId (idOf s)
   pub filled : s .id ≡ padded (idOf s)
   pub quiet : s .quiet ≤ 2

@@ -8,7 +8,7 @@ use lib.Dec.{eqb}
 use Rattle.octets.specs.Slices.{equals}
 use Rattle.command.specs.Meaning.{actionCode, fileTypeCode, idOf, fileIdOf, sizeOf, dataOf}
 use Rattle.protocol.specs.Lengths.{lengthBy}
-use Rattle.protocol.specs.History.{Command, Heard, Mark, Question, lastRead}
+use Rattle.protocol.specs.History.{Command, Heard, Mark, Question, lastRead, commandsIn}
 
 -- ---- a file: a session's id and its own
 pub record Key : Type 0 where
@@ -41,6 +41,7 @@ startsFor k (Question.asks c Heard.opens) = isFile c && (isRegular c && isFor k 
 startsFor k (Question.asks c (Heard.writes p)) = false
 startsFor k (Question.asks c (Heard.writesLast p)) = false
 startsFor k (Question.asks c Heard.commits) = false
+startsFor k (Question.asks c Heard.requests) = false
 
 -- the part that an ask hands over for the file
 abbrev pub partFor : Key → Question → List ℕ
@@ -49,6 +50,7 @@ partFor k (Question.asks c Heard.opens) = []
 partFor k (Question.asks c (Heard.writes p)) = cond (isFor k c) p []
 partFor k (Question.asks c (Heard.writesLast p)) = cond (isFor k c) p []
 partFor k (Question.asks c Heard.commits) = []
+partFor k (Question.asks c Heard.requests) = []
 
 -- "Content is the decoded d" of a data or end_data command read for the file
 abbrev pub contentFor : Key → Command → List ℕ
@@ -73,6 +75,7 @@ startAt k (Mark.drop i) = Option.none
 startAt k (Mark.answer false q) = Option.none
 startAt k (Mark.answer true Question.none) = Option.none
 startAt k (Mark.answer true (Question.asks c a)) = cond (startsFor k (Question.asks c a)) (Option.some c) Option.none
+startAt k (Mark.wrote p bs) = Option.none
 
 -- one mark more
 abbrev pub longer : Mark → Stretch → Stretch
@@ -100,6 +103,7 @@ parts k (Mark.allow i ∷ l) = parts k l
 parts k (Mark.drop i ∷ l) = parts k l
 parts k (Mark.answer false q ∷ l) = parts k l
 parts k (Mark.answer true q ∷ l) = parts k l ++ partFor k q
+parts k (Mark.wrote p bs ∷ l) = parts k l
 
 -- "the contents of the data and end_data commands read for it, joined", ignored ones too
 abbrev pub contents : Key → List Mark → List ℕ
@@ -109,6 +113,7 @@ contents k (Mark.asked a ∷ l) = contents k l
 contents k (Mark.allow i ∷ l) = contents k l
 contents k (Mark.drop i ∷ l) = contents k l
 contents k (Mark.answer b q ∷ l) = contents k l
+contents k (Mark.wrote p bs ∷ l) = contents k l
 
 -- "A session is allowed by a noted allow"
 abbrev pub allows : List ℕ → Mark → Bool
@@ -117,6 +122,7 @@ allows i (Mark.asked a) = false
 allows i (Mark.allow j) = equals i j
 allows i (Mark.drop j) = false
 allows i (Mark.answer b q) = false
+allows i (Mark.wrote p bs) = false
 
 abbrev pub allowedIn : List ℕ → List Mark → Bool
 allowedIn i [] = false
@@ -135,14 +141,22 @@ stands i (Mark.asked a ∷ m) = stands i m
 stands i (Mark.allow j ∷ m) = cond (equals i j) true (stands i m)
 stands i (Mark.drop j ∷ m) = cond (equals i j) false (stands i m)
 stands i (Mark.answer b q ∷ m) = stands i m
+stands i (Mark.wrote p bs ∷ m) = stands i m
 
--- "No part is handed over outside a session that the user allowed and that still stands": at an ask, and at every one so far
+-- "No part is handed over outside a session that the user allowed and that still stands": at an ask, and at every one so far. Nor is a
+-- file asked for, or anything written to the office, outside one.
 abbrev pub StandsFor : Option Command → Heard → List Mark → Type 0
 StandsFor Option.none a m = ⊥
 StandsFor (Option.some c) Heard.opens m = Unit {0}
 StandsFor (Option.some c) (Heard.writes p) m = stands (idOf c) m ≡ true
 StandsFor (Option.some c) (Heard.writesLast p) m = stands (idOf c) m ≡ true
 StandsFor (Option.some c) Heard.commits m = Unit {0}
+StandsFor (Option.some c) Heard.requests m = stands (idOf c) m ≡ true
+
+-- of each command that was written
+abbrev pub EachStands : List Command → List Mark → Type 0
+EachStands [] m = Unit {0}
+EachStands (c ∷ cs) m = (stands (idOf c) m ≡ true) × EachStands cs m
 
 abbrev pub AllStand : List Mark → Type 0
 AllStand [] = Unit {0}
@@ -151,3 +165,4 @@ AllStand (Mark.asked a ∷ m) = StandsFor (lastRead m) a m × AllStand m
 AllStand (Mark.allow i ∷ m) = AllStand m
 AllStand (Mark.drop i ∷ m) = AllStand m
 AllStand (Mark.answer b q ∷ m) = AllStand m
+AllStand (Mark.wrote p bs ∷ m) = EachStands (commandsIn bs) m × AllStand m

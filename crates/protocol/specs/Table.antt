@@ -38,7 +38,17 @@ abbrev pub noFiles : List FileRecord
 noFiles = replicate fileRoom freeFile
 
 abbrev pub absentSession : Session
-absentSession = record { state = SessionState.Absent; quiet = 0; id = zeros; «id_len» = 0; started = 0; «done_bytes» = 0; files = noFiles }
+absentSession =
+    record {
+      state = SessionState.Absent;
+      quiet = 0;
+      id = zeros;
+      «id_len» = 0;
+      wanted = 0;
+      started = 0;
+      «done_bytes» = 0;
+      files = noFiles;
+    }
 
 -- "A fresh receiver has no session, no file and nothing owed"
 abbrev pub emptyTable : Table
@@ -89,6 +99,10 @@ abbrev pub isPresent : SessionState → Bool
 isPresent SessionState.Absent = false
 isPresent SessionState.Asked = true
 isPresent SessionState.Open = true
+isPresent SessionState.Naming = true
+isPresent SessionState.Waiting = true
+isPresent SessionState.Listing = true
+isPresent SessionState.Serving = true
 
 abbrev pub sessionUsed : Session → Bool
 sessionUsed s = isPresent (s .state)
@@ -102,6 +116,7 @@ isUsed FileState.Opening = true
 isUsed FileState.Started = true
 isUsed FileState.Done = true
 isUsed FileState.Failed = true
+isUsed FileState.Named = true
 
 abbrev pub fileUsed : FileRecord → Bool
 fileUsed f = isUsed (f .state)
@@ -115,6 +130,7 @@ isStartedState FileState.Opening = false
 isStartedState FileState.Started = true
 isStartedState FileState.Done = false
 isStartedState FileState.Failed = false
+isStartedState FileState.Named = false
 
 abbrev pub isStarted : FileRecord → Bool
 isStarted f = isStartedState (f .state)
@@ -125,6 +141,7 @@ isDone FileState.Opening = false
 isDone FileState.Started = false
 isDone FileState.Done = true
 isDone FileState.Failed = false
+isDone FileState.Named = false
 
 -- ---- counting
 abbrev pub total : {A : Type 0} → (A → ℕ) → List A → ℕ
@@ -164,9 +181,24 @@ withState s g =
       quiet = s .quiet;
       id = s .id;
       «id_len» = s .«id_len»;
+      wanted = s .wanted;
       started = s .started;
       «done_bytes» = s .«done_bytes»;
       files = s .files;
+    }
+
+-- "Only after the last is the user asked": it waits, and its paths have been told, so that none is kept
+abbrev pub waiting : Session → Session
+waiting s =
+    record {
+      state = SessionState.Waiting;
+      quiet = s .quiet;
+      id = s .id;
+      «id_len» = s .«id_len»;
+      wanted = s .wanted;
+      started = 0;
+      «done_bytes» = 0;
+      files = noFiles;
     }
 
 -- a kept number with one record's share for another's; as far as a u64 holds it, which no list of calls from a fresh receiver passes
@@ -184,6 +216,7 @@ putFile s j f =
       quiet = s .quiet;
       id = s .id;
       «id_len» = s .«id_len»;
+      wanted = s .wanted;
       started = adjusted (s .started) (startedShare old) (startedShare new);
       «done_bytes» = adjusted (s .«done_bytes») (doneShare old) (doneShare new);
       files = files;

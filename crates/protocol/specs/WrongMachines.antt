@@ -10,7 +10,8 @@ use Rattle.octets.specs.Slices.{equals}
 use Rattle.frames.specs.Stream.{framed}
 use Rattle.frames.specs.declared.Framing.the-variants as Framing
 use Rattle.protocol.specs.Table.{freeFile, sessionAt, fileAt, putSession, putFile, moved, withState}
-use Rattle.protocol.specs.Calls.{Feeding, feedOf, allowOf, denyOf, dropOf, doneOf, failedOf}
+use Rattle.protocol.specs.Calls.{Feeding, feedOf, allowOf, denyOf, dropOf, doneOf, failedOf, unlistedOf}
+use Rattle.protocol.specs.Supplies.{supplyOf}
 use Rattle.protocol.specs.Machine.{Machine, isUnfed}
 use Rattle.protocol.specs.Sound.{EverySound}
 use Rattle.protocol.specs.Promises.{EveryCall}
@@ -63,16 +64,56 @@ statusPiece = framed (ascii "5113;ac=status;id=m")
 -- ---- wrappers
 -- our calls but for feed, done, drop or failed
 abbrev pub feedingBy : (Receiver → List ℕ → List ℕ → List ℕ → List ℕ → Feeding) → Machine
-feedingBy f = record { feeds = f; allows = allowOf; denies = denyOf; drops = dropOf; dones = doneOf; fails = failedOf }
+feedingBy f =
+    record {
+      feeds = f;
+      allows = allowOf;
+      denies = denyOf;
+      drops = dropOf;
+      dones = doneOf;
+      fails = failedOf;
+      unlists = unlistedOf;
+      supplies = supplyOf;
+    }
 
 abbrev pub answeringBy : (Receiver → List ℕ → Outcome Answered) → Machine
-answeringBy d = record { feeds = feedOf; allows = allowOf; denies = denyOf; drops = dropOf; dones = d; fails = failedOf }
+answeringBy d =
+    record {
+      feeds = feedOf;
+      allows = allowOf;
+      denies = denyOf;
+      drops = dropOf;
+      dones = d;
+      fails = failedOf;
+      unlists = unlistedOf;
+      supplies = supplyOf;
+    }
 
 abbrev pub droppingBy : (Receiver → List ℕ → Answered) → Machine
-droppingBy d = record { feeds = feedOf; allows = allowOf; denies = denyOf; drops = d; dones = doneOf; fails = failedOf }
+droppingBy d =
+    record {
+      feeds = feedOf;
+      allows = allowOf;
+      denies = denyOf;
+      drops = d;
+      dones = doneOf;
+      fails = failedOf;
+      unlists = unlistedOf;
+      supplies = supplyOf;
+    }
 
 abbrev pub failingBy : (Receiver → Failure → List ℕ → Outcome Answered) → Machine
-failingBy f = record { feeds = feedOf; allows = allowOf; denies = denyOf; drops = dropOf; dones = doneOf; fails = f }
+failingBy f =
+    record {
+      feeds = feedOf;
+      allows = allowOf;
+      denies = denyOf;
+      drops = dropOf;
+      dones = doneOf;
+      fails = f;
+      unlists = unlistedOf;
+      supplies = supplyOf;
+    }
 
 abbrev pub withTable : Receiver → Table → Receiver
 withTable r t = record { framing = r .framing; table = t }
@@ -136,6 +177,7 @@ withLast f (Owed.For i (Due.OpenDirectory j)) = Owed.For i (Due.OpenDirectory j)
 withLast f (Owed.For i (Due.Write j n)) = Owed.For i (Due.Write j n)
 withLast f (Owed.For i (Due.WriteLast j n)) = Owed.For i (f j n)
 withLast f (Owed.For i Due.Commit) = Owed.For i Due.Commit
+withLast f (Owed.For i Due.Request) = Owed.For i Due.Request
 
 -- ---- wrong counts
 -- one too small, in the record and in the reply
@@ -154,6 +196,7 @@ uncounted t (Owed.For i (Due.OpenDirectory j)) = t
 uncounted t (Owed.For i (Due.Write j n)) = t
 uncounted t (Owed.For i (Due.WriteLast j n)) = let f = fileAt (sessionAt t i) j in withFile t i j (moved f (f .state) 0)
 uncounted t (Owed.For i Due.Commit) = t
+uncounted t (Owed.For i Due.Request) = t
 
 abbrev pub lastOnly : Machine
 lastOnly = answeringOf uncounted
@@ -202,6 +245,10 @@ abbrev pub opened : SessionState → SessionState
 opened SessionState.Absent = SessionState.Absent
 opened SessionState.Asked = SessionState.Open
 opened SessionState.Open = SessionState.Open
+opened SessionState.Naming = SessionState.Naming
+opened SessionState.Waiting = SessionState.Waiting
+opened SessionState.Listing = SessionState.Listing
+opened SessionState.Serving = SessionState.Serving
 
 abbrev pub unasked : Machine
 unasked =
@@ -230,6 +277,7 @@ withNumbers s x =
       quiet = s .quiet;
       id = s .id;
       «id_len» = s .«id_len»;
+      wanted = s .wanted;
       started = x .started;
       «done_bytes» = x .«done_bytes»;
       files = s .files;

@@ -3,6 +3,8 @@
 //
 // No feed or console call has code here: specs/ says what each gives, for any receiver and any lent
 // buffers, and proofs/ shows what every list of calls from a fresh receiver keeps.
+mod actions;
+
 ghost use mathlib.Core.Path.{_≡_};
 ghost use Rattle.protocol.specs.Claim.{EveryHistory};
 ghost use Rattle.protocol.specs.Cuts.{CutsAlike};
@@ -11,9 +13,13 @@ ghost use Rattle.protocol.specs.Counts.{EveryCount};
 ghost use Rattle.protocol.specs.Sound.{EverySound};
 ghost use Rattle.protocol.specs.Starred.{AllHold, starred};
 ghost use Rattle.protocol.specs.Table.{freshReceiver};
+ghost use Rattle.protocol.specs.Serving.{ServesWhole};
 ghost use Rattle.protocol.specs.WrongMachines.{Teeth};
+ghost use Rattle.protocol.specs.WrongSupplies.{SupplyTeeth};
 use command::Command;
+use command::FileType;
 use command::Place;
+use decimal::Number;
 use frames::Framing;
 use frames::Report;
 
@@ -24,6 +30,8 @@ pub enum FileState {
     Started,
     Done,
     Failed,
+    // A path that a receive session names, or the file that it asks for.
+    Named,
 }
 
 // A file record: its id is the first id_len bytes of id, and a length of 0 was not declared. It holds no
@@ -36,32 +44,40 @@ pub struct FileRecord {
     pub declared: u64,
 }
 
+// A send session is asked and then open. A receive session names its paths, waits for the user, and is
+// then open: it lists, and after the home path it serves.
 pub enum SessionState {
     Absent,
     Asked,
     Open,
+    Naming,
+    Waiting,
+    Listing,
+    Serving,
 }
 
-// A session, with two numbers that are kept of its files: how many are started, and the sum of the
-// counts of those that are done.
+// A session, with how many paths a receive session asks for, and two numbers that are kept of its files:
+// how many are started, and the sum of the counts of those that are done.
 pub struct Session {
     pub state: SessionState,
     pub quiet: u64,
     pub id: [u8; 32],
     pub id_len: usize,
+    pub wanted: u64,
     pub started: u64,
     pub done_bytes: u64,
     pub files: [FileRecord; Session::FILES],
 }
 
 // What the console was asked to do for a session and has not answered, with the place of the file in
-// the session and the part's length.
+// the session and the part's length. The file of a request is the session's first.
 pub enum Due {
     OpenFile(usize),
     OpenDirectory(usize),
     Write(usize, usize),
     WriteLast(usize, usize),
     Commit,
+    Request,
 }
 
 // What the console owes an answer to: nothing, or what is due for the session at a place.
@@ -79,7 +95,7 @@ pub struct Table {
 pub enum Kind {
     Ignore,
     Ask,
-    Unsupported,
+    Receive,
     Invalid,
     Cancel,
     Withdraw,
@@ -87,6 +103,8 @@ pub enum Kind {
     Data,
     EndData,
     Finish,
+    Path,
+    Request,
 }
 
 // What the console keeps between calls, beside the carry.
@@ -97,12 +115,13 @@ pub struct Receiver {
 
 // ---- What a call tells the console.
 // What the console is asked to do: to open the command's file, to write a part of it or its last
-// part (the part's place in the scratch), or to commit the session.
+// part (the part's place in the scratch), to commit the session, or to supply the command's file.
 pub enum Ask {
     Open,
     Write(Place),
     WriteLast(Place),
     Commit,
+    Request,
 }
 
 // The status words of replies.
@@ -147,6 +166,11 @@ pub enum Told {
     Ignored,
     // A new session waits for the user.
     Asked,
+    // A new receive session names its paths; a path of it; and its last one, with which it waits for the
+    // user.
+    Naming,
+    Path,
+    LastPath,
     // An answer is owed to this ask.
     Ask(Ask),
     // The call's only outcome is this status, also where quiet holds the reply back.
@@ -171,12 +195,13 @@ pub struct Reply {
 }
 
 // ---- What a step makes of one session.
-// The session is as it was, an asked one is open, a file record is put at a place, or the session is
-// dropped.
+// The session is as it was, is in another state, has a file record put at a place, waits for the user
+// with no file left, or is dropped.
 pub enum Edit {
     Same,
-    Opened,
+    Turned(SessionState),
     Filed(usize),
+    Waits,
     Dropped,
 }
 
@@ -216,8 +241,24 @@ pub struct Fed {
     pub reply_len: usize,
 }
 
-// What a console call answers: the receiver, what is told, and the reply's length. What done and
-// failed tell, they tell of the ask that they answer.
+// A file of a listing: its type, times and sizes; the ids of its session, of the path that it is listed
+// for and of its parent, at places of one slice; its name, its own id and the target of a link, at places
+// of another.
+pub struct Entry {
+    pub file_type: FileType,
+    pub modified: Number,
+    pub permissions: Number,
+    pub size: Number,
+    pub id: Place,
+    pub path_id: Place,
+    pub parent: Place,
+    pub name: Place,
+    pub own_id: Place,
+    pub target: Place,
+}
+
+// What a console call answers: the receiver, what is told, and the length of the reply, or of what it
+// wrote. What done and failed tell, they tell of the ask that they answer.
 pub struct Answered {
     pub receiver: Receiver,
     pub told: Told,
@@ -253,6 +294,7 @@ impl Session {
         quiet: 0,
         id: [0; 32],
         id_len: 0,
+        wanted: 0,
         started: 0,
         done_bytes: 0,
         files: [FileRecord::FREE; Session::FILES],
@@ -267,41 +309,6 @@ impl Table {
         sessions: [Session::ABSENT; Table::SESSIONS],
         owed: Owed::Nothing,
     };
-
-    // The action table: a row for each session state, a column for each action: send, receive, file,
-    // data, end_data, finish, cancel, status.
-    pub const ACTIONS: [[Kind; 8]; 3] = [
-        [
-            Kind::Ask,
-            Kind::Unsupported,
-            Kind::Ignore,
-            Kind::Ignore,
-            Kind::Ignore,
-            Kind::Ignore,
-            Kind::Ignore,
-            Kind::Ignore,
-        ],
-        [
-            Kind::Withdraw,
-            Kind::Withdraw,
-            Kind::Withdraw,
-            Kind::Withdraw,
-            Kind::Withdraw,
-            Kind::Withdraw,
-            Kind::Cancel,
-            Kind::Withdraw,
-        ],
-        [
-            Kind::Invalid,
-            Kind::Invalid,
-            Kind::File,
-            Kind::Data,
-            Kind::EndData,
-            Kind::Finish,
-            Kind::Cancel,
-            Kind::Ignore,
-        ],
-    ];
 }
 
 impl Reply {
@@ -323,11 +330,11 @@ impl Reply {
 
 impl Receiver {
     // "A fresh receiver has no session, no file and nothing owed." What every list of calls from here
-    // keeps (demand 3), that cuts do not matter, what holds of every table, and document 01's starred
-    // cases stand here too, so that nobody can drop a theorem unseen.
+    // keeps (demand 3), that cuts do not matter, what holds of every table, a receive session computed
+    // whole, and document 01's starred cases stand here too, so that nobody can drop a theorem unseen.
     pub fn fresh() -> Receiver
         ensures { λ r. ⌜ (r ≡ freshReceiver) × EveryHistory ours × CutsAlike ours × EverySound ours × EveryCount ours × Teeth
-            × AllHold starred ⌝ }
+            × ServesWhole ours × SupplyTeeth × AllHold starred ⌝ }
     {
         Receiver {
             framing: Framing::Plain,
