@@ -1,7 +1,7 @@
 // Replies: a status text put together field by field in the lent reply buffer.
 //
-// The one exported function has no `requires`: any reply and any buffer are answered. What a reply
-// says, and whether one is due, is decided before.
+// No exported function has a `requires`: any reply and any buffer are answered. What a reply says, and
+// whether one is due, is decided before.
 mod fields;
 mod texts;
 mod writer;
@@ -39,7 +39,7 @@ pub fn send(reply: Reply, buffer: &mut [u8]) -> usize
 }
 
 // Whether quiet holds a reply with this status back.
-fn is_held(status: Status, quiet: u64) -> bool
+pub fn is_held(status: Status, quiet: u64) -> bool
     ensures { λ r. ⌜ r ≡ isHeld status quiet ⌝ }
 {
     if quiet >= 2 {

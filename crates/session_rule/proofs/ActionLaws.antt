@@ -16,7 +16,9 @@ use Rattle.protocol.specs.declared.Kind.the-variants as Kind
 
 -- the states and the actions in the table's order
 abbrev states : List SessionState
-states = SessionState.Absent ∷ SessionState.Asked ∷ SessionState.Open ∷ []
+states =
+    SessionState.Absent ∷ SessionState.Asked ∷ SessionState.Open ∷ SessionState.Naming ∷ SessionState.Waiting ∷ SessionState.Listing
+    ∷ SessionState.Serving ∷ []
 
 abbrev actions : List Action
 actions =
@@ -30,6 +32,10 @@ row-at : {B : Type 0} (f : SessionState → B) (d : B) (s : SessionState) → ge
 row-at f d SessionState.Absent = refl
 row-at f d SessionState.Asked = refl
 row-at f d SessionState.Open = refl
+row-at f d SessionState.Naming = refl
+row-at f d SessionState.Waiting = refl
+row-at f d SessionState.Listing = refl
+row-at f d SessionState.Serving = refl
 
 column-at : {B : Type 0} (f : Action → B) (d : B) (a : Action)
     → cond (eqb (actionCode a) 0) (f Action.None) (getD (map f actions) (actionCode a - 1) d) ≡ f a

@@ -20,12 +20,16 @@ pub fn look_up(state: SessionState, action: Action) -> Kind
 }
 
 fn state_number(state: SessionState) -> usize
-    ensures { λ r. ⌜ (r ≡ stateNumber state) × (r < 3) ⌝ }
+    ensures { λ r. ⌜ (r ≡ stateNumber state) × (r < 7) ⌝ }
 {
     match state {
         SessionState::Absent => 0,
         SessionState::Asked => 1,
         SessionState::Open => 2,
+        SessionState::Naming => 3,
+        SessionState::Waiting => 4,
+        SessionState::Listing => 5,
+        SessionState::Serving => 6,
     }
 }
 

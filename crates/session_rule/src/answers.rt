@@ -1,8 +1,10 @@
 // The console's answers to what is due for a session.
 ghost use mathlib.Core.Path.{_≡_};
 ghost use Rattle.protocol.specs.Replies.{failureStatus};
-ghost use Rattle.protocol.specs.Rule.{doneBy, fileDue, failedBy};
+ghost use Rattle.protocol.specs.Rule.{doneBy, failedBy, unlistedBy};
 use crate::changes::drops;
+use crate::receives::fail_request;
+use crate::receives::out_of_turn;
 use crate::replies::session_reply;
 use crate::settling::fail_file;
 use crate::settling::settle;
@@ -11,7 +13,6 @@ use protocol::Change;
 use protocol::Due;
 use protocol::Failure;
 use protocol::FileState;
-use protocol::Found;
 use protocol::Reply;
 use protocol::Session;
 use protocol::Status;
@@ -27,6 +28,7 @@ pub fn done(session: Session, due: Due) -> Change
         Due::Write(j, n) => settle_write(session, j, n, FileState::Started, Status::Progress),
         Due::WriteLast(j, n) => settle_write(session, j, n, FileState::Done, Status::Ok),
         Due::Commit => drops(Told::Committed, Reply::NONE),
+        Due::Request => out_of_turn(),
     }
 }
 
@@ -35,22 +37,27 @@ pub fn failed(failure: Failure, session: Session, due: Due) -> Change
     ensures { λ c. ⌜ c ≡ failedBy failure session due ⌝ }
 {
     let status = failure_status(failure);
-    match file_due(due) {
-        Found::Nowhere => drops(Told::Discarded, session_reply(status, session)),
-        Found::At(j) => fail_file(session, j, status),
+    match due {
+        Due::OpenFile(j) => fail_file(session, j, status),
+        Due::OpenDirectory(j) => fail_file(session, j, status),
+        Due::Write(j, _) => fail_file(session, j, status),
+        Due::WriteLast(j, _) => fail_file(session, j, status),
+        Due::Commit => drops(Told::Discarded, session_reply(status, session)),
+        Due::Request => fail_request(session, status),
     }
 }
 
-// The file that something is due for.
-fn file_due(due: Due) -> Found
-    ensures { λ r. ⌜ r ≡ fileDue due ⌝ }
+// The file asked for is "a directory or not listed, which gets EINVAL".
+pub fn unlisted(session: Session, due: Due) -> Change
+    ensures { λ c. ⌜ c ≡ unlistedBy session due ⌝ }
 {
     match due {
-        Due::OpenFile(j) => Found::At(j),
-        Due::OpenDirectory(j) => Found::At(j),
-        Due::Write(j, _) => Found::At(j),
-        Due::WriteLast(j, _) => Found::At(j),
-        Due::Commit => Found::Nowhere,
+        Due::OpenFile(_) => out_of_turn(),
+        Due::OpenDirectory(_) => out_of_turn(),
+        Due::Write(_, _) => out_of_turn(),
+        Due::WriteLast(_, _) => out_of_turn(),
+        Due::Commit => out_of_turn(),
+        Due::Request => fail_request(session, Status::Einval),
     }
 }
 

@@ -1,14 +1,15 @@
 // Changes, by what becomes of the session.
 ghost use mathlib.Core.Path.{_≡_};
-ghost use Rattle.protocol.specs.Change.{change, tells, asks, opens, drops};
+ghost use Rattle.protocol.specs.Change.{tells, turns, asks, opens, settles, drops};
 ghost use Rattle.protocol.specs.Files.{ignored};
-ghost use Rattle.protocol.specs.Table.{noFile};
 use protocol::Change;
 use protocol::Due;
 use protocol::Edit;
 use protocol::FileRecord;
 use protocol::News;
 use protocol::Reply;
+use protocol::SessionState;
+use protocol::Status;
 use protocol::Told;
 
 // Nothing changes, and this is told.
@@ -30,12 +31,12 @@ pub(crate) fn ignored() -> Change
     tells(Told::Ignored, Reply::NONE)
 }
 
-// An asked session is open, told by nothing but the reply.
-pub(crate) fn opened(reply: Reply) -> Change
-    ensures { λ c. ⌜ c ≡ change Edit.Opened noFile (News.Tells Told.Nothing) reply ⌝ }
+// The session is in another state, told by nothing but the reply.
+pub(crate) fn turns(state: SessionState, reply: Reply) -> Change
+    ensures { λ c. ⌜ c ≡ turns state reply ⌝ }
 {
     Change {
-        edit: Edit::Opened,
+        edit: Edit::Turned(state),
         file: FileRecord::FREE,
         news: News::Tells(Told::Nothing),
         reply: reply,
@@ -54,7 +55,7 @@ pub(crate) fn asks(due: Due) -> Change
     }
 }
 
-// A new file record at place j, and its open is asked.
+// A new file record at place j, and its open is asked, or its contents.
 pub(crate) fn opens(j: usize, file: FileRecord, due: Due) -> Change
     ensures { λ c. ⌜ c ≡ opens j file due ⌝ }
 {
@@ -63,6 +64,18 @@ pub(crate) fn opens(j: usize, file: FileRecord, due: Due) -> Change
         file: file,
         news: News::Asks(due),
         reply: Reply::NONE,
+    }
+}
+
+// What the session owed is settled, and the status is all that happens.
+pub(crate) fn settles(status: Status, reply: Reply) -> Change
+    ensures { λ c. ⌜ c ≡ settles status reply ⌝ }
+{
+    Change {
+        edit: Edit::Same,
+        file: FileRecord::FREE,
+        news: News::Clears(Told::Status(status)),
+        reply: reply,
     }
 }
 

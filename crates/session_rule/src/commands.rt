@@ -12,6 +12,8 @@ use crate::changes::tells;
 use crate::data::part;
 use crate::file::file;
 use crate::finish::finish;
+use crate::receives::path;
+use crate::receives::request;
 use crate::replies::session_reply;
 use command::Command;
 use protocol::Change;
@@ -32,11 +34,13 @@ pub fn obey(session: Session, command: Command, id: &[u8], name: &[u8]) -> Chang
     match look_up(state, action) {
         Kind::Invalid => reject(session),
         Kind::Cancel => cancel(session),
-        Kind::Withdraw => drops(Told::Withdrawn, Reply::NONE),
+        Kind::Withdraw => drops(drop_told(state), Reply::NONE),
         Kind::File => file(session, command, id, name),
         Kind::Data => part(session, false, id, payload.len),
         Kind::EndData => part(session, true, id, payload.len),
         Kind::Finish => finish(session),
+        Kind::Path => path(session, id, name),
+        Kind::Request => request(id),
         _ => ignored(),
     }
 }
@@ -59,6 +63,7 @@ fn cancel(session: Session) -> Change
     drops(drop_told(state), session_reply(Status::Canceled, session))
 }
 
+// "an asked one as withdrawn, an open one .. as discarded"
 fn drop_told(state: SessionState) -> Told
     ensures { λ t. ⌜ t ≡ cond (isOpen state) Told.Discarded Told.Withdrawn ⌝ }
 {
@@ -66,5 +71,9 @@ fn drop_told(state: SessionState) -> Told
         SessionState::Absent => Told::Withdrawn,
         SessionState::Asked => Told::Withdrawn,
         SessionState::Open => Told::Discarded,
+        SessionState::Naming => Told::Withdrawn,
+        SessionState::Waiting => Told::Withdrawn,
+        SessionState::Listing => Told::Discarded,
+        SessionState::Serving => Told::Discarded,
     }
 }

@@ -1,10 +1,10 @@
 // The console's decisions on a session.
 ghost use mathlib.Core.Bool.{cond};
 ghost use mathlib.Core.Path.{_≡_};
-ghost use Rattle.protocol.specs.Rule.{isAsked, notAsked, decidedBy};
+ghost use Rattle.protocol.specs.Rule.{isAsked, notAsked, openedFrom, decidedBy};
 use crate::changes::drops;
-use crate::changes::opened;
 use crate::changes::tells;
+use crate::changes::turns;
 use crate::replies::session_reply;
 use protocol::Change;
 use protocol::Decision;
@@ -21,7 +21,10 @@ pub fn decide(decision: Decision, session: Session) -> Change
 {
     let state = session.state;
     match decision {
-        Decision::Allow => if_asked(state, opened(session_reply(Status::Ok, session))),
+        Decision::Allow => if_asked(
+            state,
+            turns(opened_from(state), session_reply(Status::Ok, session)),
+        ),
         Decision::Deny => if_asked(
             state,
             drops(Told::Nothing, session_reply(Status::Eperm, session)),
@@ -40,6 +43,7 @@ fn if_asked(state: SessionState, change: Change) -> Change
     tells(Told::Refused(12), Reply::NONE)
 }
 
+// The user is asked.
 fn is_asked(state: SessionState) -> bool
     ensures { λ r. ⌜ r ≡ isAsked state ⌝ }
 {
@@ -47,5 +51,24 @@ fn is_asked(state: SessionState) -> bool
         SessionState::Absent => false,
         SessionState::Asked => true,
         SessionState::Open => false,
+        SessionState::Naming => false,
+        SessionState::Waiting => true,
+        SessionState::Listing => false,
+        SessionState::Serving => false,
+    }
+}
+
+// An open session: one that receives lists first.
+fn opened_from(state: SessionState) -> SessionState
+    ensures { λ r. ⌜ r ≡ openedFrom state ⌝ }
+{
+    match state {
+        SessionState::Absent => SessionState::Open,
+        SessionState::Asked => SessionState::Open,
+        SessionState::Open => SessionState::Open,
+        SessionState::Naming => SessionState::Listing,
+        SessionState::Waiting => SessionState::Listing,
+        SessionState::Listing => SessionState::Listing,
+        SessionState::Serving => SessionState::Listing,
     }
 }

@@ -3,7 +3,7 @@ ghost use mathlib.Core.Bool.{_||_, cond};
 ghost use mathlib.Core.Path.{_≡_};
 ghost use Rattle.protocol.specs.Table.{first, isFree};
 ghost use Rattle.protocol.specs.Files.{request, opening, fileStatus, linkLike, isRsync, badPermissions, badSize};
-ghost use Rattle.protocol.specs.Files.{declaredBy, isDirectory, openDue, fileRecorded, fileChecked, fileOf};
+ghost use Rattle.protocol.specs.Files.{declaredBy, isDirectory, openDue, fileRecorded, fileChecked, ifNew, fileOf};
 use crate::changes::opens;
 use crate::changes::tells;
 use crate::files::find_file;
@@ -23,15 +23,21 @@ use protocol::Session;
 use protocol::Status;
 use protocol::Told;
 
-// The id may be neither empty nor known.
 pub(crate) fn file(session: Session, command: Command, id: &[u8], name: &[u8]) -> Change
     ensures { λ c. ⌜ c ≡ fileOf session (request command (now (id .entry)) (now (name .entry))) ⌝ }
+{
+    if_new(session, id, checked(session, command, id, name))
+}
+
+// What a file makes of the session, if its id is new: "empty fid EINVAL; fid known EEXIST".
+pub(crate) fn if_new(session: Session, id: &[u8], change: Change) -> Change
+    ensures { λ c. ⌜ c ≡ ifNew session (now (id .entry)) change ⌝ }
 {
     if id.len() == 0 {
         return file_status(session, id, Status::Einval);
     }
     match find_file(session, id) {
-        Found::Nowhere => checked(session, command, id, name),
+        Found::Nowhere => change,
         Found::At(_) => file_status(session, id, Status::Eexist),
     }
 }
@@ -72,7 +78,7 @@ fn recorded(session: Session, command: Command, id: &[u8], name: &[u8]) -> Chang
 }
 
 // A reply about the command's file, which is all that happens.
-fn file_status(session: Session, id: &[u8], status: Status) -> Change
+pub(crate) fn file_status(session: Session, id: &[u8], status: Status) -> Change
     ensures { λ c. ⌜ c ≡ fileStatus session (now (id .entry)) status ⌝ }
 {
     tells(
@@ -81,7 +87,7 @@ fn file_status(session: Session, id: &[u8], status: Status) -> Change
     )
 }
 
-fn opening(id: &[u8], declared: u64) -> FileRecord
+pub(crate) fn opening(id: &[u8], declared: u64) -> FileRecord
     ensures { λ f. ⌜ f ≡ opening (now (id .entry)) declared ⌝ }
 {
     let own = padded(id);

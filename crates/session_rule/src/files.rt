@@ -72,6 +72,7 @@ fn is_used(state: FileState) -> bool
         FileState::Started => true,
         FileState::Done => true,
         FileState::Failed => true,
+        FileState::Named => true,
     }
 }
 
@@ -90,5 +91,6 @@ pub(crate) fn is_started(state: FileState) -> bool
         FileState::Started => true,
         FileState::Done => false,
         FileState::Failed => false,
+        FileState::Named => false,
     }
 }

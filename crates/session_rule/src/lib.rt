@@ -15,5 +15,6 @@ mod file;
 mod files;
 mod finish;
 pub mod ids;
+mod receives;
 pub mod replies;
 mod settling;

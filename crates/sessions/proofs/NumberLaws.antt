@@ -20,6 +20,7 @@ withRecord s j f n b =
       quiet = s .quiet;
       id = s .id;
       «id_len» = s .«id_len»;
+      wanted = s .wanted;
       started = n;
       «done_bytes» = b;
       files = set (s .files) j f;

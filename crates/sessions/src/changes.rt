@@ -1,7 +1,7 @@
 // A session's change: the session edited, what is owed afterwards, and what is told.
 ghost use mathlib.Core.Path.{_≡_};
 ghost use Rattle.protocol.specs.Change.{edited, cleared, owedAfter, askOf, toldBy};
-ghost use Rattle.protocol.specs.Table.{putFile};
+ghost use Rattle.protocol.specs.Table.{waiting, putFile};
 use crate::numbers::done_bytes_with;
 use crate::numbers::started_with;
 use crate::places::emptied;
@@ -21,12 +21,28 @@ pub(crate) fn edited(session: Session, file: FileRecord, edit: Edit) -> Session
 {
     match edit {
         Edit::Same => session,
-        Edit::Opened => Session {
-            state: SessionState::Open,
+        Edit::Turned(state) => Session {
+            state: state,
             ..session
         },
         Edit::Filed(j) => put_file(session, j, file),
+        Edit::Waits => waiting(session),
         Edit::Dropped => emptied(session),
+    }
+}
+
+// "Only after the last is the user asked": it waits, and its paths have been told, so that none is kept.
+fn waiting(session: Session) -> Session
+    ensures { λ r. ⌜ r ≡ waiting session ⌝ }
+{
+    let id = session.id;
+    Session {
+        state: SessionState::Waiting,
+        quiet: session.quiet,
+        id: id,
+        id_len: session.id_len,
+        wanted: session.wanted,
+        ..emptied(session)
     }
 }
 
@@ -94,5 +110,6 @@ fn ask_of(payload: Place, due: Due) -> Ask
         Due::Write(_, _) => Ask::Write(payload),
         Due::WriteLast(_, _) => Ask::WriteLast(payload),
         Due::Commit => Ask::Commit,
+        Due::Request => Ask::Request,
     }
 }

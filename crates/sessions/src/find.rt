@@ -44,19 +44,29 @@ pub(crate) fn free_session(table: Table) -> Found
 pub fn has_id(state: SessionState, own: [u8; 32], n: usize, id: &[u8]) -> bool
     ensures { λ r. ⌜ r ≡ (isPresent state && equals (take n own) (now (id .entry))) ⌝ }
 {
+    if is_present(state) {
+        same_id(own, n, id)
+    } else {
+        false
+    }
+}
+
+fn is_present(state: SessionState) -> bool
+    ensures { λ r. ⌜ r ≡ isPresent state ⌝ }
+{
     match state {
         SessionState::Absent => false,
-        SessionState::Asked => same_id(own, n, id),
-        SessionState::Open => same_id(own, n, id),
+        SessionState::Asked => true,
+        SessionState::Open => true,
+        SessionState::Naming => true,
+        SessionState::Waiting => true,
+        SessionState::Listing => true,
+        SessionState::Serving => true,
     }
 }
 
 pub fn is_absent(state: SessionState) -> bool
     ensures { λ r. ⌜ r ≡ not (isPresent state) ⌝ }
 {
-    match state {
-        SessionState::Absent => true,
-        SessionState::Asked => false,
-        SessionState::Open => false,
-    }
+    !is_present(state)
 }

@@ -14,7 +14,7 @@ pub mod places;
 
 ghost use mathlib.Core.Path.{_≡_};
 ghost use Rattle.protocol.specs.Calls.{isOwed};
-ghost use Rattle.protocol.specs.Sessions.{requestIn, obeyOf, settleDone, settleFailed, decidedOf};
+ghost use Rattle.protocol.specs.Sessions.{requestIn, obeyOf, settleDone, settleFailed, settleUnlisted, decidedOf};
 ghost use Rattle.protocol.specs.Rule.{obeyedBy};
 ghost use Rattle.sessions.specs.Leaving.{taken, nextBy};
 use absent::absent;
@@ -42,10 +42,11 @@ pub fn obey(table: Table, command: Command, text: &[u8], scratch: &[u8]) -> Next
 {
     let place = command.id;
     let action = command.action;
+    let size = command.size;
     let owed = table.owed;
     let id = octets::part(text, place.start, place.len);
     match find_session(table, id) {
-        Found::Nowhere => absent(table, action, command.quiet, id),
+        Found::Nowhere => absent(table, action, command.quiet, size, id),
         Found::At(i) => present(session_at(table, i), i, owed, command, text, scratch),
     }
 }
@@ -99,6 +100,21 @@ pub fn failed(table: Table, failure: Failure) -> Next
         Owed::For(i, due) => {
             let session = session_at(table, i);
             let change = answers::failed(failure, session, due);
+            step(session, i, owed, Place::NOWHERE, change)
+        }
+    }
+}
+
+// The console calls the file that it was asked for "a directory or not listed"; 18 where nothing is owed.
+pub fn unlisted(table: Table) -> Next
+    ensures { λ n. ⌜ taken table n ≡ settleUnlisted table ⌝ }
+{
+    let owed = table.owed;
+    match owed {
+        Owed::Nothing => tell(table, Told::Refused(18)),
+        Owed::For(i, due) => {
+            let session = session_at(table, i);
+            let change = answers::unlisted(session, due);
             step(session, i, owed, Place::NOWHERE, change)
         }
     }

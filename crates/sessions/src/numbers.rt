@@ -41,6 +41,7 @@ fn started_share(state: FileState) -> u64
         FileState::Started => 1,
         FileState::Done => 0,
         FileState::Failed => 0,
+        FileState::Named => 0,
     }
 }
 
@@ -54,6 +55,7 @@ fn done_share(state: FileState, count: u64) -> u64
         FileState::Started => 0,
         FileState::Done => count,
         FileState::Failed => 0,
+        FileState::Named => 0,
     }
 }
 

@@ -33,6 +33,7 @@ pub(crate) fn emptied(session: Session) -> Session
         quiet: 0,
         id: id,
         id_len: 0,
+        wanted: 0,
         started: 0,
         done_bytes: 0,
         files: files,

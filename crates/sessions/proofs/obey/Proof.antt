@@ -2,6 +2,11 @@ use Rattle.protocol.specs.Sessions.{obeyOf}
 use borrow.Author.Needs.{needs}
 use Rattle.sessions.proofs.obey.Statement.{statement}
 use Rattle.sessions.proofs.obey.Tie as tie
+use Rattle.octets.proofs.part.Reads as part-reads
+use Rattle.sessions.proofs.absent.absent.Reads as absent-reads
+use Rattle.sessions.proofs.find.find_session.Reads as find-session-reads
+use Rattle.sessions.proofs.places.session_at.Reads as session-at-reads
+use Rattle.sessions.proofs.present.Reads as present-reads
 
 part-requires : tie.Need-part-requires
 part-requires c κs = search needs

@@ -2,6 +2,10 @@ use Rattle.protocol.specs.Rule.{doneBy}
 use borrow.Author.Needs.{needs}
 use Rattle.session_rule.proofs.answers.done.Statement.{statement}
 use Rattle.session_rule.proofs.answers.done.Tie as tie
+use Rattle.session_rule.proofs.changes.drops.Reads as drops-reads
+use Rattle.session_rule.proofs.receives.out_of_turn.Reads as out-of-turn-reads
+use Rattle.session_rule.proofs.settling.settle.Reads as settle-reads
+use Rattle.session_rule.proofs.settling.settle_write.Reads as settle-write-reads
 
 enum-known-due : tie.Need-enum-known-due
 enum-known-due c = search needs
@@ -33,6 +37,12 @@ enum-told c = search needs
 drops-requires : tie.Need-drops-requires
 drops-requires c κs = search needs
 
+enum-told-2 : tie.Need-enum-told-2
+enum-told-2 c = search needs
+
+out-of-turn-requires : tie.Need-out-of-turn-requires
+out-of-turn-requires c κs = search needs
+
 returns : tie.Need-returns
 unfolding doneBy
 returns c = rw (c .before .before .due .given .1) (c .settle .ensures)
@@ -53,6 +63,10 @@ returns-5 : tie.Need-returns-5
 unfolding doneBy
 returns-5 c = rw (c .drops .ensures, c .before .enum-told .given .1)
 
+returns-6 : tie.Need-returns-6
+unfolding doneBy
+returns-6 c = rw (c .out-of-turn .ensures, c .before .enum-told2 .given .1)
+
 pub done-spec : {M : Type 1} → statement M
 done-spec =
     tie.close
@@ -67,8 +81,11 @@ done-spec =
     settle-write-requires-2
     enum-told
     drops-requires
+    enum-told-2
+    out-of-turn-requires
     returns
     returns-2
     returns-3
     returns-4
-    returns-5)
+    returns-5
+    returns-6)

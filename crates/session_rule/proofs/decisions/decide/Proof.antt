@@ -2,15 +2,23 @@ use Rattle.protocol.specs.Rule.{decidedBy}
 use borrow.Author.Needs.{needs}
 use Rattle.session_rule.proofs.decisions.decide.Statement.{statement}
 use Rattle.session_rule.proofs.decisions.decide.Tie as tie
+use Rattle.session_rule.proofs.changes.drops.Reads as drops-reads
+use Rattle.session_rule.proofs.changes.turns.Reads as turns-reads
+use Rattle.session_rule.proofs.decisions.if_asked.Reads as if-asked-reads
+use Rattle.session_rule.proofs.decisions.opened_from.Reads as opened-from-reads
+use Rattle.session_rule.proofs.replies.session_reply.Reads as session-reply-reads
 
 enum-told : tie.Need-enum-told
 enum-told c = search needs
 
+opened-from-requires : tie.Need-opened-from-requires
+opened-from-requires c κs = search needs
+
 session-reply-requires : tie.Need-session-reply-requires
 session-reply-requires c κs = search needs
 
-opened-requires : tie.Need-opened-requires
-opened-requires c κs = search needs
+turns-requires : tie.Need-turns-requires
+turns-requires c κs = search needs
 
 if-asked-requires : tie.Need-if-asked-requires
 if-asked-requires c κs = search needs
@@ -37,7 +45,9 @@ returns : tie.Need-returns
 unfolding decidedBy
 returns c =
     let made = c .before in
-    rw (c .if-asked .ensures, made .opened .ensures, made .before .session-reply .ensures, made .before .before .enum-told .given .1)
+    let reply = made .before in
+    rw (c .if-asked .ensures, made .turns .ensures, reply .session-reply .ensures)
+    (rw (reply .before .opened-from .ensures, reply .before .before .enum-told .given .1))
 
 returns-2 : tie.Need-returns-2
 unfolding decidedBy
@@ -54,8 +64,9 @@ decide-spec =
     tie.close
     (tie.spec
     enum-told
+    opened-from-requires
     session-reply-requires
-    opened-requires
+    turns-requires
     if-asked-requires
     enum-told-2
     session-reply-requires-2

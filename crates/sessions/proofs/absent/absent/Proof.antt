@@ -3,6 +3,11 @@ use Rattle.sessions.proofs.KindLaws.{absent-ignored}
 use borrow.Author.Needs.{needs}
 use Rattle.sessions.proofs.absent.absent.Statement.{statement}
 use Rattle.sessions.proofs.absent.absent.Tie as tie
+use Rattle.session_rule.proofs.actions.look_up.Reads as look-up-reads
+use Rattle.sessions.proofs.absent.asked.Reads as asked-reads
+use Rattle.sessions.proofs.absent.receive.Reads as receive-reads
+use Rattle.sessions.proofs.absent.send.Reads as send-reads
+use Rattle.sessions.proofs.next.tell.Reads as tell-reads
 
 look-up-requires : tie.Need-look-up-requires
 look-up-requires c κs = search needs
@@ -22,8 +27,8 @@ enum-told-2 c = search needs
 asked-requires-2 : tie.Need-asked-requires-2
 asked-requires-2 c κs = search needs
 
-absent-status-requires : tie.Need-absent-status-requires
-absent-status-requires c κs = search needs
+receive-requires : tie.Need-receive-requires
+receive-requires c κs = search needs
 
 tell-requires : tie.Need-tell-requires
 tell-requires c κs = search needs
@@ -36,12 +41,12 @@ returns c =
 returns-2 : tie.Need-returns-2
 returns-2 c =
     let arm = c .before .before in
-    rw (← c .before .asked2 .ensures, ← arm .before .before .look-up .ensures, arm .enum-told2 .given .1) (c .absent-status .ensures)
+    rw (← c .before .asked2 .ensures, ← arm .before .before .look-up .ensures, arm .enum-told2 .given .1) (c .receive .ensures)
 
 returns-3 : tie.Need-returns-3
 returns-3 c =
     let found = c .before .before .look-up in
-    rw (← found .ensures) (c .tell .ensures ∙ absent-ignored _ _ (found .result) (c .before .match .keys3))
+    rw (← found .ensures) (c .tell .ensures ∙ absent-ignored _ _ _ (found .result) (c .before .match .keys3))
 
 pub absent-spec : {M : Type 1} → statement M
 absent-spec =
@@ -53,7 +58,7 @@ absent-spec =
     send-requires
     enum-told-2
     asked-requires-2
-    absent-status-requires
+    receive-requires
     tell-requires
     returns
     returns-2

@@ -30,7 +30,7 @@ returns c =
     let filed = c .before .before in
     let start = filed .before .before .before .before in
     let a = start .args in
-    let files = start .good .0 .1 .1 .1 .1 .1 .1 .1 .1 .0 in
+    let files = start .good .0 .1 .1 .1 .1 .1 .1 .1 .1 .1 .0 in
     let e : length (a .session .files) ≡ 32 = simp length-map at (files .1 .0 .1) in
     put-inside (a .session) (a .j) (a .file) _ _ _ (omega arith) (filed .started-with .ensures) (c .before .done-bytes-with .ensures)
 
