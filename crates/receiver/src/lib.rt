@@ -1,4 +1,5 @@
-// The console's calls on a receiver: feed, allow, deny, drop, done, failed.
+// The console's calls on a receiver: feed, allow, deny, drop, done, failed, unlisted, and those that supply
+// something in a receive session: list, list_failed, home, part, last_part.
 //
 // A call takes the receiver by value and answers with the receiver afterwards. Each is equal to its
 // definition in `protocol`, for any receiver and any lent buffers, so what `protocol` proves of every
@@ -7,10 +8,11 @@
 // Not here: opening and writing files, and sending the reply; these are the console's.
 pub mod acts;
 pub mod replies;
+pub mod supplies;
 
 ghost use mathlib.Core.Path.{_≡_};
 ghost use Rattle.octets.specs.Outcome.{outcome};
-ghost use Rattle.protocol.specs.Calls.{feeding, feedOf, allowOf, denyOf, dropOf, doneOf, failedOf};
+ghost use Rattle.protocol.specs.Calls.{feeding, feedOf, allowOf, denyOf, dropOf, doneOf, failedOf, unlistedOf};
 ghost use Rattle.protocol.specs.Machine.{ours};
 ghost use Rattle.protocol.specs.Promises.{EveryCall};
 use acts::act;
@@ -24,6 +26,11 @@ use replies::fed;
 use replies::guarded;
 use replies::is_short;
 use replies::refused;
+pub use supplies::home;
+pub use supplies::last_part;
+pub use supplies::list;
+pub use supplies::list_failed;
+pub use supplies::part;
 
 // Takes one piece through the first thing to report. 9 and then 10 consume nothing. What every call
 // promises by itself stands here too: a refused one changes nothing, a feed goes on, replies are short.
@@ -95,4 +102,12 @@ pub fn failed(receiver: Receiver, failure: Failure, reply: &mut [u8]) -> Answere
 {
     let table = receiver.table;
     guarded(receiver, sessions::failed(table, failure), reply)
+}
+
+// The console calls the file that it was asked for "a directory or not listed": reply EINVAL.
+pub fn unlisted(receiver: Receiver, reply: &mut [u8]) -> Answered
+    ensures { λ a. ⌜ outcome a (now (reply .exit)) ≡ unlistedOf receiver (now (reply .entry)) ⌝ }
+{
+    let table = receiver.table;
+    guarded(receiver, sessions::unlisted(table), reply)
 }

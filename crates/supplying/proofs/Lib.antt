@@ -1,0 +1,5 @@
+mod ArrayLaws
+mod HomeLaws
+mod PlaceLaws
+pub mod SupplyLaws
+mod ValueLaws

@@ -1,0 +1,4 @@
+pub mod LongHomes
+pub mod Places
+pub mod Supplied
+pub mod Turns
