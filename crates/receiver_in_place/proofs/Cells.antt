@@ -29,7 +29,7 @@ use Rattle.receiver_in_place.proofs.Elements.{array-length, array-at, a
 
 -- how many bytes a session takes: where the next one lies
 abbrev pub sessionSize : ℕ
-sessionSize = 2120
+sessionSize = 2128
 
 -- ---- the machine values of a receiver, and of its framing, a session and what is owed in it
 abbrev pub vals : Receiver → List Val

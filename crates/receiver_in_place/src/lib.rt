@@ -1,5 +1,5 @@
-// The console's calls on a receiver that is lent and changed where it lies: feed, and answer for the
-// others. Answers, the receiver afterwards and every lent byte are those of the calls by value, for any
+// The console's calls on a receiver that is lent and changed where it lies: feed, supply, and answer for
+// the others. Answers, the receiver afterwards and every lent byte are those of the calls by value, for any
 // receiver and any buffers. A call copies one session out and back, and of the others only their states
 // and ids out.
 //
@@ -7,6 +7,8 @@
 ghost use mathlib.Core.Path.{_≡_};
 ghost use Rattle.octets.specs.Outcome.{outcome};
 ghost use Rattle.protocol.specs.Calls.{feeding, feedOf};
+ghost use Rattle.protocol.specs.Supplies.{supplyOf};
+ghost use Rattle.supplying.specs.Supplied.{supplyIn};
 ghost use Rattle.session_in_place.specs.Calls.{answered, calledOf, fedId};
 ghost use Rattle.session_in_place.specs.Feeds.{fedIn};
 ghost use Rattle.session_in_place.specs.Heads.{headsOf};
@@ -21,6 +23,9 @@ use session_in_place::feeds::act;
 use session_in_place::feeds::hear;
 use session_in_place::heads::Head;
 use session_in_place::heads::Heads;
+use session_in_place::supplies::aim_supply;
+use session_in_place::supplies::supply_in;
+pub use supplying::Supplying;
 
 // ---- The calls. Each is straight on, but for the return of a feed in which no command was read: what
 // is decided, the functions that they call decide.
@@ -98,7 +103,7 @@ pub fn feed<'r, 'p, 'b>(
     }
 }
 
-// Any other call. Done and failed look at no id, a drop at no reply buffer.
+// Any other call but supply. Done, failed and unlisted look at no id, a drop at no reply buffer.
 pub fn answer<'r, 'i, 'b>(
     receiver: &'r mut Receiver,
     call: Call,
@@ -121,8 +126,8 @@ pub fn answer<'r, 'i, 'b>(
     }
 }
 
-// Any other call, by the id of the command that a feed reported: where it lies, in that feed's piece or
-// in the carry.
+// The same, by the id of the command that a feed reported: where it lies, in that feed's piece or in the
+// carry.
 pub fn answer_for<'r, 'p, 'b>(
     receiver: &'r mut Receiver,
     call: Call,
@@ -140,6 +145,38 @@ pub fn answer_for<'r, 'p, 'b>(
     let aim = aim_for(call, owed, heads, fed, piece, carry);
     let i = aim.place;
     let left = answer_at(call, aim.found, receiver.table.sessions[i], owed, reply);
+    receiver.table.sessions[i] = left.session;
+    receiver.table.owed = left.owed;
+    AnsweredInPlace {
+        told: left.told,
+        reply_len: left.reply_len,
+    }
+}
+
+// What is supplied in a receive session: its strings stand in the text and the contents.
+pub fn supply<'r, 's, 'b>(
+    receiver: &'r mut Receiver,
+    supplying: Supplying,
+    text: &'s [u8],
+    contents: &'s [u8],
+    out: &'b mut [u8],
+) -> AnsweredInPlace
+    ensures { λ a. ⌜ outcome (answered (now (receiver .exit)) a) (now (out .exit))
+        ≡ supplyOf (now (receiver .entry)) (supplyIn supplying (now (text .entry)) (now (contents .entry))) (now (out .entry)) ⌝ }
+{
+    let heads = heads_of(receiver);
+    let owed = receiver.table.owed;
+    let aim = aim_supply(supplying, owed, heads, text);
+    let i = aim.place;
+    let left = supply_in(
+        supplying,
+        aim.found,
+        receiver.table.sessions[i],
+        owed,
+        text,
+        contents,
+        out,
+    );
     receiver.table.sessions[i] = left.session;
     receiver.table.owed = left.owed;
     AnsweredInPlace {

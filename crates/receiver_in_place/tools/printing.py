@@ -109,10 +109,17 @@ def split_use(line):
     return out + [f"use {m.group(1)}.{{{', '.join(now)}}}"]
 
 
-def save(function, about, body, callees=(), script=None, crates={}):
-    uses = open(os.path.join(HERE, "uses.txt")).read()
+def named(function, uses):
+    """the `use` lines with what the function answers as F, and what it is called with as K"""
     if function == "feed":
-        uses = uses.replace("AnsweredInPlace as F", "FedInPlace as F").replace("AnsweredInPlace.Laws as F", "FedInPlace.Laws as F")
+        return uses.replace("AnsweredInPlace as F", "FedInPlace as F").replace("AnsweredInPlace.Laws as F", "FedInPlace.Laws as F")
+    if function == "supply":
+        return uses.replace("session_in_place.proofs.Call as K", "supplying.proofs.Supplying as K").replace("session_in_place.proofs.Call.Laws as K", "supplying.proofs.Supplying.Laws as K")
+    return uses
+
+
+def save(function, about, body, callees=(), script=None, crates={}):
+    uses = named(function, open(os.path.join(HERE, "uses.txt")).read())
     own = "".join(callee(s, m, crates.get(s)) for s, m in callees)
     own += f"use {OWN}.{function}.Key.{{name as #f}}\nuse {OWN}.{function} as f\nuse {OWN}.{function}.Statement as stated\nuse {OWN}.{function}.Code as code\n"
     text = f"-- {about}\n-- Printed by tools/{script or function}.py. Assumes nothing.\n" + needed(body, uses) + own + "\n" + body

@@ -1,4 +1,4 @@
-"""Prints the proofs of feed and answer: `python3 crates/receiver_kept/tools/kept.py`, at the top of the project; then `rt fmt`."""
+"""Prints the proofs of feed, answer and supply: `python3 crates/receiver_kept/tools/kept.py`, at the top of the project; then `rt fmt`."""
 import os
 import sys
 
@@ -15,7 +15,7 @@ U8 = "(plain (λ _. u8))"
 
 
 class Kept:
-    """what differs: the answer by value and in place, the definition, and the slices, of which the last are `&mut`"""
+    """what differs: the answer by value and in place, the definition, the type of the call if it has one, and the slices, of which the last are `&mut`"""
 
     def __init__(self, function, whole, part, given, call, slices, lasts, fields, inner):
         self.function, self.whole, self.part, self.given, self.call = function, whole, part, given, call
@@ -24,8 +24,9 @@ class Kept:
 
 def walk(k):
     w = Walk(CRATE, k.function)
-    w.names = {**NAMES, f"protocol::{k.whole}": "R"}
-    kept, result = (6, 7) if k.function == "feed" else (5, 6)
+    w.names = {**NAMES, f"protocol::{k.whole}": "R", "supplying::Supplying": "K"}
+    kept = 2 + bool(k.call) + len(k.slices)
+    result = kept + 1
     own = "fsep (T.the-row .own h (vals h)) " + ("Slices" if not k.call else "(fsep (K.the-row .own k (kval ∷ [])) Slices)")
     w.ctx = ["tokens", "owned"]
     w.say(f"qed W ((‵ (flft κp qp) ⊛ ‵ (flft κb qb) ⊛ ‵ ftrue) ∷ ‵ ({own}) ∷ []) ∵")
@@ -95,23 +96,23 @@ def walk(k):
 
 def printed(k):
     w = walk(k)
-    slots = (["RecS"] + (["CallS"] if k.call else []))
-    dropped = slots + ["ReadS"]
     n = len(k.lasts)
+    read = len(k.slices) - n
+    dropped = ["RecS"] + ["CallS"] * bool(k.call) + ["ReadS"] * read
     refs = "RefT (List ℕ)"
     args = tup(*(["k"] if k.call else []), *(f"y{s}" for s in k.slices))
-    argtype = "".join(f"{t} × (" for t in (["Call"] if k.call else []) + [refs] * len(k.slices)) + "Unit {0}" + ")" * (len(k.slices) + bool(k.call))
+    argtype = "".join(f"{t} × (" for t in [k.call] * bool(k.call) + [refs] * len(k.slices)) + "Unit {0}" + ")" * (len(k.slices) + bool(k.call))
     valtype = "".join("List Val × (" for _ in range(len(k.slices) + 1 + bool(k.call))) + "Unit {0}" + ")" * (len(k.slices) + 1 + bool(k.call))
     values = [f"kval ∷ []"] * bool(k.call) + [f"val y{s} ∷ []" for s in k.slices]
-    rows = " ∷ ".join(["ShrSlice (named 1) κp u8"] + ["MutSlice (named 2) κb u8"] * n) + " ∷ []"
+    rows = " ∷ ".join(["ShrSlice (named 1) κp u8"] * read + ["MutSlice (named 2) κb u8"] * n) + " ∷ []"
     ghost = "((κp, (κb, tt)), (qp, (qb, tt)), tt, x, at)"
-    ends = "sep 𝓤 (sep 𝓤 (A .lft κp qp) (sep 𝓤 (A .lft κb qb) (sem 𝓤 H A ftrue))) "
+    tokens = "sep 𝓤 (A .lft κp qp) (sep 𝓤 (A .lft κb qb) (sem 𝓤 H A ftrue))"
     outs = [f"(D .{f})" for f in k.fields]
     fins = [f"(sem 𝓤 H A (finally u8 (y{s} .name) {o}))" for s, o in zip(k.lasts, outs)]
     nested = fins[-1]
     for f in reversed(fins[:-1]):
         nested = f"(sep 𝓤 {f} {nested})"
-    joins = " ".join(f"move ! ({i} ∷ 0 ∷ []) $ fjoin ! $" for i in range(n, 0, -1)) + " nothing ! $ fjoin ! $" * (2 + bool(k.call))
+    joins = " ".join(f"move ! ({i} ∷ 0 ∷ []) $ fjoin ! $" for i in range(n, 0, -1)) + " nothing ! $ fjoin ! $" * len(dropped)
     head = f"""abbrev RecS : Slot 2
 RecS = plain (λ _. T.the-row)
 
@@ -129,7 +130,7 @@ module _ {GIVEN} {RUN} where
   abbrev Under : Contract 𝓤
   Under = tripleOf 𝓤 H A under.signature (under.spec {X})
 
-module _ {GIVEN} (W : Given 𝓤 H A) {RUN} (κp κb : Lft) (qp qb : Share) (h : Receiver) {'(k : Call) ' if k.call else ''}({' '.join(f'y{s}' for s in k.slices)} : {refs}) where
+module _ {GIVEN} (W : Given 𝓤 H A) {RUN} (κp κb : Lft) (qp qb : Share) (h : Receiver) {f'(k : {k.call}) ' if k.call else ''}({' '.join(f'y{s}' for s in k.slices)} : {refs}) where
 {'  abbrev kval : Val' + chr(10) + '  kval = EL.val K.the-type K′.the-laws k' + chr(10) if k.call else ''}
   abbrev x : Receiver × ({argtype})
   x = (h, {args})
@@ -172,7 +173,7 @@ module _ {GIVEN} (W : Given 𝓤 H A) {RUN} (κp κb : Lft) (qp qb : Share) (h :
   abbrev UnderOwn : ℕ → ℕ → GName → Fml
   UnderOwn ν l δ = fsep (MutRef (named 0) (ν ∷ []) T.the-row .own (lent l δ) (vptr l 0 ∷ [])) {'(fsep (K.the-row .own k (kval ∷ [])) Slices)' if k.call else 'Slices'}
 
-  goes-under : (ν l : ℕ) (δ : GName) → ent 𝓤 (sep 𝓤 (sep 𝓤 (A .lft (ν ∷ []) fullShare) ({ends.strip()[:-0] if False else 'sep 𝓤 (A .lft κp qp) (sep 𝓤 (A .lft κb qb) (sem 𝓤 H A ftrue))'})) (sem 𝓤 H A (UnderOwn ν l δ))) (Under {X} .pre (to-under ν l δ))
+  goes-under : (ν l : ℕ) (δ : GName) → ent 𝓤 (sep 𝓤 (sep 𝓤 (A .lft (ν ∷ []) fullShare) ({tokens})) (sem 𝓤 H A (UnderOwn ν l δ))) (Under {X} .pre (to-under ν l δ))
   goes-under ν l δ = qed W (((‵ (flft (ν ∷ []) fullShare) ⊛ ‵ (flft κp qp) ⊛ ‵ (flft κb qb) ⊛ ‵ ftrue) ⊛ ‵ (UnderOwn ν l δ)) ∷ []) ∵ frame ! $ done !
 
   -- what it ensures, at the last values
@@ -180,7 +181,7 @@ module _ {GIVEN} (W : Given 𝓤 H A) {RUN} (κp κb : Lft) (qp qb : Share) (h :
   Said r g {' '.join(f'z{s}' for s in k.lasts)} = {k.given[3]} ≡ D
 
   exits : {''.join(f'length {o} ≡ length (y{s} .now) → ' for s, o in zip(k.lasts, outs))}Is R.the-row gave (vval ∷ [])
-      → ent 𝓤 ({ends}{nested}) (Post vval)
+      → ent 𝓤 (sep 𝓤 ({tokens}) {nested}) (Post vval)
   exits {' '.join(f'l{s}' for s in k.lasts)} is =
       qed W ((‵ (flft κp qp) ⊛ ‵ (flft κb qb) ⊛ ‵ ftrue) ∷ {''.join(f'‵ (finally u8 (y{s} .name) {o}) ∷ ' for s, o in zip(k.lasts, outs))}[]) ∵
       suffices ! _ (ends-at 𝓤 H A f.ended stayed (f.clauses {X}) W ({ghost}, tt) vval gave {tup(*['tt'] * len(dropped), *(o[1:-1] for o in outs))} {tup(*['tt'] * len(dropped), *(f'l{s}' for s in k.lasts))}) $ says ! refl $ frame ! $
@@ -192,7 +193,7 @@ module _ {GIVEN} (W : Given 𝓤 H A) {RUN} (κp κb : Lft) (qp qb : Share) (h :
     walk was {'k-is ' if k.call else ''}{' '.join(f'room-{s}' for s in k.slices)} =
 """
     rows2 = [("vals", "LL.tells T.the-type T′.the-laws")] + [("EL.vals K.the-type K′.the-laws", "EL.tells K.the-type K′.the-laws")] * bool(k.call)
-    rows2 += [("slice-vals", "shr-slice-tells (named 0) (κs .0) u8")] + [("slice-vals", "mut-slice-tells (named 1) (κs .1 .0) u8")] * n
+    rows2 += [("slice-vals", "shr-slice-tells (named 0) (κs .0) u8")] * read + [("slice-vals", "mut-slice-tells (named 1) (κs .1 .0) u8")] * n
     goes = [f"goes-dropped 𝓤 H A W 2 {s} yes (λ κs x f. refl)" for s in dropped] + [f"goes-gave-slice 𝓤 H A W 2 1 tt {U8}"] * n
     count = len(k.slices) + 1 + bool(k.call)
     passed = " ".join(f"(a{' .1' * i} .0)" for i in range(count))
@@ -201,8 +202,7 @@ module _ {GIVEN} (W : Given 𝓤 H A) {RUN} (κp κb : Lft) (qp qb : Share) (h :
     tail = printing.ending(k.function, 2, rows2, goes, f"walk 𝓤 H A W at-mem run (κs .0) (κs .1 .0) (qs .0) (qs .1 .0) {passed} C Λ fm known-under {ares}", (("under", k.function),))
     body = head + w.text() + "\n" + tail
     uses = open(os.path.join(ROOT, "crates", "receiver_in_place", "tools", "uses.txt")).read().replace("Rattle.receiver_in_place.proofs", "Rattle.receiver_in_place.proofs")
-    if k.function == "feed":
-        uses = uses.replace("AnsweredInPlace as F", "FedInPlace as F").replace("AnsweredInPlace.Laws as F", "FedInPlace.Laws as F")
+    uses = printing.named(k.function, uses)
     uses += f"use Rattle.protocol.specs.declared.Fed.{{Fed}}\nuse Rattle.protocol.specs.declared.Answered.{{Answered}}\nuse {OWN}.Local.{{lend-local, local-back}}\nuse Rattle.protocol.proofs.{k.whole} as R\nuse Rattle.protocol.proofs.{k.whole}.Laws as R′\n"
     at = f"Rattle.receiver_in_place.proofs.{k.function}"
     own = f"use {at} as under\nuse {at}.Symbol as under-def\nuse {at}.Symbol.{{name as #under}}\nuse {at}.Met as under-thm\n"
@@ -213,7 +213,9 @@ module _ {GIVEN} (W : Given 𝓤 H A) {RUN} (κp κb : Lft) (qp qb : Share) (h :
     open(os.path.join(path, "Proof.antt"), "w").write(laid(text))
 
 
-printed(Kept("feed", "Fed", "FedInPlace", ("Feeding", "fed", "feedOf h (yp .now) (yc .now) (ys .now) (yy .now)", "feeding (fedIn g r) zc zs zy"), False, "pcsy", "csy", ("carry", "scratch", "reply"),
+printed(Kept("feed", "Fed", "FedInPlace", ("Feeding", "fed", "feedOf h (yp .now) (yc .now) (ys .now) (yy .now)", "feeding (fedIn g r) zc zs zy"), "", "pcsy", "csy", ("carry", "scratch", "reply"),
              "consumed = f .consumed; report = f .report; told = f .told; command = f .command; «reply_len» = f .«reply_len»"))
-printed(Kept("answer", "Answered", "AnsweredInPlace", ("Outcome Answered", "answer", "calledOf h k (yi .now) (yy .now)", "outcome (answered g r) zy"), True, "iy", "y", ("buffer",),
+printed(Kept("answer", "Answered", "AnsweredInPlace", ("Outcome Answered", "answer", "calledOf h k (yi .now) (yy .now)", "outcome (answered g r) zy"), "Call", "iy", "y", ("buffer",),
+             "told = f .told; «reply_len» = f .«reply_len»"))
+printed(Kept("supply", "Answered", "AnsweredInPlace", ("Outcome Answered", "answer", "supplyOf h (supplyIn k (yt .now) (yc .now)) (yo .now)", "outcome (answered g r) zo"), "Supplying", "tco", "o", ("buffer",),
              "told = f .told; «reply_len» = f .«reply_len»"))

@@ -1,5 +1,6 @@
 // The console of a replay: it allows a session that waits for the user, and answers done to whatever is
-// asked. The receiver lies in one place for a whole piece, and is lent to each call.
+// asked. It supplies nothing, so no receive session comes to ask for a file. The receiver lies in one
+// place for a whole piece, and is lent to each call.
 //
 // The replies of a piece are collected and written together, since a write for each costs more than the
 // reply itself. The receiver stores a reply in the first Reply::ROOM bytes of the reply buffer; behind
@@ -115,10 +116,13 @@ fn planned<'b>(fed: FedInPlace, onward: Onward, len: usize, reply: &'b mut [u8])
 fn call_for(told: Told) -> Call {
     match told {
         Told::Asked => Call::Allow,
+        Told::LastPath => Call::Allow,
         Told::Ask(_) => Call::Done,
         Told::Nothing => Call::Done,
         Told::Refused(_) => Call::Done,
         Told::Ignored => Call::Done,
+        Told::Naming => Call::Done,
+        Told::Path => Call::Done,
         Told::Status(_) => Call::Done,
         Told::Withdrawn => Call::Done,
         Told::Discarded => Call::Done,
@@ -130,10 +134,13 @@ fn call_for(told: Told) -> Call {
 fn is_over(told: Told) -> bool {
     match told {
         Told::Asked => false,
+        Told::LastPath => false,
         Told::Ask(_) => false,
         Told::Nothing => true,
         Told::Refused(_) => true,
         Told::Ignored => true,
+        Told::Naming => true,
+        Told::Path => true,
         Told::Status(_) => true,
         Told::Withdrawn => true,
         Told::Discarded => true,

@@ -1,16 +1,18 @@
--- The two laws of the calls in place: what they do with one session is what the calls by value give, for every receiver of four
+-- The laws of the calls in place: what they do with one session is what the calls by value give, for every receiver of four
 -- sessions.
-use Prim.Native.Nat.{ℕ}
+use Prim.Native.Nat.{ℕ, _≤_}
 use mathlib.Core.Path.{_≡_, refl, sym, _∙_, ap}
 use mathlib.Core.Bool.{Bool, true, false, cond, not}
 use mathlib.Core.List.{List}
+use native.Mathlib.Omega.{arith}
+use borrow.Author.Tests.{ltb-false}
 use lib.ListN.{length}
-use lib.Seq.{set-getD}
+use lib.Seq.{set-out, set-getD}
 use lib.Dec.{ltb}
 use Rattle.octets.specs.Outcome.{Outcome, outcome}
 use Rattle.frames.specs.Calls.{scanOf, textOf}
 use Rattle.frames.specs.declared.Scanned.{Scanned}
-use Rattle.protocol.specs.Table.{noSession, sessionAt, findSession}
+use Rattle.protocol.specs.Table.{sessionRoom, noSession, sessionAt, findSession}
 use Rattle.protocol.specs.Change.{telling}
 use Rattle.protocol.specs.Replies.{replyRoom, noReply, repliedOf}
 use Rattle.protocol.specs.Rule.{decidedBy}
@@ -34,7 +36,9 @@ use Rattle.protocol.specs.Calls.{
   dropOf,
   doneOf,
   failedOf,
+  unlistedOf,
 }
+use Rattle.protocol.specs.Supplies.{Supply, supplyOf}
 use Rattle.protocol.specs.declared.Table.{Table}
 use Rattle.protocol.specs.declared.Receiver.{Receiver}
 use Rattle.protocol.specs.declared.Decision.the-variants as Decision
@@ -47,15 +51,22 @@ use Rattle.sessions.specs.declared.next.Next.{Next}
 use Rattle.receiver.specs.Said.{saidOf, actedOn}
 use Rattle.receiver.specs.declared.acts.Said.{Said}
 use Rattle.receiver.proofs.SaidLaws.{said-acts}
-use Rattle.session_in_place.specs.Heads.{headsOf}
+use Rattle.supplying.specs.Supplied.{supplyIn}
+use Rattle.supplying.specs.Turns as Turns
+use Rattle.supplying.specs.declared.Supplying.{Supplying}
+use Rattle.supplying.specs.declared.Supplied.{Supplied}
+use Rattle.supplying.proofs.SupplyLaws.{putBack, supplied-back}
+use Rattle.session_in_place.specs.Heads.{headsOf, findHead}
 use Rattle.session_in_place.specs.Steps.{placeOf, leaves, leftBy}
 use Rattle.session_in_place.specs.Calls.{answered, calledOf, concerned, isGuarded, nextFor, answerAt}
 use Rattle.session_in_place.specs.Feeds.{unheard, heardIn, Hearing, hearing, scannedHear, hearOf, actOf, Acting, fedIn}
+use Rattle.session_in_place.specs.Supplies.{suppliedBy, supplyAt}
 use Rattle.session_in_place.proofs.Halves.{takes, leftIn, unreadFed, leftFed, reframed}
 use Rattle.session_in_place.specs.declared.Call.{Call}
 use Rattle.session_in_place.specs.declared.Call.the-variants as Call
 use Rattle.session_in_place.specs.declared.steps.Left.{Left}
-use Rattle.session_in_place.proofs.StepLaws.{no-reply, put, steppedBy, call-steps, command-steps}
+use Rattle.session_in_place.proofs.ArrayLaws.{outside}
+use Rattle.session_in_place.proofs.StepLaws.{find-head, no-reply, put, steppedBy, call-steps, command-steps}
 
 -- ---- answer
 -- the receiver with what is left at a place, and the answer
@@ -99,12 +110,50 @@ drops r f s reply e = ap (λ (x : Stepped). replied (r .framing) x reply) e
 pub in-place-answer : (r : Receiver) (k : Call) (id reply : List ℕ) → length (r .table .sessions) ≡ 4
     → (let f = concerned k (r .table .owed) (headsOf (r .table)) id in
     answers r (placeOf f) (answerAt k f (sessionAt (r .table) (placeOf f)) (r .table .owed) reply) ≡ calledOf r k id reply)
-unfolding calledOf allowOf denyOf doneOf failedOf
+unfolding calledOf allowOf denyOf doneOf failedOf unlistedOf
 in-place-answer r Call.Allow id reply e = guards r Call.Allow _ _ reply refl (call-steps Call.Allow (r .table) id e)
 in-place-answer r Call.Deny id reply e = guards r Call.Deny _ _ reply refl (call-steps Call.Deny (r .table) id e)
 in-place-answer r Call.Drop id reply e = drops r _ _ reply (call-steps Call.Drop (r .table) id e) ∙ dropped r id reply
 in-place-answer r Call.Done id reply e = guards r Call.Done _ _ reply refl (call-steps Call.Done (r .table) id e)
 in-place-answer r (Call.Failed w) id reply e = guards r (Call.Failed w) _ _ reply refl (call-steps (Call.Failed w) (r .table) id e)
+in-place-answer r Call.Unlisted id reply e = guards r Call.Unlisted _ _ reply refl (call-steps Call.Unlisted (r .table) id e)
+
+-- ---- supply
+module _ (r : Receiver) (x : Supplying) (text contents out : List ℕ) where
+  abbrev table : Table
+  table = r .table
+
+  abbrev u : Supply
+  u = supplyIn x text contents
+
+  abbrev supplied : ℕ → Found → Outcome Supplied
+  supplied k f = suppliedBy x f (sessionAt table k) (table .owed) text contents out
+
+  abbrev in-place : Found → Outcome Answered
+  in-place f = answers r (placeOf f) (supplyAt x f (sessionAt table (placeOf f)) (table .owed) text contents out)
+
+  -- wherever the session lies that is found, put back at its place
+  supplies : (f : Found) → length (table .sessions) ≡ 4 → in-place f ≡ putBack r (Turns.seatOf f) (supplied (Turns.seatOf f) f)
+  unfolding supplyAt
+  supplies Found.Nowhere e = refl
+  supplies (Found.At i) e = go (ltb i sessionRoom) refl
+    where
+      go : (b : Bool) → ltb i sessionRoom ≡ b → in-place (Found.At i) ≡ putBack r i (supplied i (Found.At i))
+      go true q = rw q
+      go false q =
+          let past : length (table .sessions) ≤ i = omega (arith, ltb-false i 4 q, e) in
+          rw (
+            q,
+            set-getD (table .sessions) 0 noSession,
+            outside (table .sessions) i noSession past,
+            set-out (table .sessions) i _ past,
+          )
+
+  pub in-place-supply : length (table .sessions) ≡ 4
+      → in-place (Turns.concerned x (table .owed) text (findHead (headsOf table))) ≡ supplyOf r u out
+  in-place-supply e =
+      rw (find-head table (Turns.idFor x text) e)
+      (supplies (Turns.concerned x (table .owed) text (findSession table)) e ∙ supplied-back x text contents r out)
 
 -- ---- feed
 module _ (r : Receiver) (piece reply : List ℕ) where

@@ -10,8 +10,8 @@ use Rattle.frames.specs.Calls.{textOf}
 use Rattle.command.specs.Slots.{nowhere}
 use Rattle.protocol.specs.Table.{sessionRoom, noSession}
 use Rattle.protocol.specs.Replies.{replyRoom, noReply}
-use Rattle.protocol.specs.Rule.{doneBy, failedBy, decidedBy}
-use Rattle.protocol.specs.Calls.{allowOf, denyOf, dropOf, doneOf, failedOf}
+use Rattle.protocol.specs.Rule.{doneBy, failedBy, unlistedBy, decidedBy}
+use Rattle.protocol.specs.Calls.{allowOf, denyOf, dropOf, doneOf, failedOf, unlistedOf}
 use Rattle.protocol.specs.declared.Session.{Session}
 use Rattle.protocol.specs.declared.Due.{Due}
 use Rattle.protocol.specs.declared.Due.the-variants as Due
@@ -42,6 +42,7 @@ calledOf r Call.Deny id reply = denyOf r id reply
 calledOf r Call.Drop id reply = outcome (dropOf r id) reply
 calledOf r Call.Done id reply = doneOf r reply
 calledOf r (Call.Failed e) id reply = failedOf r e reply
+calledOf r Call.Unlisted id reply = unlistedOf r reply
 
 -- the answer in place, with the receiver where it lies
 abbrev pub answered : Receiver → AnsweredInPlace → Answered
@@ -62,6 +63,7 @@ concerned Call.Deny o h id = findHead h id
 concerned Call.Drop o h id = findHead h id
 concerned Call.Done o h id = ownerOf o
 concerned (Call.Failed e) o h id = ownerOf o
+concerned Call.Unlisted o h id = ownerOf o
 
 -- ---- its step on the session that is copied out
 -- a drop by value is lent no reply buffer
@@ -71,6 +73,7 @@ isGuarded Call.Deny = true
 isGuarded Call.Drop = false
 isGuarded Call.Done = true
 isGuarded (Call.Failed e) = true
+isGuarded Call.Unlisted = true
 
 -- where no session is concerned
 abbrev pub refusalOf : Call → ℕ
@@ -79,6 +82,7 @@ refusalOf Call.Deny = 12
 refusalOf Call.Drop = 12
 refusalOf Call.Done = 11
 refusalOf (Call.Failed e) = 11
+refusalOf Call.Unlisted = 18
 
 abbrev pub dueOf : Owed → Due
 dueOf Owed.Nothing = Due.Commit
@@ -90,6 +94,7 @@ changeBy Call.Deny s o = decidedBy Decision.Deny s
 changeBy Call.Drop s o = decidedBy Decision.Drop s
 changeBy Call.Done s o = doneBy s (dueOf o)
 changeBy (Call.Failed e) s o = failedBy e s (dueOf o)
+changeBy Call.Unlisted s o = unlistedBy s (dueOf o)
 
 -- of the session at place i, or of free room where i is outside the table
 unfoldable pub nextAt : Call → ℕ → Session → Owed → Next

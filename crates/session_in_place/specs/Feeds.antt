@@ -1,10 +1,11 @@
 -- A feed in two halves: what is heard, without a session, and the step of the one session that is concerned.
 use Prim.Native.Nat.{ℕ}
-use mathlib.Core.Bool.{true, cond, not, _||_}
+use mathlib.Core.Bool.{Bool, true, false, cond, not, _||_}
 use mathlib.Core.List.{List}
 use lib.ListN.{length}
 use lib.Dec.{ltb}
 use Rattle.octets.specs.Outcome.{Outcome, outcome}
+use Rattle.decimal.specs.declared.Number.{Number}
 use Rattle.frames.specs.Stream.{textLimit}
 use Rattle.frames.specs.Calls.{scanOf, textOf}
 use Rattle.frames.specs.declared.Framing.{Framing}
@@ -16,8 +17,9 @@ use Rattle.command.specs.declared.Command.{Command}
 use Rattle.protocol.specs.Table.{isPresent}
 use Rattle.protocol.specs.Actions.{kindOf}
 use Rattle.protocol.specs.Replies.{replyRoom, noReply, sessionReply}
+use Rattle.protocol.specs.Receives.{badPaths}
 use Rattle.protocol.specs.Rule.{obeyedBy}
-use Rattle.protocol.specs.Sessions.{askedSession, idIn, requestIn}
+use Rattle.protocol.specs.Sessions.{askedSession, namingSession, idIn, requestIn}
 use Rattle.protocol.specs.Calls.{isOwed}
 use Rattle.protocol.specs.declared.SessionState.the-variants as SessionState
 use Rattle.protocol.specs.declared.Session.{Session}
@@ -75,7 +77,7 @@ heardBy k x f =
 abbrev pub newSeat : Heads → Kind → Found
 newSeat h Kind.Ignore = Found.Nowhere
 newSeat h Kind.Ask = freeHead h
-newSeat h Kind.Unsupported = Found.Nowhere
+newSeat h Kind.Receive = freeHead h
 newSeat h Kind.Invalid = Found.Nowhere
 newSeat h Kind.Cancel = Found.Nowhere
 newSeat h Kind.Withdraw = Found.Nowhere
@@ -83,6 +85,8 @@ newSeat h Kind.File = Found.Nowhere
 newSeat h Kind.Data = Found.Nowhere
 newSeat h Kind.EndData = Found.Nowhere
 newSeat h Kind.Finish = Found.Nowhere
+newSeat h Kind.Path = Found.Nowhere
+newSeat h Kind.Request = Found.Nowhere
 
 abbrev pub seatAt : Heads → Kind → Found → Found
 seatAt h k Found.Nowhere = newSeat h k
@@ -129,7 +133,7 @@ statusIn s o a w = staying s o (Told.Status w) (sessionReply w a)
 unfoldable pub turnedAway : Session → Owed → Session → Kind → Next
 turnedAway s o a Kind.Ignore = staying s o Told.Ignored noReply
 turnedAway s o a Kind.Ask = statusIn s o a Status.Ebusy
-turnedAway s o a Kind.Unsupported = statusIn s o a Status.Enotsup
+turnedAway s o a Kind.Receive = statusIn s o a Status.Ebusy
 turnedAway s o a Kind.Invalid = staying s o Told.Ignored noReply
 turnedAway s o a Kind.Cancel = staying s o Told.Ignored noReply
 turnedAway s o a Kind.Withdraw = staying s o Told.Ignored noReply
@@ -137,19 +141,43 @@ turnedAway s o a Kind.File = staying s o Told.Ignored noReply
 turnedAway s o a Kind.Data = staying s o Told.Ignored noReply
 turnedAway s o a Kind.EndData = staying s o Told.Ignored noReply
 turnedAway s o a Kind.Finish = staying s o Told.Ignored noReply
+turnedAway s o a Kind.Path = staying s o Told.Ignored noReply
+turnedAway s o a Kind.Request = staying s o Told.Ignored noReply
 
 -- free room at the place is for a new session
-abbrev pub seated : ℕ → Session → Owed → Next
-seated i s o = record { place = i; session = s; owed = o; told = Told.Asked; reply = noReply }
+abbrev pub seated : ℕ → Session → Owed → Told → Next
+seated i s o w = record { place = i; session = s; owed = o; told = w; reply = noReply }
 
-unfoldable pub obeyIn : ℕ → Session → Owed → Command → (text scratch : List ℕ) → Next
-obeyIn i s o c text scratch =
-    cond (not (isPresent (s .state))) (seated i (askedSession (c .quiet) (idIn c text)) o)
+-- one that names paths; the room stays free where their number is bad
+abbrev pub namingIn : ℕ → Session → Owed → Session → Number → Next
+namingIn i s o a n =
+    cond (badPaths n) (statusIn s o a Status.Einval) (seated i (namingSession a (n .magnitude)) o Told.Naming)
+
+abbrev pub isReceive : Kind → Bool
+isReceive Kind.Ignore = false
+isReceive Kind.Ask = false
+isReceive Kind.Receive = true
+isReceive Kind.Invalid = false
+isReceive Kind.Cancel = false
+isReceive Kind.Withdraw = false
+isReceive Kind.File = false
+isReceive Kind.Data = false
+isReceive Kind.EndData = false
+isReceive Kind.Finish = false
+isReceive Kind.Path = false
+isReceive Kind.Request = false
+
+abbrev pub newIn : Kind → ℕ → Session → Owed → Session → Number → Next
+newIn k i s o a n = cond (isReceive k) (namingIn i s o a n) (seated i a o Told.Asked)
+
+unfoldable pub obeyIn : Kind → ℕ → Session → Owed → Command → (text scratch : List ℕ) → Next
+obeyIn k i s o c text scratch =
+    cond (not (isPresent (s .state))) (newIn k i s o (askedSession (c .quiet) (idIn c text)) (c .size))
     (nextBy s i o (c .payload) (obeyedBy s (requestIn c text scratch)))
 
 abbrev pub obeyBy : Kind → Found → Session → Owed → Command → (text scratch : List ℕ) → Next
 obeyBy k Found.Nowhere s o c text scratch = turnedAway s o (askedSession (c .quiet) (idIn c text)) k
-obeyBy k (Found.At i) s o c text scratch = obeyIn i s o c text scratch
+obeyBy k (Found.At i) s o c text scratch = obeyIn k i s o c text scratch
 
 abbrev pub obeyAt : Found → Session → Owed → Command → (text scratch : List ℕ) → Next
 obeyAt f s o c text scratch = obeyBy (kindOf SessionState.Absent (c .action)) f s o c text scratch

@@ -58,7 +58,7 @@ pub fn aim_for<'p, 'b>(
     aim_of(call, owed, heads, octets::part(text, id.start, id.len))
 }
 
-// Allow, deny and drop concern the session with the id, done and failed the one that owes.
+// Allow, deny and drop concern the session with the id, the others the one that owes.
 fn concern(call: Call, owed: Owed, heads: Heads, id: &[u8]) -> Found
     ensures { λ r. ⌜ r ≡ concerned call owed heads (now (id .entry)) ⌝ }
 {
@@ -68,6 +68,7 @@ fn concern(call: Call, owed: Owed, heads: Heads, id: &[u8]) -> Found
         Call::Drop => find(heads, id),
         Call::Done => owner(owed),
         Call::Failed(_) => owner(owed),
+        Call::Unlisted => owner(owed),
     }
 }
 
@@ -116,6 +117,7 @@ fn is_short(call: Call, n: usize) -> bool
         Call::Drop => false,
         Call::Done => n < Reply::ROOM,
         Call::Failed(_) => n < Reply::ROOM,
+        Call::Unlisted => n < Reply::ROOM,
     }
 }
 
@@ -164,6 +166,7 @@ fn change(call: Call, session: Session, owed: Owed) -> Change
         Call::Drop => decisions::decide(Decision::Drop, session),
         Call::Done => answers::done(session, due(owed)),
         Call::Failed(failure) => answers::failed(failure, session, due(owed)),
+        Call::Unlisted => answers::unlisted(session, due(owed)),
     }
 }
 
@@ -177,7 +180,7 @@ fn due(owed: Owed) -> Due
     }
 }
 
-// 11: "done or failed while nothing is owed"; 12 where no session has the id
+// 11: "done or failed while nothing is owed", for which unlisted gets 18; 12 where no session has the id
 fn refusal(call: Call) -> Told
     ensures { λ t. ⌜ t ≡ Told.Refused (refusalOf call) ⌝ }
 {
@@ -187,5 +190,6 @@ fn refusal(call: Call) -> Told
         Call::Drop => Told::Refused(12),
         Call::Done => Told::Refused(11),
         Call::Failed(_) => Told::Refused(11),
+        Call::Unlisted => Told::Refused(18),
     }
 }

@@ -16,6 +16,10 @@ ghost use Rattle.session_in_place.specs.Feeds.{
   hearOf,
   statusIn,
   turnedAway,
+  namingIn,
+  isReceive,
+  seated,
+  newIn,
   obeyIn,
   obeyAt,
   acting,
@@ -29,6 +33,7 @@ use crate::steps::aim_at;
 use crate::steps::stay;
 use command::Action;
 use command::Command;
+use decimal::Number;
 use frames::Framing;
 use frames::Report;
 use frames::Scanned;
@@ -46,6 +51,8 @@ use receiver::replies::is_short;
 use session_rule::actions::look_up;
 use session_rule::replies::session_reply;
 use sessions::absent::asked;
+use sessions::absent::bad_paths;
+use sessions::absent::naming;
 use sessions::find::is_absent;
 use sessions::next::Next;
 
@@ -162,7 +169,7 @@ fn new_seat(heads: Heads, action: Action) -> Found
     match look_up(SessionState::Absent, action) {
         Kind::Ignore => Found::Nowhere,
         Kind::Ask => free(heads),
-        Kind::Unsupported => Found::Nowhere,
+        Kind::Receive => free(heads),
         Kind::Invalid => Found::Nowhere,
         Kind::Cancel => Found::Nowhere,
         Kind::Withdraw => Found::Nowhere,
@@ -170,6 +177,8 @@ fn new_seat(heads: Heads, action: Action) -> Found
         Kind::Data => Found::Nowhere,
         Kind::EndData => Found::Nowhere,
         Kind::Finish => Found::Nowhere,
+        Kind::Path => Found::Nowhere,
+        Kind::Request => Found::Nowhere,
     }
 }
 
@@ -228,7 +237,7 @@ fn obey_at(
     }
 }
 
-// Free room is for a new session, which waits for the user.
+// Free room is for a new session.
 fn obey_in(
     i: usize,
     session: Session,
@@ -237,20 +246,75 @@ fn obey_in(
     text: &[u8],
     scratch: &[u8],
 ) -> Next
-    ensures { λ n. ⌜ n ≡ obeyIn i session owed command (now (text .entry)) (now (scratch .entry)) ⌝ }
+    ensures { λ n. ⌜ n ≡ obeyIn (kindOf SessionState.Absent (command .action)) i session owed command (now (text .entry))
+        (now (scratch .entry)) ⌝ }
 {
     let state = session.state;
     let id = command.id;
+    let action = command.action;
+    let size = command.size;
     if is_absent(state) {
-        return Next {
-            place: i,
-            session: asked(command.quiet, octets::part(text, id.start, id.len)),
-            owed: owed,
-            told: Told::Asked,
-            reply: Reply::NONE,
-        };
+        return begin(
+            look_up(SessionState::Absent, action),
+            i,
+            session,
+            owed,
+            asked(command.quiet, octets::part(text, id.start, id.len)),
+            size,
+        );
     }
     sessions::present(session, i, owed, command, text, scratch)
+}
+
+// One that waits for the user, or a receive session. No other kind comes here.
+fn begin(kind: Kind, i: usize, session: Session, owed: Owed, asked: Session, paths: Number) -> Next
+    ensures { λ n. ⌜ n ≡ newIn kind i session owed asked paths ⌝ }
+{
+    if is_receive(kind) {
+        return name(i, session, owed, asked, paths);
+    }
+    seated(i, asked, owed, Told::Asked)
+}
+
+fn is_receive(kind: Kind) -> bool
+    ensures { λ r. ⌜ r ≡ isReceive kind ⌝ }
+{
+    match kind {
+        Kind::Ignore => false,
+        Kind::Ask => false,
+        Kind::Receive => true,
+        Kind::Invalid => false,
+        Kind::Cancel => false,
+        Kind::Withdraw => false,
+        Kind::File => false,
+        Kind::Data => false,
+        Kind::EndData => false,
+        Kind::Finish => false,
+        Kind::Path => false,
+        Kind::Request => false,
+    }
+}
+
+// It names its paths; where their number is bad, the room stays free.
+fn name(i: usize, session: Session, owed: Owed, asked: Session, paths: Number) -> Next
+    ensures { λ n. ⌜ n ≡ namingIn i session owed asked paths ⌝ }
+{
+    if bad_paths(paths) {
+        return status(session, owed, asked, Status::Einval);
+    }
+    seated(i, naming(asked, paths.magnitude), owed, Told::Naming)
+}
+
+fn seated(i: usize, session: Session, owed: Owed, told: Told) -> Next
+    ensures { λ n. ⌜ n ≡ seated i session owed told ⌝ }
+{
+    Next {
+        place: i,
+        session: session,
+        owed: owed,
+        told: told,
+        reply: Reply::NONE,
+    }
 }
 
 // A command that concerns no session and gets none: "four present: EBUSY", or by the action table.
@@ -274,7 +338,7 @@ fn turn(kind: Kind, session: Session, owed: Owed, absent: Session) -> Next
     match kind {
         Kind::Ignore => stay(session, owed, Told::Ignored, Reply::NONE),
         Kind::Ask => status(session, owed, absent, Status::Ebusy),
-        Kind::Unsupported => status(session, owed, absent, Status::Enotsup),
+        Kind::Receive => status(session, owed, absent, Status::Ebusy),
         Kind::Invalid => stay(session, owed, Told::Ignored, Reply::NONE),
         Kind::Cancel => stay(session, owed, Told::Ignored, Reply::NONE),
         Kind::Withdraw => stay(session, owed, Told::Ignored, Reply::NONE),
@@ -282,6 +346,8 @@ fn turn(kind: Kind, session: Session, owed: Owed, absent: Session) -> Next
         Kind::Data => stay(session, owed, Told::Ignored, Reply::NONE),
         Kind::EndData => stay(session, owed, Told::Ignored, Reply::NONE),
         Kind::Finish => stay(session, owed, Told::Ignored, Reply::NONE),
+        Kind::Path => stay(session, owed, Told::Ignored, Reply::NONE),
+        Kind::Request => stay(session, owed, Told::Ignored, Reply::NONE),
     }
 }
 

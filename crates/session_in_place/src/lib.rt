@@ -6,19 +6,22 @@ pub mod calls;
 pub mod feeds;
 pub mod heads;
 pub mod steps;
+pub mod supplies;
 
 use command::Command;
 use frames::Report;
 use protocol::Failure;
 use protocol::Told;
 
-// The console's calls but feed.
+// The console's calls but feed and supply.
 pub enum Call {
     Allow,
     Deny,
     Drop,
     Done,
     Failed(Failure),
+    // The file that is asked for is a directory or not listed.
+    Unlisted,
 }
 
 // What a feed answers: `Fed` without the receiver.

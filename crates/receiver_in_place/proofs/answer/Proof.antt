@@ -328,7 +328,7 @@ module _ {M : Type 1} (𝓤 : URA M) (H : Heap 𝓤) (A : Atoms 𝓤) (W : Given
         move ! (1 ∷ []) $ peeks ! T.the-row (Is T.the-row) (shows 𝓤 H A T.the-row) h (vals h) (λ was. drop ! $
         -- [cell; open; obs; auth; reply; id; b-token; i-token] and the locals
         assigns ! (of-opd ! (load ! (from ! (hop ! {τ = T′.mir} (look ! 38 refl) (fld ! {τ = B′.mir} {d = 16} refl (fld ! {τ = O′.mir}
-        {d = 8480} refl (stop !))))) (look-in ! 0 {τ = O′.mir} (Places.plain ! {τ = O′.mir} (sub ! 1 {τ = rawTy O′.mir} {d = 8480}
+        {d = 8512} refl (stop !))))) (look-in ! 0 {τ = O′.mir} (Places.plain ! {τ = O′.mir} (sub ! 1 {τ = rawTy O′.mir} {d = 8512}
         refl (sub ! 1 {τ = rawTy B′.mir} {d = 16} refl (whole !))))))) (from ! (stop !)) (init ! 28 {τ = O′.mir} refl (EL.lawful
         O.the-type O′.the-laws 𝓤 H A W tt .typed w₀ _ (owed-is h was) .0)) $
         nothing ! $
@@ -442,15 +442,15 @@ module _ {M : Type 1} (𝓤 : URA M) (H : Heap 𝓤) (A : Atoms 𝓤) (W : Given
         (LL.lawful S.the-type S′.the-laws 𝓤 H A W .typed (d₂ .session) _ (told₂ .0) .0)) $
         rewrite ! 3 (λ (ws : List Val). ‵ (fat fullShare (rawTy T′.mir) b o (mach (gval (h .framing)) ws (oval w₀)))) (us-with (h
         .table .sessions) i₀ (d₂ .session)) refl $
-        assigns ! (of-opd ! (load ! (from ! (fld ! {τ = O′.mir} {d = 2120} refl (stop !))) (look-in ! 25 {τ = O′.mir} (sub ! 1 {τ =
-        O′.mir} {d = 2120} refl (whole !))))) (from ! (hop ! {τ = T′.mir} (look ! 41 refl) (fld ! {τ = B′.mir} {d = 16} refl (fld !
-        {τ = O′.mir} {d = 8480} refl (stop !))))) (store-in ! 3 {τ = O′.mir} (Places.plain ! {τ = O′.mir} (sub ! 1 {τ = rawTy
-        O′.mir} {d = 8480} refl (sub ! 1 {τ = rawTy B′.mir} {d = 16} refl (whole !)))) (EL.lawful O.the-type O′.the-laws 𝓤 H A W tt
+        assigns ! (of-opd ! (load ! (from ! (fld ! {τ = O′.mir} {d = 2128} refl (stop !))) (look-in ! 25 {τ = O′.mir} (sub ! 1 {τ =
+        O′.mir} {d = 2128} refl (whole !))))) (from ! (hop ! {τ = T′.mir} (look ! 41 refl) (fld ! {τ = B′.mir} {d = 16} refl (fld !
+        {τ = O′.mir} {d = 8512} refl (stop !))))) (store-in ! 3 {τ = O′.mir} (Places.plain ! {τ = O′.mir} (sub ! 1 {τ = rawTy
+        O′.mir} {d = 8512} refl (sub ! 1 {τ = rawTy B′.mir} {d = 16} refl (whole !)))) (EL.lawful O.the-type O′.the-laws 𝓤 H A W tt
         .typed (d₂ .owed) _ (told₂ .1 .0) .0)) $
         let answer-is = LL.owes F.the-type F′.the-laws a₂ (told₂ .1 .1 .0, (told₂ .1 .1 .1 .0, tt)) in
-        assigns ! (agg ! (and-then ! (load ! (from ! (fld ! {τ = Y′.mir} {d = 2160} refl (stop !))) (look-in ! 25 {τ = Y′.mir} (sub ! 2
-        {τ = Y′.mir} {d = 2160} refl (whole !)))) (and-then ! (load ! (from ! (fld ! {τ = tyInt w64} {d = 2192} refl (stop !)))
-        (look-in ! 25 (sub ! 3 {τ = tyInt w64} {d = 2192} refl (whole !)))) (no-more !)))) (from ! (stop !)) (init ! 43 {τ =
+        assigns ! (agg ! (and-then ! (load ! (from ! (fld ! {τ = Y′.mir} {d = 2168} refl (stop !))) (look-in ! 25 {τ = Y′.mir} (sub ! 2
+        {τ = Y′.mir} {d = 2168} refl (whole !)))) (and-then ! (load ! (from ! (fld ! {τ = tyInt w64} {d = 2200} refl (stop !)))
+        (look-in ! 25 (sub ! 3 {τ = tyInt w64} {d = 2200} refl (whole !)))) (no-more !)))) (from ! (stop !)) (init ! 43 {τ =
         F′.mir} refl (LL.lawful F.the-type F′.the-laws 𝓤 H A W .typed a₂ _ answer-is .0)) $
         owned ! T.the-row (Is T.the-row) (LL.makes T.the-type T′.the-plain 𝓤 H A) h′ _ (anew h was (h .framing) i₀ (d₂ .session) (d₂
         .owed) (framing-is h was) (told₂ .0) (told₂ .1 .0)) $

@@ -39,6 +39,15 @@ due-requires-2 c κs = search needs
 failed-requires : tie.Need-failed-requires
 failed-requires c κs = search needs
 
+enum-told-5 : tie.Need-enum-told-5
+enum-told-5 c = search needs
+
+due-requires-3 : tie.Need-due-requires-3
+due-requires-3 c κs = search needs
+
+unlisted-requires : tie.Need-unlisted-requires
+unlisted-requires c κs = search needs
+
 returns : tie.Need-returns
 unfolding changeBy
 returns c = rw (c .before .enum-told .given .1) (c .decide .ensures)
@@ -59,6 +68,10 @@ returns-5 : tie.Need-returns-5
 unfolding changeBy
 returns-5 c = rw (c .before .before .before .call .given .1, c .failed .ensures, c .before .due2 .ensures)
 
+returns-6 : tie.Need-returns-6
+unfolding changeBy
+returns-6 c = rw (c .before .before .enum-told5 .given .1, c .unlisted .ensures, c .before .due3 .ensures)
+
 pub change-spec : {M : Type 1} → statement M
 change-spec =
     tie.close
@@ -75,8 +88,12 @@ change-spec =
     enum-known-call
     due-requires-2
     failed-requires
+    enum-told-5
+    due-requires-3
+    unlisted-requires
     returns
     returns-2
     returns-3
     returns-4
-    returns-5)
+    returns-5
+    returns-6)

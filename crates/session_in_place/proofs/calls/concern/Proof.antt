@@ -33,6 +33,12 @@ enum-told-5 c = search needs
 owner-requires-2 : tie.Need-owner-requires-2
 owner-requires-2 c κs = search needs
 
+enum-told-6 : tie.Need-enum-told-6
+enum-told-6 c = search needs
+
+owner-requires-3 : tie.Need-owner-requires-3
+owner-requires-3 c κs = search needs
+
 returns : tie.Need-returns
 unfolding concerned
 returns c = rw (c .before .enum-told .given .1) (c .find .ensures)
@@ -53,6 +59,10 @@ returns-5 : tie.Need-returns-5
 unfolding concerned
 returns-5 c = rw (c .before .enum-told5 .given .1) (c .owner2 .ensures)
 
+returns-6 : tie.Need-returns-6
+unfolding concerned
+returns-6 c = rw (c .before .enum-told6 .given .1) (c .owner3 .ensures)
+
 pub concern-spec : {M : Type 1} → statement M
 concern-spec =
     tie.close
@@ -67,8 +77,11 @@ concern-spec =
     owner-requires
     enum-told-5
     owner-requires-2
+    enum-told-6
+    owner-requires-3
     returns
     returns-2
     returns-3
     returns-4
-    returns-5)
+    returns-5
+    returns-6)

@@ -17,6 +17,9 @@ free-requires c κs = search needs
 enum-told-3 : tie.Need-enum-told-3
 enum-told-3 c = search needs
 
+free-requires-2 : tie.Need-free-requires-2
+free-requires-2 c κs = search needs
+
 enum-told-4 : tie.Need-enum-told-4
 enum-told-4 c = search needs
 
@@ -38,6 +41,12 @@ enum-told-9 c = search needs
 enum-told-10 : tie.Need-enum-told-10
 enum-told-10 c = search needs
 
+enum-told-11 : tie.Need-enum-told-11
+enum-told-11 c = search needs
+
+enum-told-12 : tie.Need-enum-told-12
+enum-told-12 c = search needs
+
 returns : tie.Need-returns
 returns c = rw (← c .before .before .look-up .ensures, c .enum-told .given .1)
 
@@ -45,7 +54,7 @@ returns-2 : tie.Need-returns-2
 returns-2 c = rw (← c .before .before .before .look-up .ensures, c .before .enum-told2 .given .1) (c .free .ensures)
 
 returns-3 : tie.Need-returns-3
-returns-3 c = rw (← c .before .before .look-up .ensures, c .enum-told3 .given .1)
+returns-3 c = rw (← c .before .before .before .look-up .ensures, c .before .enum-told3 .given .1) (c .free2 .ensures)
 
 returns-4 : tie.Need-returns-4
 returns-4 c = rw (← c .before .before .look-up .ensures, c .enum-told4 .given .1)
@@ -68,6 +77,12 @@ returns-9 c = rw (← c .before .before .look-up .ensures, c .enum-told9 .given 
 returns-10 : tie.Need-returns-10
 returns-10 c = rw (← c .before .before .look-up .ensures, c .enum-told10 .given .1)
 
+returns-11 : tie.Need-returns-11
+returns-11 c = rw (← c .before .before .look-up .ensures, c .enum-told11 .given .1)
+
+returns-12 : tie.Need-returns-12
+returns-12 c = rw (← c .before .before .look-up .ensures, c .enum-told12 .given .1)
+
 pub new-seat-spec : {M : Type 1} → statement M
 new-seat-spec =
     tie.close
@@ -77,6 +92,7 @@ new-seat-spec =
     enum-told-2
     free-requires
     enum-told-3
+    free-requires-2
     enum-told-4
     enum-told-5
     enum-told-6
@@ -84,6 +100,8 @@ new-seat-spec =
     enum-told-8
     enum-told-9
     enum-told-10
+    enum-told-11
+    enum-told-12
     returns
     returns-2
     returns-3
@@ -93,4 +111,6 @@ new-seat-spec =
     returns-7
     returns-8
     returns-9
-    returns-10)
+    returns-10
+    returns-11
+    returns-12)

@@ -63,6 +63,18 @@ enum-told-10 c = search needs
 stay-requires-8 : tie.Need-stay-requires-8
 stay-requires-8 c κs = search needs
 
+enum-told-11 : tie.Need-enum-told-11
+enum-told-11 c = search needs
+
+stay-requires-9 : tie.Need-stay-requires-9
+stay-requires-9 c κs = search needs
+
+enum-told-12 : tie.Need-enum-told-12
+enum-told-12 c = search needs
+
+stay-requires-10 : tie.Need-stay-requires-10
+stay-requires-10 c κs = search needs
+
 returns : tie.Need-returns
 unfolding turnedAway
 returns c = rw (c .before .enum-told .given .1) (c .stay .ensures)
@@ -103,6 +115,14 @@ returns-10 : tie.Need-returns-10
 unfolding turnedAway
 returns-10 c = rw (c .before .enum-told10 .given .1) (c .stay8 .ensures)
 
+returns-11 : tie.Need-returns-11
+unfolding turnedAway
+returns-11 c = rw (c .before .enum-told11 .given .1) (c .stay9 .ensures)
+
+returns-12 : tie.Need-returns-12
+unfolding turnedAway
+returns-12 c = rw (c .before .enum-told12 .given .1) (c .stay10 .ensures)
+
 pub turn-spec : {M : Type 1} → statement M
 turn-spec =
     tie.close
@@ -127,6 +147,10 @@ turn-spec =
     stay-requires-7
     enum-told-10
     stay-requires-8
+    enum-told-11
+    stay-requires-9
+    enum-told-12
+    stay-requires-10
     returns
     returns-2
     returns-3
@@ -136,4 +160,6 @@ turn-spec =
     returns-7
     returns-8
     returns-9
-    returns-10)
+    returns-10
+    returns-11
+    returns-12)
