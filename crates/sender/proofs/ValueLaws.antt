@@ -12,7 +12,8 @@ use Rattle.command.specs.Slots.{slotsOf, bytesAt, valuesOf}
 use Rattle.command.specs.declared.Action.{Action}
 use Rattle.command.specs.declared.Action.the-variants as Action
 use Rattle.command.specs.declared.Place.{Place}
-use Rattle.sending.specs.Commands.{valuesWith, sendValues, fileValues, pieceAction, pieceValues, finishValues}
+use Rattle.protocol.specs.Written.{valuesWith, pieceAction, pieceValues}
+use Rattle.sending.specs.Commands.{sendValues, fileValues, finishValues}
 use Rattle.sender.specs.Places.{upTo, after, commandWith, idsOf}
 use Rattle.sender.proofs.IdLaws.{take-least, ids-length, ids-own, ids-file}
 
@@ -37,7 +38,7 @@ at-after l k h = rw (le-leb (32 + k) (length l) h)
 values-with : (a : Action) (p q : Place) (n : ℕ) (u v : Place) (text scratch : List ℕ) {id file name contents : List ℕ}
     → bytesAt text p ≡ Value.bytes id → bytesAt text q ≡ Value.bytes file
     → bytesAt scratch u ≡ Value.bytes name → bytesAt scratch v ≡ Value.bytes contents
-    → valuesOf (commandWith a p q n u v) text scratch ≡ valuesWith a id file n name contents
+    → valuesOf (commandWith a p q n u v) text scratch ≡ valuesWith a id file n name [] contents
 unfolding valuesOf slotsOf
 values-with a p q n u v text scratch e f g h = rw (e, f, g, h, at-none text, at-none scratch)
 

@@ -17,12 +17,13 @@ use Rattle.frames.specs.declared.Report.the-variants as Report
 use Rattle.frames.proofs.CallLaws.{call-report}
 use Rattle.frames.proofs.Follows.{call-follows}
 use Rattle.command.specs.Read.{scratchRoom}
+use Rattle.protocol.specs.Written.{pieceValues}
 use Rattle.protocol.specs.Cuts.{isReport}
 use Rattle.protocol.specs.Files.{partLimit}
 use Rattle.protocol.proofs.CutsReading.{same-reading}
 use Rattle.protocol.proofs.CutsRun.{zeros, textIn}
 use Rattle.sending.specs.Transfers.{currentFile, idOf, fileIdOf, isFresh, withStage, asked, added}
-use Rattle.sending.specs.Commands.{sendValues, pieceValues, finishValues}
+use Rattle.sending.specs.Commands.{sendValues, finishValues}
 use Rattle.sending.specs.Calls.{sendOf, fileOf, pieceOf, finishOf, isIdle, isTaken}
 use Rattle.sending.specs.Calls.{Listening, listening, unheard, reportHeed, scannedHear, hearOf}
 use Rattle.sending.specs.Story.{Call, Event, World, noted, isUnheard, bytesOf, modeAfter}

@@ -9,16 +9,12 @@ use lib.ListN.{length, length-replicate}
 use lib.Dec.{ltb}
 use borrow.Author.Tests.{le-ltb, ltb-false}
 use Rattle.octets.specs.Outcome.{Outcome, outcome}
-use Rattle.frames.specs.Stream.{textLimit}
 use Rattle.frames.specs.Stream as Stream
-use Rattle.command.specs.Keys.{keys}
 use Rattle.command.specs.Values.{Value}
-use Rattle.command.specs.Meaning.{missing}
-use Rattle.command.specs.Canonical.{canonical}
-use Rattle.command.specs.Write.{Checked, checkedOf, Answer, storedText, writtenBy, writeOf}
-use Rattle.command.specs.Framed.{frameRoom, framedBy, framedOf}
-use Rattle.command.proofs.Framed.{written-framed}
+use Rattle.command.specs.Write.{Answer}
+use Rattle.command.specs.Framed.{frameRoom, framedOf}
 use Rattle.protocol.specs.Table.{idRoom}
+use Rattle.protocol.proofs.Frames.{written-same, written-same-bytes}
 use Rattle.sending.specs.Transfers.{idOf, begun}
 use Rattle.sending.specs.Commands.{fileValues}
 use Rattle.sending.specs.Calls.{unwritten, wroteBy, writes, guarded, longRefusal, fileWrites}
@@ -27,36 +23,6 @@ use Rattle.sending.specs.declared.Transfer.{Transfer}
 use Rattle.sending.specs.declared.Sender.{Sender}
 use Rattle.sending.specs.declared.Wrote.{Wrote}
 use Rattle.sending.proofs.CutsRun.{bare, room, moveBy, move, Moves, none, one}
-
--- ---- the writer, with two buffers
-written-alike : (c : List Value) (a b : List ℕ) → textLimit ≤ length a → textLimit ≤ length b → writeOf c a .answer ≡ writeOf c b .answer
-unfolding writeOf
-written-alike c a b p q = go (checkedOf keys c)
-  where
-    long : (l : Bool) → ltb textLimit (length (canonical c)) ≡ l → storedText (canonical c) a .answer ≡ storedText (canonical c) b .answer
-    long true e = rw e
-    long false e =
-        let k : length (canonical c) ≤ textLimit = ltb-false _ _ e in
-        rw (e, le-ltb (length a) (length (canonical c)) (omega arith), le-ltb (length b) (length (canonical c)) (omega arith))
-
-    lacking : (m : Bool) → cond m (outcome (Answer.refused 7) a) (storedText (canonical c) a) .answer
-        ≡ cond m (outcome (Answer.refused 7) b) (storedText (canonical c) b) .answer
-    lacking true = refl
-    lacking false = long (ltb textLimit (length (canonical c))) refl
-
-    go : (x : Checked) → writtenBy x c a .answer ≡ writtenBy x c b .answer
-    go (Checked.fault r) = refl
-    go Checked.fine = lacking (missing c)
-
-framed-alike : (c : List Value) (a b : List ℕ) → frameRoom ≤ length a → frameRoom ≤ length b → framedOf c a .answer ≡ framedOf c b .answer
-unfolding framedOf
-framed-alike c a b p q =
-    rw (le-ltb (length a) frameRoom p, le-ltb (length b) frameRoom q, written-alike c a b (omega arith) (omega arith))
-    (go (writeOf c b .answer))
-  where
-    go : (x : Answer) → framedBy x c a .answer ≡ framedBy x c b .answer
-    go (Answer.written n) = refl
-    go (Answer.refused n) = refl
 
 -- ---- a call, with two senders of the same session and two buffers
 pub record Alike (m : Move) (o o′ : Outcome Wrote) : Type 0 where
@@ -73,17 +39,14 @@ module _ (m : Move) (s : Sender) (out : List ℕ) (enough : frameRoom ≤ length
 
   pub writes-alike : (t′ : Transfer) (c : List Value) → Alike m (writes s t′ c out) (writes (bare t) t′ c room)
   unfolding writes
-  writes-alike t′ c = go (framedOf c out .answer) refl (framedOf c room .answer) refl (framed-alike c out room enough room-enough)
+  writes-alike t′ c =
+      let e = written-same c out room enough room-enough in
+      rw e (go (framedOf c room .answer) e refl)
     where
-      go : (x : Answer) → framedOf c out .answer ≡ x → (y : Answer) → framedOf c room .answer ≡ y → x ≡ y
-          → Alike m (outcome (wroteBy s t′ x) (framedOf c out .buffer)) (outcome (wroteBy (bare t) t′ y) (framedOf c room .buffer))
-      go (Answer.refused n) e (Answer.refused k) f q = let z : n ≡ k = cc in rw z (record { given = refl; transfer = refl })
-      go (Answer.written n) e (Answer.written k) f q =
-          let a = written-framed c out n e .stands in
-          let b = written-framed c room k f .stands in
-          record { given = rw (a, b); transfer = refl }
-      go (Answer.refused n) e (Answer.written k) f q = let z : _≡_ {A = ℕ} 0 1 = cc in absurd (omega arith)
-      go (Answer.written n) e (Answer.refused k) f q = let z : _≡_ {A = ℕ} 0 1 = cc in absurd (omega arith)
+      go : (x : Answer) → framedOf c out .answer ≡ x → framedOf c room .answer ≡ x
+          → Alike m (outcome (wroteBy s t′ x) (framedOf c out .buffer)) (outcome (wroteBy (bare t) t′ x) (framedOf c room .buffer))
+      go (Answer.refused n) e f = record { given = refl; transfer = refl }
+      go (Answer.written n) e f = record { given = rw (written-same-bytes c out room n e f); transfer = refl }
 
   pub file-alike : (id name : List ℕ) (size : ℕ) → Alike m (fileWrites s id name size out) (fileWrites (bare t) id name size room)
   unfolding fileWrites

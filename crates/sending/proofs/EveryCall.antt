@@ -23,13 +23,14 @@ use Rattle.command.specs.Values.{Value}
 use Rattle.command.specs.Read.{scratchRoom}
 use Rattle.command.specs.Framed.{frameRoom}
 use Rattle.protocol.specs.Table.{fileRoom}
+use Rattle.protocol.specs.Written.{pieceValues}
 use Rattle.protocol.specs.Files.{partLimit}
 use Rattle.protocol.specs.declared.Found.{Found}
 use Rattle.protocol.specs.declared.Found.the-variants as Found
 use Rattle.protocol.proofs.Laws.{no-way}
 use Rattle.sending.specs.Transfers.{fileAt, currentFile, idOf, fileIdOf, findFile, isFresh, isOpen, isSending, withStage}
 use Rattle.sending.specs.Transfers.{asked, added}
-use Rattle.sending.specs.Commands.{sendValues, fileValues, pieceValues, finishValues}
+use Rattle.sending.specs.Commands.{sendValues, fileValues, finishValues}
 use Rattle.sending.specs.Calls.{writes, sendOf, fileWrites, fileOf, pieceOf, finishOf, isIdle, isBusy, isTaken, isFound}
 use Rattle.sending.specs.Calls.{unheard, listening, Listening, scannedHear, hearOf}
 use Rattle.sending.specs.Story.{Call, Event, World, afterWriting, isUnheard, afterHearing}

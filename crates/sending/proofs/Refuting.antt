@@ -18,11 +18,12 @@ use Rattle.command.specs.Values.{Value}
 use Rattle.command.specs.Read.{scratchRoom}
 use Rattle.command.specs.Write.{Answer}
 use Rattle.command.specs.Framed.{frameRoom}
+use Rattle.protocol.specs.Written.{pieceValues}
 use Rattle.protocol.specs.Files.{partLimit}
 use Rattle.protocol.proofs.Laws.{no-way, equals-same}
 use Rattle.protocol.proofs.Refuting.{carry₀, scratch₀}
 use Rattle.sending.specs.Transfers.{fileAt}
-use Rattle.sending.specs.Commands.{sendValues, fileValues, pieceValues, finishValues}
+use Rattle.sending.specs.Commands.{sendValues, fileValues, finishValues}
 use Rattle.sending.specs.Calls.{Listening}
 use Rattle.sending.specs.Machine.{Machine}
 use Rattle.sending.specs.Sayings.{Saying, saying}

@@ -32,6 +32,7 @@ readIn (Mark.asked a ∷ m) = readIn m
 readIn (Mark.allow i ∷ m) = readIn m
 readIn (Mark.drop i ∷ m) = readIn m
 readIn (Mark.answer b q ∷ m) = readIn m
+readIn (Mark.wrote p bs ∷ m) = readIn m
 
 -- the last part for the file was answered done
 abbrev pub closesBy : Key → Mark → Bool
@@ -45,6 +46,8 @@ closesBy k (Mark.answer true (Question.asks c Heard.opens)) = false
 closesBy k (Mark.answer true (Question.asks c (Heard.writes p))) = false
 closesBy k (Mark.answer true (Question.asks c (Heard.writesLast p))) = isFor k c
 closesBy k (Mark.answer true (Question.asks c Heard.commits)) = false
+closesBy k (Mark.answer true (Question.asks c Heard.requests)) = false
+closesBy k (Mark.wrote p bs) = false
 
 abbrev pub closedIn : Key → List Mark → Bool
 closedIn k [] = false

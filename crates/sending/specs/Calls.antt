@@ -20,12 +20,13 @@ use Rattle.command.specs.Write.{Answer}
 use Rattle.command.specs.Framed.{frameRoom, framedOf}
 use Rattle.command.specs.declared.Refusal.the-variants as Refusal
 use Rattle.protocol.specs.Table.{fileRoom, idRoom}
+use Rattle.protocol.specs.Written.{pieceValues}
 use Rattle.protocol.specs.Files.{partLimit}
 use Rattle.protocol.specs.declared.Found.{Found}
 use Rattle.protocol.specs.declared.Found.the-variants as Found
 use Rattle.sending.specs.Transfers.{currentFile, idOf, fileIdOf, findFile, isFresh}
 use Rattle.sending.specs.Transfers.{isOpen, isSending, withStage, asked, begun, added}
-use Rattle.sending.specs.Commands.{sendValues, fileValues, pieceValues, finishValues}
+use Rattle.sending.specs.Commands.{sendValues, fileValues, finishValues}
 use Rattle.sending.specs.Heeding.{heeded, heedOf}
 use Rattle.sending.specs.declared.Stage.the-variants as Stage
 use Rattle.sending.specs.declared.Transfer.{Transfer}

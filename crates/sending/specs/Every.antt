@@ -15,9 +15,10 @@ use Rattle.command.specs.Meaning.{Meaning, meaningOf}
 use Rattle.command.specs.Read.{scratchRoom}
 use Rattle.command.specs.Write.{Answer}
 use Rattle.command.specs.Framed.{frameRoom, framedOf}
+use Rattle.protocol.specs.Written.{pieceValues}
 use Rattle.protocol.specs.Files.{partLimit}
 use Rattle.sending.specs.Transfers.{fileAt, sentLimit}
-use Rattle.sending.specs.Commands.{sendValues, fileValues, pieceValues, finishValues}
+use Rattle.sending.specs.Commands.{sendValues, fileValues, finishValues}
 use Rattle.sending.specs.Calls.{Listening, listening, unheard}
 use Rattle.sending.specs.Machine.{Machine}
 use Rattle.sending.specs.Sayings.{Saying, saying}

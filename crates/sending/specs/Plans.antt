@@ -11,9 +11,10 @@ use Rattle.pathname.specs.Name.{validName}
 use Rattle.command.specs.Letters.{isByte}
 use Rattle.command.specs.Values.{Value}
 use Rattle.protocol.specs.Table.{fileRoom}
+use Rattle.protocol.specs.Written.{pieceValues}
 use Rattle.protocol.specs.Files.{partLimit, countLimit}
 use Rattle.protocol.specs.Sound.{IsId}
-use Rattle.sending.specs.Commands.{sendValues, fileValues, pieceValues, finishValues}
+use Rattle.sending.specs.Commands.{sendValues, fileValues, finishValues}
 
 -- a file with its contents, cut as the office cuts them; the size is what its command declares, 0 for nothing
 pub record File : Type 0 where

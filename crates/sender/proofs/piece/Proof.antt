@@ -1,9 +1,9 @@
 use mathlib.Core.Path.{_∙_}
 use lib.ListN.{length}
 use lib.Dec.{ltb}
+use Rattle.protocol.specs.Written.{pieceValues}
 use Rattle.protocol.specs.Files.{partLimit}
 use Rattle.sending.specs.Transfers.{idOf, fileIdOf, currentFile, added}
-use Rattle.sending.specs.Commands.{pieceValues}
 use Rattle.sending.specs.Calls.{isBusy, pieceOf}
 use Rattle.sender.proofs.GateLaws.{gate-refuses, gate-passes, written-as}
 use borrow.Author.Needs.{needs}

@@ -13,12 +13,10 @@ use Rattle.protocol.specs.Calls.{isOwed, Feeding, feedOf}
 use Rattle.protocol.specs.History.{Heard, hearing, hearingMark, Mark, bytesOf, marksOf}
 use Rattle.protocol.specs.Machine.{Call, World}
 use Rattle.protocol.specs.Cuts.{Saying, saying}
-use Rattle.protocol.specs.declared.Failure.the-variants as Failure
 use Rattle.protocol.specs.declared.Told.{Told}
 use Rattle.protocol.specs.declared.Told.the-variants as Told
 use Rattle.protocol.specs.declared.Table.{Table}
 use Rattle.protocol.proofs.Ours.{step}
-use Rattle.protocol.proofs.Promises.{every-call}
 use Rattle.protocol.proofs.Laws.{no-way}
 use Rattle.protocol.proofs.CutsRun.{actOn, reported}
 use Rattle.protocol.proofs.CutsCalls.{Kept, steps, toldAfter}
@@ -28,6 +26,7 @@ use Rattle.sending.proofs.arrival.path.States.{tableOf, owingOf, askedF
 use Rattle.sending.proofs.arrival.path.Texts.{order-means}
 use Rattle.sending.proofs.arrival.path.Paths.{path-append, reach-append, textsAt-append}
 use Rattle.sending.proofs.arrival.receiver.Reads.{sayingFor, ReadAs, read-order}
+use Rattle.sending.proofs.arrival.receiver.Promised.{promised}
 use Rattle.sending.proofs.arrival.line.Line.{Line, Next, nothing, reads-on, taken-first, next-nothing, next-text, next-long}
 use Rattle.sending.proofs.arrival.line.Line.{next-left}
 use Rattle.sending.proofs.arrival.line.Fed.{FedBy, Quiet, Acts, fed-by, consumedOf, replyOf}
@@ -57,6 +56,9 @@ asksIn Saying.nothing = Option.none
 asksIn (Saying.refused n) = Option.none
 asksIn Saying.ignored = Option.none
 asksIn Saying.asked = Option.none
+asksIn Saying.naming = Option.none
+asksIn Saying.path = Option.none
+asksIn Saying.lastPath = Option.none
 asksIn (Saying.asks h) = Option.some h
 asksIn (Saying.status w) = Option.none
 asksIn Saying.withdrawn = Option.none
@@ -68,6 +70,9 @@ hearing-said Told.Nothing scratch = refl
 hearing-said (Told.Refused n) scratch = refl
 hearing-said Told.Ignored scratch = refl
 hearing-said Told.Asked scratch = refl
+hearing-said Told.Naming scratch = refl
+hearing-said Told.Path scratch = refl
+hearing-said Told.LastPath scratch = refl
 hearing-said (Told.Ask a) scratch = refl
 hearing-said (Told.Status w) scratch = refl
 hearing-said Told.Withdrawn scratch = refl
@@ -105,7 +110,7 @@ module _ (id : List ℕ) (done : List Order) (w : World) (there : List ℕ) (n :
       → Next (bytesOf (world .history)) left (textsAt id Point.fresh (done ++ owed)) (textsAt id (reached (done ++ owed)) unread)
       (toldAfter w (consumedOf piece fed))
   fed-next owed unread r =
-      let within = every-call (w .receiver) (r .kept .sized) piece (w .carry) scratch reply id Failure.Eio .feeds .within in
+      let within = promised (w .receiver) (r .kept .sized) piece (w .carry) scratch reply id .feeds .within in
       let cut = taken-first (fed .fed .consumed) n there within in
       reads-on (bytesOf (w .history)) (consumedOf piece fed) left _ _ (rw cut (r .line))
 

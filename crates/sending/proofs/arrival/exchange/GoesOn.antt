@@ -15,9 +15,7 @@ use Rattle.protocol.specs.Sessions.{settleDone, decidedOf}
 use Rattle.protocol.specs.Machine.{Call}
 use Rattle.protocol.specs.declared.Table.{Table}
 use Rattle.protocol.specs.declared.Decision.the-variants as Decision
-use Rattle.protocol.specs.declared.Failure.the-variants as Failure
 use Rattle.protocol.proofs.Ours.{step}
-use Rattle.protocol.proofs.Promises.{every-call}
 use Rattle.protocol.proofs.Laws.{no-way}
 use Rattle.sending.specs.Machine.{ours}
 use Rattle.sending.specs.Plans.{Plan, Order, Fit}
@@ -30,6 +28,7 @@ use Rattle.sending.proofs.arrival.path.States.{tableOf, owingOf}
 use Rattle.sending.proofs.arrival.path.Texts.{order-length}
 use Rattle.sending.proofs.arrival.path.Paths.{path-append}
 use Rattle.sending.proofs.arrival.receiver.Answers.{allow-order, done-order}
+use Rattle.sending.proofs.arrival.receiver.Promised.{promised}
 use Rattle.sending.proofs.arrival.sender.Behind.{heard-sent}
 use Rattle.sending.proofs.arrival.sender.Writes.{wroteAs}
 use Rattle.sending.proofs.arrival.line.Line.{all-told}
@@ -74,7 +73,7 @@ module _ (p : Plan) (fit : Fit p) (e : Exchange) (i : Invariant p e) (r : Roomy 
       go true a =
           let w = e .world in
           let z = i .console .kept .sized in
-          let short = every-call (w .receiver) z [] [] [] reply [] Failure.Eio .dones .short in
+          let short = promised (w .receiver) z [] [] [] reply [] .dones .short in
           let n : doneOf (w .receiver) reply .answer .receiver .table ≡ tableOf (p .id) (next at o) =
           unfold doneOf in guarded-table (w .receiver) (settleDone (w .receiver .table))
           ∙ ap (λ (x : Table). settleDone x .table) t ∙ done-order g a .table in
@@ -83,7 +82,7 @@ module _ (p : Plan) (fit : Fit p) (e : Exchange) (i : Invariant p e) (r : Roomy 
           let w = e .world in
           let z = i .console .kept .sized in
           let k = p .id in
-          let short = every-call (w .receiver) z [] [] [] reply k Failure.Eio .allows .short in
+          let short = promised (w .receiver) z [] [] [] reply k .allows .short in
           let n : allowOf (w .receiver) k reply .answer .receiver .table ≡ tableOf (p .id) (next at o) =
           unfold allowOf in guarded-table (w .receiver) (decidedOf (w .receiver .table) Decision.Allow k)
           ∙ ap (λ (x : Table). decidedOf x Decision.Allow k .table) t ∙ asked-allowed g a in

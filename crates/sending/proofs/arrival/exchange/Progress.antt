@@ -22,15 +22,14 @@ use Rattle.protocol.specs.declared.Table.{Table}
 use Rattle.protocol.specs.declared.Receiver.{Receiver}
 use Rattle.protocol.specs.declared.Stepped.{Stepped}
 use Rattle.protocol.specs.declared.Answered.{Answered}
-use Rattle.protocol.specs.declared.Failure.the-variants as Failure
 use Rattle.protocol.proofs.Ours.{step}
-use Rattle.protocol.proofs.Promises.{every-call}
 use Rattle.sending.specs.Calls.{scannedHear, hearOf}
 use Rattle.sending.specs.Machine.{ours}
 use Rattle.sending.specs.Plans.{Order}
 use Rattle.sending.specs.Exchange.{Exchange, Turn, turn, afterConsole}
 use Rattle.sending.proofs.arrival.path.Points.{Point, next}
 use Rattle.sending.proofs.arrival.path.States.{tableOf, owingOf}
+use Rattle.sending.proofs.arrival.receiver.Promised.{promised}
 use Rattle.sending.proofs.arrival.exchange.Rooms.{Roomy}
 
 -- ---- what is left to do
@@ -91,7 +90,7 @@ module _ (e : Exchange) (r : Roomy e) (free : isOwed (e .world .receiver .table 
   feed-less sized some =
       let w = e .world in
       let f = feedOf (w .receiver) piece (w .carry) scratch reply in
-      let short = every-call (w .receiver) sized piece (w .carry) scratch reply [] Failure.Eio .feeds .short in
+      let short = promised (w .receiver) sized piece (w .carry) scratch reply [] .feeds .short in
       omega (
         arith,
         fed-some some,

@@ -9,10 +9,11 @@ use Rattle.octets.specs.Slices.{equals}
 use Rattle.octets.proofs.Below.{both-test}
 use Rattle.octets.proofs.Compare.{equals-refl}
 use Rattle.command.specs.Meaning.{idOf, fileIdOf}
+use Rattle.protocol.specs.Written.{pieceValues}
 use Rattle.protocol.specs.History.{Command, Heard, Mark, Question}
 use Rattle.protocol.specs.Stretches.{Key, isFor, startAt, since, parts}
 use Rattle.protocol.proofs.Marks.{file-other, part-other, starts-other}
-use Rattle.sending.specs.Commands.{fileValues, pieceValues}
+use Rattle.sending.specs.Commands.{fileValues}
 use Rattle.sending.specs.Plans.{File, joinedWith, contentsOf}
 use Rattle.sending.specs.Arrives.{closesBy, closedIn}
 use Rattle.sending.proofs.arrival.lists.Members.{not-true}
@@ -30,6 +31,7 @@ closes-other k d Heard.opens e = refl
 closes-other k d (Heard.writes p) e = refl
 closes-other k d (Heard.writesLast p) e = e
 closes-other k d Heard.commits e = refl
+closes-other k d Heard.requests e = refl
 
 module _ {k : Key} {c : Command} {got : List ℕ} {closed : Bool} {m : List Mark} where
   -- what is read, asked and answered done after the start

@@ -4,8 +4,9 @@ use mathlib.Core.Path.{_≡_, refl, ap, _∙_}
 use mathlib.Core.Bool.{true, false}
 use mathlib.Core.List.{List, [], _∷_, _++_, append-assoc}
 use Rattle.command.specs.Values.{Value}
+use Rattle.protocol.specs.Written.{pieceValues}
 use Rattle.protocol.specs.History.{Heard, Mark, Question}
-use Rattle.sending.specs.Commands.{fileValues, pieceValues, finishValues}
+use Rattle.sending.specs.Commands.{fileValues, finishValues}
 use Rattle.sending.specs.Plans.{File, Plan, Order, pieceOrders, fileOrders, ordersOf, pieceCommands, fileCommands, commandsOf}
 use Rattle.sending.specs.Arrives.{readIn, Committed}
 use Rattle.sending.proofs.arrival.path.Points.{Sent, Point}

@@ -15,10 +15,11 @@ use Rattle.command.specs.Letters.{isByte}
 use Rattle.command.specs.Values.{Value}
 use Rattle.command.specs.Canonical.{canonical}
 use Rattle.protocol.specs.Table.{fileRoom}
+use Rattle.protocol.specs.Written.{pieceValues}
 use Rattle.protocol.specs.Files.{countLimit}
 use Rattle.protocol.specs.Sound.{IsId}
 use Rattle.protocol.specs.Replies.{statusText, statusValues}
-use Rattle.sending.specs.Commands.{sendValues, fileValues, pieceValues, finishValues}
+use Rattle.sending.specs.Commands.{sendValues, fileValues, finishValues}
 use Rattle.sending.specs.Plans.{Order, FitPiece, AllDiffer}
 
 -- a file of the send: its id, the size that was declared, and how many bytes of it were sent

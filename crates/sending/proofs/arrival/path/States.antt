@@ -49,6 +49,7 @@ keeping id started bytes files =
       quiet = 0;
       id = padded id;
       «id_len» = length id;
+      wanted = 0;
       started = started;
       «done_bytes» = bytes;
       files = files;

@@ -30,6 +30,7 @@ use Rattle.command.specs.declared.Action.the-variants as Action
 use Rattle.command.proofs.Accepted.{Accepted, accepted-writes}
 use Rattle.command.proofs.RoundTrip.{read-written}
 use Rattle.command.proofs.Framed.{means-framed}
+use Rattle.protocol.specs.Written.{valuesWith}
 use Rattle.protocol.specs.Files.{countLimit}
 use Rattle.protocol.specs.Replies.{replyRoom, statusWord, unlessEmpty, sizeText}
 use Rattle.protocol.specs.Sound.{IsId}
@@ -51,7 +52,6 @@ use Rattle.protocol.proofs.StatusText.{
   status-length,
   status-means,
 }
-use Rattle.sending.specs.Commands.{valuesWith}
 use Rattle.sending.specs.Plans.{Order}
 use Rattle.sending.proofs.arrival.path.Points.{Point, Goes, commandAt, textAt, Said, said, replyAt, saidText, saidValues}
 
@@ -109,7 +109,7 @@ module _ {a : Action} {w : List ℕ} (named : Named a w) (id file : List ℕ) (s
   abbrev idFields : List (List ℕ)
   idFields = unlessEmpty (ascii "id") id fidFields
 
-  shows-values : Shows keys (valuesWith a id file size name contents) ((ascii "ac=" ++ w) ∷ idFields)
+  shows-values : Shows keys (valuesWith a id file size name [] contents) ((ascii "ac=" ++ w) ∷ idFields)
   shows-values =
       rw (← unless-some (ascii "ac") w idFields (named .from))
       (shows-text _ _ _ _ w _ (named .shows)
@@ -122,7 +122,7 @@ module _ {a : Action} {w : List ℕ} (named : Named a w) (id file : List ℕ) (s
       (shows-absent _ _ _ _ (shows-absent _ _ _ _
       (shows-text _ _ _ _ (Base64.textOf contents) _ (base64-shown contents bytes) shows-none)))))))))))))))
 
-  values-length : length (canonical (valuesWith a id file size name contents)) ≤ 5600
+  values-length : length (canonical (valuesWith a id file size name [] contents)) ≤ 5600
   unfolding canonical added
   values-length =
       rw (shows-values .fields)
@@ -141,7 +141,7 @@ module _ {a : Action} {w : List ℕ} (named : Named a w) (id file : List ℕ) (s
         key .short,
       ))
 
-  values-fine : Fine (valuesWith a id file size name contents)
+  values-fine : Fine (valuesWith a id file size name [] contents)
   values-fine =
       record {
         kinds = shows-values .fine;

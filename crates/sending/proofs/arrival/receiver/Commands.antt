@@ -1,7 +1,7 @@
 -- A command of the sender, as the receiver reads it: what the session rule sees of it.
 use Prim.Native.Nat.{ℕ}
 use mathlib.Core.Path.{_≡_, refl, sym, ap, _∙_}
-use mathlib.Core.List.{List}
+use mathlib.Core.List.{List, []}
 use native.Mathlib.Omega.{arith}
 use lib.ListN.{length, getD}
 use lib.Dec.{lit≤}
@@ -17,11 +17,11 @@ use Rattle.command.specs.declared.Transmission.{Transmission}
 use Rattle.command.specs.declared.Transmission.the-variants as Transmission
 use Rattle.command.specs.declared.Command.{Command as PlacedCommand}
 use Rattle.command.proofs.Simulation.{read-means}
+use Rattle.protocol.specs.Written.{valuesWith}
 use Rattle.protocol.specs.Sessions.{stringIn, idIn, fileIdIn, requestIn}
 use Rattle.protocol.specs.Files.{Request, request}
 use Rattle.protocol.proofs.Means.{Read, command, refused, string-means, text-read}
 use Rattle.protocol.proofs.CutsRun.{zeros}
-use Rattle.sending.specs.Commands.{valuesWith}
 
 -- ---- a command of the sender, as it is read
 -- what the reading of a text with those values answers
@@ -97,7 +97,7 @@ same-request : (c : PlacedCommand) (a : Action) (size n : ℕ) (f g name name′
 same-request c a size n f g name name′ e₀ e₁ e₂ e₃ e₄ e₅ e₆ e₇ = rw (e₀, e₁, e₂, e₃, e₄, e₅, e₆, e₇)
 
 module _ {text : List ℕ} (a : Action) (id file : List ℕ) (size : ℕ) (name contents : List ℕ)
-    (r : Reading text (valuesWith a id file size name contents)) where
+    (r : Reading text (valuesWith a id file size name [] contents)) where
   abbrev c : PlacedCommand
   c = r .command
 
@@ -105,11 +105,11 @@ module _ {text : List ℕ} (a : Action) (id file : List ℕ) (size : ℕ) (name 
   after = readOf text zeros .buffer
 
   numbers : (n : ℕ) → numberIn (getD (valuesOf c text after) n Value.outside)
-      ≡ numberIn (getD (valuesWith a id file size name contents) n Value.outside)
+      ≡ numberIn (getD (valuesWith a id file size name [] contents) n Value.outside)
   numbers n = ap (λ (v : List Value). numberIn (getD v n Value.outside)) (r .values)
 
   strings : (n : ℕ) → bytesIn (getD (valuesOf c text after) n Value.outside)
-      ≡ bytesIn (getD (valuesWith a id file size name contents) n Value.outside)
+      ≡ bytesIn (getD (valuesWith a id file size name [] contents) n Value.outside)
   strings n = ap (λ (v : List Value). bytesIn (getD v n Value.outside)) (r .values)
 
   pub read-action : c .action ≡ a

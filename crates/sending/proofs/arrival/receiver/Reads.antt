@@ -18,6 +18,7 @@ use Rattle.command.specs.declared.Action.the-variants as Action
 use Rattle.command.specs.declared.Command.{Command as PlacedCommand}
 use Rattle.protocol.specs.Table.{noFile, first, hasId, findSession, findFile}
 use Rattle.protocol.specs.Actions.{kindOf, resultIn}
+use Rattle.protocol.specs.Written.{valuesWith, pieceAction, pieceValues}
 use Rattle.protocol.specs.Replies.{noReply, replyBytes}
 use Rattle.protocol.specs.Change.{change, edited, opens, asks, askOf, telling, stepBy}
 use Rattle.protocol.specs.Files.{Request, opening, writeDue, partLimit, countLimit, passes, endsShort}
@@ -44,7 +45,7 @@ use Rattle.protocol.specs.declared.Told.the-variants as Told
 use Rattle.protocol.specs.declared.Found.the-variants as Found
 use Rattle.protocol.proofs.Laws.{both-false, padded-id}
 use Rattle.protocol.proofs.CutsRun.{zeros, actOn, reported}
-use Rattle.sending.specs.Commands.{valuesWith, sendValues, pieceAction, pieceValues}
+use Rattle.sending.specs.Commands.{sendValues}
 use Rattle.sending.specs.Plans.{Order, FitPiece}
 use Rattle.sending.proofs.arrival.path.Points.{Sent, sent, Point, Goes, Now, textAt, commandAt}
 use Rattle.sending.proofs.arrival.path.States.{recordOf, openSession, aloneIn, tableOf, owingOf}
@@ -83,9 +84,10 @@ heardFor (Due.OpenDirectory j) part = Heard.opens
 heardFor (Due.Write j n) part = Heard.writes part
 heardFor (Due.WriteLast j n) part = Heard.writesLast part
 heardFor Due.Commit part = Heard.commits
+heardFor Due.Request part = Heard.requests
 
 module _ (s : Session) {text : List ℕ} (a : Action) (id file : List ℕ) (size : ℕ) (name contents : List ℕ)
-    (r : Reading text (valuesWith a id file size name contents)) (there : hasId id s ≡ true) where
+    (r : Reading text (valuesWith a id file size name [] contents)) (there : hasId id s ≡ true) where
   abbrev c : PlacedCommand
   c = r .command
 
@@ -124,6 +126,7 @@ module _ (s : Session) {text : List ℕ} (a : Action) (id file : List ℕ) (size
       hears (Due.Write j n) = ap Heard.writes (read-part a id file size name contents r)
       hears (Due.WriteLast j n) = ap Heard.writesLast (read-part a id file size name contents r)
       hears Due.Commit = refl
+      hears Due.Request = refl
 
 -- ---- the rule of the open session, order by order
 module _ (id : List ℕ) (past : List Sent) where
@@ -196,7 +199,7 @@ sends-as id {text} r = acts-as _ acts no-bytes
     t = tableOf id Point.fresh
 
     asked : Action → ℕ → List ℕ → Acted
-    asked a quiet k = acted (absentResult t (askedSession quiet k) (kindOf SessionState.Absent a)) c after
+    asked a quiet k = acted (absentResult t (askedSession quiet k) (c .size) (kindOf SessionState.Absent a)) c after
 
     acts : actOn t (Stream.Told.command text) ≡ acted (telling (aloneIn (askedSession 0 id) Owed.Nothing) Told.Asked) c after
     acts =

@@ -16,11 +16,12 @@ use Rattle.command.specs.Values.{Value}
 use Rattle.command.specs.Write.{Answer}
 use Rattle.command.specs.Framed.{frameRoom, framedOf}
 use Rattle.protocol.specs.Table.{fileRoom}
+use Rattle.protocol.specs.Written.{pieceValues}
 use Rattle.protocol.specs.Files.{partLimit}
 use Rattle.protocol.specs.Sound.{IsId}
 use Rattle.protocol.proofs.Laws.{no-way, padded-id}
 use Rattle.sending.specs.Transfers.{fileIdOf, currentPlace, currentFile, added}
-use Rattle.sending.specs.Commands.{sendValues, fileValues, pieceValues, finishValues}
+use Rattle.sending.specs.Commands.{sendValues, fileValues, finishValues}
 use Rattle.sending.specs.Calls.{withTransfer, unwritten, writes, guarded, isIdle, isBusy, isTaken}
 use Rattle.sending.specs.Calls.{sendOf, fileWrites, fileOf, pieceOf, finishOf}
 use Rattle.sending.specs.Machine.{ours}

@@ -45,6 +45,7 @@ isAnswer (Mark.asked a ∷ m) = false
 isAnswer (Mark.allow i ∷ m) = false
 isAnswer (Mark.drop i ∷ m) = false
 isAnswer (Mark.answer b q ∷ m) = true
+isAnswer (Mark.wrote p bs ∷ m) = false
 
 abbrev isClosed : FileStage → Bool
 isClosed FileStage.Free = false
