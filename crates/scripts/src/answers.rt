@@ -2,12 +2,15 @@
 ghost use mathlib.Core.Path.{_≡_};
 ghost use Rattle.octets.specs.Outcome.{outcome};
 ghost use Rattle.protocol.specs.Calls.{feeding, feedOf};
+ghost use Rattle.protocol.specs.Supplies.{supplyOf};
+ghost use Rattle.supplying.specs.Supplied.{supplyIn};
 ghost use Rattle.session_in_place.specs.Calls.{calledOf};
 use crate::Calls;
 use protocol::Answered;
 use protocol::Fed;
 use protocol::Receiver;
 use receiver_in_place::Call;
+use supplying::Supplying;
 
 impl Calls {
     pub(crate) fn feed<'p, 'b>(
@@ -24,6 +27,24 @@ impl Calls {
         match self {
             Calls::ByValue => receiver::feed(receiver, piece, carry, scratch, reply),
             Calls::InPlace => receiver_kept::feed(receiver, piece, carry, scratch, reply),
+        }
+    }
+
+    // What the console supplies in a receive session.
+    pub(crate) fn supply<'a, 'b>(
+        self,
+        receiver: Receiver,
+        supplying: Supplying,
+        text: &'a [u8],
+        contents: &'a [u8],
+        out: &'b mut [u8],
+    ) -> Answered
+        ensures { λ a. ⌜ outcome a (now (out .exit))
+            ≡ supplyOf receiver (supplyIn supplying (now (text .entry)) (now (contents .entry))) (now (out .entry)) ⌝ }
+    {
+        match self {
+            Calls::ByValue => receiver::supplies::supply(receiver, supplying, text, contents, out),
+            Calls::InPlace => receiver_kept::supply(receiver, supplying, text, contents, out),
         }
     }
 
@@ -53,5 +74,6 @@ fn by_value(receiver: Receiver, call: Call, id: &[u8], reply: &mut [u8]) -> Answ
         Call::Drop => receiver::drop(receiver, id),
         Call::Done => receiver::done(receiver, reply),
         Call::Failed(failure) => receiver::failed(receiver, failure, reply),
+        Call::Unlisted => receiver::unlisted(receiver, reply),
     }
 }

@@ -2,7 +2,9 @@
 use crate::Calls;
 use crate::line;
 use crate::script;
+use crate::supplies;
 use command::Command;
+use command_writer::framed::FRAME_ROOM;
 use frames::Framing;
 use frames::Report;
 use octets::size::least;
@@ -27,6 +29,7 @@ pub struct Console {
     pub carry: usize,
     pub scratch: usize,
     pub reply: usize,
+    pub out: usize,
     pub piece: usize,
     pub piece_len: usize,
     pub report: Report,
@@ -39,6 +42,8 @@ impl Console {
     pub const SCRATCH: usize = Command::SCRATCH_ROOM + 64;
 
     pub const REPLY: usize = Reply::ROOM + 68;
+
+    pub const OUT: usize = FRAME_ROOM + 60;
 }
 
 // A fresh receiver, every buffer lent whole, no feed made yet.
@@ -50,6 +55,7 @@ pub(crate) fn fresh(run: Run, calls: Calls) -> Console {
         carry: Console::CARRY,
         scratch: Console::SCRATCH,
         reply: Console::REPLY,
+        out: Console::OUT,
         piece: 0,
         piece_len: 0,
         report: Report::Nothing,
@@ -65,18 +71,42 @@ pub(crate) fn perform(
     carry: &mut [u8],
     scratch: &mut [u8],
     reply: &mut [u8],
+    out: &mut [u8],
 ) -> Console {
     let letter = script::byte(bytes, at);
     let run = console.run;
     let calls = console.calls;
     match letter {
+        b'n' => anew(run, calls, carry, scratch, reply, out),
+        b'l' | b'g' | b'h' | b'p' | b'z' => supplies::supply(
+            console,
+            bytes,
+            at,
+            carry,
+            scratch,
+            reply,
+            out,
+        ),
+        _ => perform_other(console, bytes, at, n, carry, scratch, reply),
+    }
+}
+
+// An operation that does not touch the buffer out.
+fn perform_other(
+    console: Console,
+    bytes: &[u8],
+    at: usize,
+    n: usize,
+    carry: &mut [u8],
+    scratch: &mut [u8],
+    reply: &mut [u8],
+) -> Console {
+    let letter = script::byte(bytes, at);
+    match letter {
         b'f' => feed(console, bytes, at, n, carry, scratch, reply),
         b't' => text(console, bytes, carry),
         b'y' => numbers(console, octets::part(bytes, at, n)),
-        b'n' => anew(run, calls, carry, scratch, reply),
-        b'c' => lend(console, letter, script::number(bytes, at, 1)),
-        b's' => lend(console, letter, script::number(bytes, at, 1)),
-        b'r' => lend(console, letter, script::number(bytes, at, 1)),
+        b'c' | b's' | b'r' | b'o' => lend(console, letter, script::number(bytes, at, 1)),
         _ => call(console, octets::part(bytes, at, n), carry, scratch, reply),
     }
 }
@@ -97,12 +127,14 @@ fn feed(
     let piece = octets::part(bytes, start, len);
     let fed = feed_lent(console, piece, carry, scratch, reply);
     let told = fed.told;
+    let command = fed.command;
+    let name = command.name;
     let sent = octets::part(reply, 0, fed.reply_len);
-    let called = line::call(run, b'f', fed.consumed, told, sent);
+    let called = line::feed(run, fed.consumed, told, name, sent);
     let next = fed.receiver;
     let report = fed.report;
     Console {
-        run: line::sums(called, carry, scratch, reply),
+        run: line::end(line::sums(called, carry, scratch, reply)),
         receiver: next,
         piece: start,
         piece_len: len,
@@ -163,10 +195,18 @@ fn numbers(console: Console, operation: &[u8]) -> Console {
 }
 
 // Starts anew: a fresh receiver, and the buffers as at first.
-fn anew(run: Run, calls: Calls, carry: &mut [u8], scratch: &mut [u8], reply: &mut [u8]) -> Console {
+fn anew(
+    run: Run,
+    calls: Calls,
+    carry: &mut [u8],
+    scratch: &mut [u8],
+    reply: &mut [u8],
+    out: &mut [u8],
+) -> Console {
     fill(carry);
     fill(scratch);
     fill(reply);
+    fill(out);
     fresh(run, calls)
 }
 
@@ -196,11 +236,16 @@ fn lend(console: Console, letter: u8, n: usize) -> Console {
         } else {
             console.reply
         },
+        out: if letter == b'o' {
+            least(n, Console::OUT)
+        } else {
+            console.out
+        },
         ..console
     }
 }
 
-// Allow, deny, drop, done or failed, which print alike.
+// Allow, deny, drop, done, failed or unlisted, which print alike.
 fn call<'a>(
     console: Console,
     operation: &[u8],
@@ -213,10 +258,10 @@ fn call<'a>(
     let answered = call_lent(console, operation, reply);
     let told = answered.told;
     let sent = octets::part(reply, 0, answered.reply_len);
-    let called = line::call(run, letter, 0, told, sent);
+    let called = line::call(run, letter, told, sent);
     let next = answered.receiver;
     Console {
-        run: line::sums(called, carry, scratch, reply),
+        run: line::end(line::sums(called, carry, scratch, reply)),
         receiver: next,
         ..console
     }
@@ -240,11 +285,12 @@ fn call_of(operation: &[u8]) -> Call {
         b'd' => Call::Deny,
         b'x' => Call::Drop,
         b'k' => Call::Done,
+        b'u' => Call::Unlisted,
         _ => Call::Failed(failure(script::byte(operation, 1))),
     }
 }
 
-fn failure(code: u8) -> Failure {
+pub(crate) fn failure(code: u8) -> Failure {
     match code {
         1 => Failure::Eperm,
         2 => Failure::Eio,

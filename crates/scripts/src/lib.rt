@@ -3,7 +3,9 @@
 mod answers;
 mod console;
 mod line;
+mod operands;
 mod script;
+mod supplies;
 
 use console::Console;
 use streams::Got;
@@ -36,6 +38,7 @@ fn play(calls: Calls, bytes: &[u8]) -> Run {
     let mut carry = [0xA5u8; Console::CARRY];
     let mut scratch = [0xA5u8; Console::SCRATCH];
     let mut reply = [0xA5u8; Console::REPLY];
+    let mut out = [0xA5u8; Console::OUT];
     let mut state = console::fresh(Run::Well, calls);
     let mut at = 0;
     while at < bytes.len() {
@@ -47,7 +50,16 @@ fn play(calls: Calls, bytes: &[u8]) -> Run {
         if n == 0 {
             return line::bad_script(run);
         }
-        state = console::perform(state, bytes, at, n, &mut carry, &mut scratch, &mut reply);
+        state = console::perform(
+            state,
+            bytes,
+            at,
+            n,
+            &mut carry,
+            &mut scratch,
+            &mut reply,
+            &mut out,
+        );
         at += n;
     }
     state.run

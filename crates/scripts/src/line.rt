@@ -7,11 +7,21 @@ use protocol::Status;
 use protocol::Told;
 use streams::Run;
 
-// The letter, the refusal's number, the bytes consumed, what is told, and the reply.
-pub(crate) fn call(run: Run, letter: u8, consumed: usize, told: Told, reply: &[u8]) -> Run {
-    let numbered = run.text(&[letter]).text(b" ").number(refusal(told));
+// A feed: its letter, the refusal's number, the bytes consumed, what is told, with the place of the
+// command's name, and the reply.
+pub(crate) fn feed(run: Run, consumed: usize, told: Told, name: Place, reply: &[u8]) -> Run {
+    let numbered = run.text(b"f ").number(refusal(told));
     let counted = numbered.text(b" ").number(consumed).text(b" ");
-    hex(tell(counted, told).text(b" "), reply)
+    hex(tell(counted, told, name).text(b" "), reply)
+}
+
+// Another call: it consumes nothing and reads no command, and writes a reply or a frame.
+pub(crate) fn call(run: Run, letter: u8, told: Told, written: &[u8]) -> Run {
+    let numbered = run.text(&[letter]).text(b" ").number(refusal(told));
+    hex(
+        tell(numbered.text(b" 0 "), told, Place::NOWHERE).text(b" "),
+        written,
+    )
 }
 
 fn refusal(told: Told) -> usize {
@@ -20,6 +30,9 @@ fn refusal(told: Told) -> usize {
         Told::Nothing => 0,
         Told::Ignored => 0,
         Told::Asked => 0,
+        Told::Naming => 0,
+        Told::Path => 0,
+        Told::LastPath => 0,
         Told::Ask(_) => 0,
         Told::Status(_) => 0,
         Told::Withdrawn => 0,
@@ -28,13 +41,17 @@ fn refusal(told: Told) -> usize {
     }
 }
 
-fn tell(run: Run, told: Told) -> Run {
+// What is told of a command whose name has this place.
+fn tell(run: Run, told: Told, name: Place) -> Run {
     match told {
         Told::Nothing => run.text(b"none"),
         Told::Refused(_) => run.text(b"none"),
         Told::Ignored => run.text(b"ignored"),
         Told::Asked => run.text(b"asked"),
-        Told::Ask(ask) => ask_told(run, ask),
+        Told::Naming => run.text(b"naming"),
+        Told::Path => place(run, b"path:", name),
+        Told::LastPath => place(run, b"lastpath:", name),
+        Told::Ask(ask) => ask_told(run, ask, name),
         Told::Status(status) => status_told(run, status),
         Told::Withdrawn => run.text(b"withdrawn"),
         Told::Discarded => run.text(b"discarded"),
@@ -42,16 +59,17 @@ fn tell(run: Run, told: Told) -> Run {
     }
 }
 
-fn ask_told(run: Run, ask: Ask) -> Run {
+fn ask_told(run: Run, ask: Ask, name: Place) -> Run {
     match ask {
         Ask::Open => run.text(b"open"),
         Ask::Write(part) => place(run, b"write:", part),
         Ask::WriteLast(part) => place(run, b"last:", part),
         Ask::Commit => run.text(b"commit"),
+        Ask::Request => place(run, b"request:", name),
     }
 }
 
-// The start of an empty part is open, and printed as 0.
+// The start of an empty part or name is open, and printed as 0.
 fn place(run: Run, label: &[u8], part: Place) -> Run {
     let start = if part.len == 0 { 0 } else { part.start };
     run.text(label).number(start).text(b":").number(part.len)
@@ -77,13 +95,22 @@ fn status_told(before: Run, status: Status) -> Run {
     }
 }
 
-// The sums of the whole buffers, and the line's end.
+// The sums of the whole buffers that every call prints.
 pub(crate) fn sums<'a>(run: Run, carry: &'a [u8], scratch: &'a [u8], reply: &'a [u8]) -> Run {
     let two = run.text(b" ")
         .number(sum(carry))
         .text(b" ")
         .number(sum(scratch));
-    two.text(b" ").number(sum(reply)).text(b"\n")
+    two.text(b" ").number(sum(reply))
+}
+
+// The sum of one more buffer.
+pub(crate) fn sum_of_out(run: Run, out: &[u8]) -> Run {
+    run.text(b" ").number(sum(out))
+}
+
+pub(crate) fn end(run: Run) -> Run {
+    run.text(b"\n")
 }
 
 // The text of a report.

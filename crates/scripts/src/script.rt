@@ -1,6 +1,7 @@
 // A script: operations one after another, each a letter and its operands.
 ghost use Prim.Native.Nat.{_-_, _≤_};
 ghost use lib.ListN.{length};
+use crate::operands;
 
 // The length of the operation at a place, with its operands, and 0 where there is none.
 pub(crate) fn operation_length(bytes: &[u8], at: usize) -> usize
@@ -28,17 +29,24 @@ fn claimed_length(bytes: &[u8], at: usize) -> usize {
         } else {
             0
         },
+        b'l' => operands::entry_length(bytes, at),
+        b'g' => operands::failure_length(bytes, at),
+        b'h' => operands::home_length(bytes, at),
+        b'p' => 3 + number(bytes, at, 1),
+        b'z' => 3 + number(bytes, at, 1),
         b'k' => 1,
+        b'u' => 1,
         b't' => 1,
         b'n' => 1,
         b'c' => 3,
         b's' => 3,
         b'r' => 3,
+        b'o' => 3,
         _ => 0,
     }
 }
 
-fn is_code(b: u8) -> bool {
+pub(crate) fn is_code(b: u8) -> bool {
     if b < 1 {
         return false;
     }
@@ -60,7 +68,7 @@ pub(crate) fn byte(bytes: &[u8], at: usize) -> u8 {
 }
 
 // The place k after another, or that other where there is none.
-fn after(at: usize, k: usize) -> usize {
+pub(crate) fn after(at: usize, k: usize) -> usize {
     if k <= 18446744073709551615 - at {
         at + k
     } else {

@@ -4,17 +4,18 @@ use lib.ListN.{length}
 use borrow.Author.Needs.{needs}
 use Rattle.frames.specs.Stream.{textLimit}
 use Rattle.command.specs.Read.{scratchRoom}
+use Rattle.command.specs.Framed.{frameRoom}
 use Rattle.protocol.specs.Replies.{replyRoom}
 use Rattle.scripts.proofs.play.Statement.{statement}
 use Rattle.scripts.proofs.play.Tie as tie
 
 abbrev Inv-loop : tie.InvT-loop
-Inv-loop bytes carry₀ scratch₀ reply₀ state₀ at₀ carry scratch reply state at =
+Inv-loop bytes carry₀ scratch₀ reply₀ out₀ state₀ at₀ carry scratch reply out state at =
     (at ≤ length bytes) × (textLimit + 64 ≡ length carry) × (scratchRoom + 64 ≡ length scratch)
-    × (replyRoom + 68 ≡ length reply)
+    × (replyRoom + 68 ≡ length reply) × (frameRoom + 60 ≡ length out)
 
 abbrev μ-loop : tie.MeasureT-loop
-μ-loop bytes carry₀ scratch₀ reply₀ state₀ at₀ carry scratch reply state at = length bytes - at
+μ-loop bytes carry₀ scratch₀ reply₀ out₀ state₀ at₀ carry scratch reply out state at = length bytes - at
 
 bad-script-requires : tie.Need-bad-script-requires Inv-loop μ-loop
 bad-script-requires c κs = search needs
@@ -48,6 +49,9 @@ slice-aggregate-perform-2 c = search needs
 
 slice-aggregate-perform-3 : tie.Need-slice-aggregate-perform-3 Inv-loop μ-loop
 slice-aggregate-perform-3 c = search needs
+
+slice-aggregate-perform-4 : tie.Need-slice-aggregate-perform-4 Inv-loop μ-loop
+slice-aggregate-perform-4 c = search needs
 
 perform-requires : tie.Need-perform-requires Inv-loop μ-loop
 perform-requires c κs = search needs
@@ -84,6 +88,7 @@ play-spec =
     slice-aggregate-perform
     slice-aggregate-perform-2
     slice-aggregate-perform-3
+    slice-aggregate-perform-4
     perform-requires
     add-at
     loop-less

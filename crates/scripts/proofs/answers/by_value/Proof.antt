@@ -33,6 +33,12 @@ enum-known-call c = search needs
 failed-requires : tie.Need-failed-requires
 failed-requires c κs = search needs
 
+enum-told-5 : tie.Need-enum-told-5
+enum-told-5 c = search needs
+
+unlisted-requires : tie.Need-unlisted-requires
+unlisted-requires c κs = search needs
+
 same-length : tie.Need-same-length
 same-length c = search needs
 
@@ -65,6 +71,13 @@ returns-5 : tie.Need-returns-5
 unfolding calledOf
 returns-5 c = rw (c .before .before .before .before .before .call .given .1) (c .before .before .failed .ensures)
 
+same-length-5 : tie.Need-same-length-5
+same-length-5 c = search needs
+
+returns-6 : tie.Need-returns-6
+unfolding calledOf
+returns-6 c = rw (c .before .before .before .before .enum-told5 .given .1) (c .before .before .unlisted .ensures)
+
 pub by-value-spec : {M : Type 1} → statement M
 by-value-spec =
     tie.close
@@ -79,6 +92,8 @@ by-value-spec =
     done-requires
     enum-known-call
     failed-requires
+    enum-told-5
+    unlisted-requires
     same-length
     returns
     same-length-2
@@ -87,4 +102,6 @@ by-value-spec =
     same-length-3
     returns-4
     same-length-4
-    returns-5)
+    returns-5
+    same-length-5
+    returns-6)
