@@ -6,7 +6,7 @@ use std::io::Write;
 
 pub const LONGEST_SCRIPT: usize = 65_536;
 pub(crate) const BAD: &[u8] = b"bad script\n";
-const FILL: u8 = 0xa5;
+pub(crate) const FILL: u8 = 0xa5;
 
 /// A buffer of which the first bytes are lent.
 pub(crate) struct Buffer<const N: usize> {
@@ -48,6 +48,7 @@ pub struct Console {
     carry: Buffer<8256>,
     scratch: Buffer<6208>,
     reply: Buffer<192>,
+    out: Buffer<8256>,
     piece: Vec<u8>,
     report: Answer,
 }
@@ -83,6 +84,7 @@ impl Default for Console {
             carry: Buffer::new(),
             scratch: Buffer::new(),
             reply: Buffer::new(),
+            out: Buffer::new(),
             piece: Vec::new(),
             report: Answer::default(),
         }
@@ -92,7 +94,7 @@ impl Default for Console {
 impl Console {
     /// Does one operation; gives the answer of those that call the receiver.
     pub fn apply(&mut self, op: &Op) -> Option<Answer> {
-        let reply = self.reply.lend();
+        let (reply, out) = (self.reply.lend(), self.out.lend());
         Some(match op {
             Op::Feed(piece) => {
                 self.piece.clone_from(piece);
@@ -105,6 +107,14 @@ impl Console {
             Op::Drop(id) => self.receiver.drop(id),
             Op::Done => self.receiver.done(reply),
             Op::Failed(code) => self.receiver.failed(failure(*code), reply),
+            Op::List(entry) => self.receiver.list(entry, out),
+            Op::ListFailed { id, fid, code } => {
+                self.receiver.list_failed(id, fid, failure(*code), out)
+            }
+            Op::Home { id, path } => self.receiver.home(id, path, out),
+            Op::Part(bytes) => self.receiver.supply(bytes, false, out),
+            Op::LastPart(bytes) => self.receiver.supply(bytes, true, out),
+            Op::Unlisted => self.receiver.unlisted(reply),
             Op::Text | Op::Numbers(_) | Op::Anew | Op::Lend(..) => {
                 self.set(op);
                 return None;
@@ -118,6 +128,7 @@ impl Console {
             Op::Lend(script::Buffer::Carry, len) => self.carry.limit(len),
             Op::Lend(script::Buffer::Scratch, len) => self.scratch.limit(len),
             Op::Lend(script::Buffer::Reply, len) => self.reply.limit(len),
+            Op::Lend(script::Buffer::Out, len) => self.out.limit(len),
             _ => {}
         }
     }
@@ -137,15 +148,18 @@ impl Console {
         &self.carry.bytes
     }
 
-    /// The bytes of an answer's reply.
-    pub fn reply(&self, answer: &Answer) -> &[u8] {
-        &self.reply.bytes[..answer.reply]
+    /// What a call wrote: its reply or, in the buffer out, a frame. No call writes both.
+    pub fn written(&self, answer: &Answer) -> &[u8] {
+        match answer.written {
+            0 => &self.reply.bytes[..answer.reply],
+            len => &self.out.bytes[..len],
+        }
     }
 
     /// Does one operation and adds its line to `out`.
     fn print(&mut self, op: &Op, out: &mut Vec<u8>) {
         if let Some(answer) = self.apply(op) {
-            return self.print_answer(op.letter(), &answer, out);
+            return self.print_answer(op, &answer, out);
         }
         match op {
             Op::Text => {
@@ -158,15 +172,19 @@ impl Console {
         }
     }
 
-    fn print_answer(&self, letter: u8, answer: &Answer, out: &mut Vec<u8>) {
+    fn print_answer(&self, op: &Op, answer: &Answer, out: &mut Vec<u8>) {
         let refusal = answer.refusal.map_or(0, |refusal| refusal as u8);
         // Writing to a vector does not fail.
-        let _ = write!(out, "{} {} {} ", letter as char, refusal, answer.consumed);
+        let _ = write!(out, "{} {} {} ", op.letter() as char, refusal, answer.consumed);
         told(&answer.told, out);
         out.push(b' ');
-        hex(self.reply(answer), out);
+        hex(self.written(answer), out);
         let (carry, scratch, reply) = (self.carry.sum(), self.scratch.sum(), self.reply.sum());
-        let _ = writeln!(out, " {carry} {scratch} {reply}");
+        let _ = write!(out, " {carry} {scratch} {reply}");
+        if op.writes_out() {
+            let _ = write!(out, " {}", self.out.sum());
+        }
+        out.push(b'\n');
     }
 }
 
@@ -185,6 +203,7 @@ fn told(told: &Told, out: &mut Vec<u8>) {
         Told::Asked(_) => "asked",
         Told::Open => "open",
         Told::Commit => "commit",
+        Told::Naming => "naming",
         Told::Withdrawn => "withdrawn",
         Told::Discarded => "discarded",
         Told::Committed => "committed",
@@ -193,12 +212,20 @@ fn told(told: &Told, out: &mut Vec<u8>) {
             status.word()
         }
         Told::Write { start, len, last } => {
-            let start = if len == 0 { 0 } else { start };
-            let _ = write!(out, "{}:{start}:{len}", if last { "last" } else { "write" });
-            ""
+            return place(if last { "last" } else { "write" }, start, len, out)
         }
+        Told::Path { start, len } => return place("path", start, len, out),
+        Told::LastPath { start, len, .. } => return place("lastpath", start, len, out),
+        Told::Request { start, len } => return place("request", start, len, out),
     };
     out.extend_from_slice(word.as_bytes());
+}
+
+/// What is told with a place in the scratch. Where it is empty its start is open, so it is shown as 0.
+fn place(word: &str, start: usize, len: usize, out: &mut Vec<u8>) {
+    let start = if len == 0 { 0 } else { start };
+    // Writing to a vector does not fail.
+    let _ = write!(out, "{word}:{start}:{len}");
 }
 
 pub(crate) fn hex(bytes: &[u8], out: &mut Vec<u8>) {

@@ -1,7 +1,8 @@
 //! The notation of the papers' examples.
 
-use crate::receiver::base64;
-use crate::sender::script::Op;
+use crate::receiver::{base64, Entry};
+use crate::script::{Buffer, Op};
+use crate::sender::script as sender;
 
 /// The bytes of an example: `^[` is 1B, `<hh>` the byte hh, `{A*n}` A n times. Panics at what is no notation.
 pub fn bytes(notation: &str) -> Vec<u8> {
@@ -36,7 +37,8 @@ pub fn bytes(notation: &str) -> Vec<u8> {
 }
 
 /// The call of an item of order 1's page; the session of a status is `m`. Panics at what is no item.
-pub fn sender_call(item: &str) -> Op {
+pub fn sender_call(item: &str) -> sender::Op {
+    use sender::Op;
     let (word, operand) = item.split_once(' ').unwrap_or((item, ""));
     match word {
         "snd" => Op::Send(bytes(operand)),
@@ -68,4 +70,48 @@ fn status(notation: &str) -> Vec<u8> {
         }
     }
     format!("\x1b]{text}\x1b\\").into_bytes()
+}
+
+/// The operations of a console call of the readings and of order 6's page; `short` before it lends its buffer a byte too short.
+/// Panics at what is no call.
+pub fn receiver_call(text: &str) -> Vec<Op> {
+    let Some(short) = text.strip_prefix("short ") else {
+        return vec![call(text)];
+    };
+    let op = call(short);
+    let (buffer, least) = if op.writes_out() { (Buffer::Out, 8196) } else { (Buffer::Reply, 124) };
+    vec![Op::Lend(buffer, least - 1), op, Op::Lend(buffer, u16::MAX)]
+}
+
+fn code(word: &str) -> u8 {
+    let codes = ["EPERM", "EIO", "ENOENT", "ENOSPC"];
+    1 + codes.iter().position(|&code| code == word).unwrap() as u8
+}
+
+fn call(text: &str) -> Op {
+    let (word, operand) = text.split_once(' ').unwrap_or((text, ""));
+    let operands: Vec<Vec<u8>> = operand.split(' ').map(bytes).collect();
+    match (word, &operands[..]) {
+        ("allow", [id]) => Op::Allow(id.clone()),
+        ("deny", [id]) => Op::Deny(id.clone()),
+        ("drop", [id]) => Op::Drop(id.clone()),
+        ("done", _) => Op::Done,
+        ("failed", _) => Op::Failed(code(operand)),
+        ("list", [id, path_id, own_id, name]) => Op::List(Entry {
+            id: id.clone(),
+            path_id: path_id.clone(),
+            own_id: own_id.clone(),
+            name: name.clone(),
+            ..Entry::default()
+        }),
+        ("nolist", [id, fid, word]) => {
+            let code = code(std::str::from_utf8(word).unwrap());
+            Op::ListFailed { id: id.clone(), fid: fid.clone(), code }
+        }
+        ("home", [id, path]) => Op::Home { id: id.clone(), path: path.clone() },
+        ("part", [bytes]) => Op::Part(bytes.clone()),
+        ("last", [bytes]) => Op::LastPart(bytes.clone()),
+        ("unlisted", _) => Op::Unlisted,
+        _ => panic!("no such call: {text}"),
+    }
 }

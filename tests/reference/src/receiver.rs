@@ -7,18 +7,21 @@ mod integer;
 pub mod name;
 #[cfg(test)]
 mod order05;
+mod receives;
 mod reply;
 mod rules;
 pub mod scan;
 mod session;
+mod supplies;
 mod utf8;
 
 pub use reply::Status;
 pub use session::{Id, Numbers};
+pub use supplies::Entry;
 
 use frames::{Found, Frames};
 use reply::Reply;
-use session::{SessionState, Table};
+use session::Table;
 
 pub const LONGEST_TEXT: usize = 8192;
 pub const LONGEST_ID: usize = 32;
@@ -27,7 +30,7 @@ pub const CARRY: usize = 8192;
 pub const SCRATCH: usize = 6144;
 pub const REPLY: usize = 124;
 
-/// Why a call or a text was refused, with the numbers of document 01, for values of order 4, and of a sender's calls.
+/// Why a call or a text was refused, with the numbers of document 01, for values of order 4, and of orders 1 and 6.
 #[derive(Clone, Copy, Debug, PartialEq)]
 #[repr(u8)]
 pub enum Refusal {
@@ -50,9 +53,9 @@ pub enum Refusal {
     AnswerOwed = 10,
     NothingOwed = 11,
     WrongSession = 12,
-    /// Order 1's: a call past a limit, or with an id that is taken.
+    /// A call past a limit, or of a sender with an id that is taken.
     PastLimit = 17,
-    /// Order 1's: a call that is not ready to be made.
+    /// A call that is not ready to be made, or out of turn.
     NotReady = 18,
 }
 
@@ -85,6 +88,24 @@ pub enum Told {
         last: bool,
     },
     Commit,
+    /// A receive session is to name its paths.
+    Naming,
+    /// A path; its name is `len` scratch bytes from `start`, as of those below.
+    Path {
+        start: usize,
+        len: usize,
+    },
+    /// The last path: the user is asked about the session.
+    LastPath {
+        id: Id,
+        start: usize,
+        len: usize,
+    },
+    /// A file is asked for.
+    Request {
+        start: usize,
+        len: usize,
+    },
     Withdrawn,
     Discarded,
     Committed,
@@ -99,6 +120,8 @@ pub struct Answer {
     pub told: Told,
     /// The reply's length, 0 for none.
     pub reply: usize,
+    /// The length of what was written into the buffer out, 0 for nothing.
+    pub written: usize,
     pub text: Place,
 }
 
@@ -135,9 +158,19 @@ impl Failure {
 /// The ask that waits for the console's answer, with the places of its session and file.
 #[derive(Clone, Copy, Debug)]
 enum Owed {
-    Open { session: usize, file: usize },
+    Open {
+        session: usize,
+        file: usize,
+    },
     Write(Part),
-    Commit { session: usize },
+    Commit {
+        session: usize,
+    },
+    /// A file of a receive session, by the id it was asked for with.
+    Request {
+        session: usize,
+        fid: Id,
+    },
 }
 
 /// A part of a file that the console is to write.
@@ -153,6 +186,7 @@ impl Owed {
     fn session(self) -> usize {
         match self {
             Owed::Open { session, .. } | Owed::Commit { session } => session,
+            Owed::Request { session, .. } => session,
             Owed::Write(part) => part.session,
         }
     }
@@ -230,11 +264,11 @@ impl Receiver {
             return Answer::refused(Refusal::WrongSession);
         };
         let session = self.sessions.at(place);
-        if session.state != SessionState::Asked {
+        let Some(allowed) = session.state.allowed() else {
             return Answer::refused(Refusal::WrongSession);
-        }
+        };
         if status == Status::Ok {
-            session.state = SessionState::Open;
+            session.state = allowed;
         } else {
             session.clear();
         }
@@ -269,11 +303,18 @@ impl Receiver {
         if reply.len() < REPLY {
             return Answer::refused(Refusal::ShortBuffer);
         }
+        // A request is answered with its last part.
+        if failure.is_none() && matches!(self.owed, Some(Owed::Request { .. })) {
+            return Answer::refused(Refusal::NotReady);
+        }
         match self.owed.take() {
             None => Answer::refused(Refusal::NothingOwed),
             Some(Owed::Open { session, file }) => self.answer_open(session, file, failure, reply),
             Some(Owed::Write(part)) => self.answer_write(part, failure, reply),
             Some(Owed::Commit { session }) => self.answer_commit(session, failure, reply),
+            Some(Owed::Request { session, fid }) => {
+                self.answer_request(session, fid, failure.unwrap_or(Status::Invalid), reply)
+            }
         }
     }
 

@@ -1,4 +1,5 @@
-//! Replays a recording: every session allowed at once, every ask answered done, replies kept.
+//! Replays a recording: every session allowed at once, every ask answered done, replies kept. A receive session is supplied nothing,
+//! so no file is ever asked for.
 
 use crate::receiver::{Answer, Receiver, Told, CARRY, REPLY, SCRATCH};
 
@@ -30,7 +31,9 @@ impl Replay {
             bytes = &bytes[answer.consumed..];
             self.keep(&answer, out);
             let next = match answer.told {
-                Told::Asked(id) => self.receiver.allow(id.bytes(), &mut self.reply),
+                Told::Asked(id) | Told::LastPath { id, .. } => {
+                    self.receiver.allow(id.bytes(), &mut self.reply)
+                }
                 Told::Open | Told::Write { .. } | Told::Commit => {
                     self.receiver.done(&mut self.reply)
                 }

@@ -3,15 +3,14 @@
 pub mod console;
 mod heed;
 pub mod script;
-mod writer;
 
 use crate::receiver::frames::{Found, Frames};
 use crate::receiver::{command, text, Id, Place, Refusal, CARRY, SCRATCH};
+use crate::writer::{room, Command};
 use std::ops::Range;
-use writer::Command;
 
-/// The shortest buffer that a command is written into.
-pub const OUT: usize = 8196;
+pub use crate::writer::OUT;
+
 pub const LARGEST_PIECE: usize = 4096;
 pub const MOST_FILES: usize = 32;
 
@@ -97,10 +96,6 @@ impl Default for Sender {
     }
 }
 
-fn room(out: &[u8]) -> Result<(), Refusal> {
-    (out.len() >= OUT).then_some(()).ok_or(Refusal::ShortBuffer)
-}
-
 fn within(limits: bool) -> Result<(), Refusal> {
     limits.then_some(()).ok_or(Refusal::PastLimit)
 }
@@ -138,8 +133,9 @@ impl Sender {
         room(out)?;
         within(self.files.len() < MOST_FILES && self.find(fid).is_none())?;
         ready(self.between_files())?;
-        let id = self.id.bytes();
-        let len = Command { action: "file", id, fid, size, name, data: b"" }.write(out)?;
+        let (id, rest) = (self.id.bytes(), Command::default());
+        let len =
+            Command { action: "file", id, fid, size: size.into(), name, ..rest }.write(out)?;
         self.files.push(File { stage: FileStage::Sending, sent: 0, id: taken(fid) });
         Ok(len)
     }

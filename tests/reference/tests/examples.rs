@@ -1,11 +1,14 @@
 //! Runs the examples of the papers through the reference. Each line's expected side was copied from
 //! a paper, or for document 01's cases written from its rules; none was made by the program.
 
+mod running;
+
 use reference::console::{self, Console};
 use reference::notation::bytes;
-use reference::receiver::{base64, command, name, Answer, Numbers, Refusal, Told};
+use reference::receiver::{base64, command, name, Numbers};
 use reference::replay::Replay;
 use reference::script::{self, Op};
+use running::{run, run_on};
 
 fn read(text: &str) -> String {
     let mut scratch = [0; 6144];
@@ -30,100 +33,6 @@ fn carry(pieces: &str) -> Vec<u8> {
     let carry = console.carry();
     let len = carry.iter().rposition(|&b| b != 0xa5).map_or(0, |last| last + 1);
     carry[..len].to_vec()
-}
-
-fn effect(answer: &Answer, quiet_word: &str) -> String {
-    if let Some(refusal) = answer.refusal {
-        return format!("refused {}", refusal as u8);
-    }
-    let word = match answer.told {
-        Told::Nothing => quiet_word,
-        Told::Ignored => "ignored",
-        Told::Asked(_) => "asked",
-        Told::Open => "ask open",
-        Told::Write { last: false, .. } => "ask write",
-        Told::Write { last: true, .. } => "ask write_last",
-        Told::Commit => "ask commit",
-        Told::Withdrawn => "withdrawn",
-        Told::Discarded => "discarded",
-        Told::Committed => "committed",
-        Told::Status(_) => "status",
-    };
-    word.to_string()
-}
-
-/// WORD, `/fid` if it has one, `=sz` if it has one.
-fn reply(bytes: &[u8]) -> String {
-    let text = std::str::from_utf8(bytes).unwrap();
-    let text = text.strip_prefix("\x1b]5113;ac=status;").unwrap().strip_suffix("\x1b\\").unwrap();
-    let value =
-        |key: &str| text.split(';').find_map(|field| field.strip_prefix(key)?.strip_prefix('='));
-    let st = value("st").unwrap().as_bytes();
-    let mut word = vec![0; base64::check(st).unwrap()];
-    base64::decode(st, &mut word);
-    let fid = value("fid").map_or(String::new(), |fid| format!("/{fid}"));
-    let size = value("sz").map_or(String::new(), |size| format!("={size}"));
-    format!("{}{fid}{size}", String::from_utf8(word).unwrap())
-}
-
-fn shown(console: &Console, answer: &Answer, quiet_word: &str) -> String {
-    let effect = effect(answer, quiet_word);
-    match console.reply(answer) {
-        [] => effect,
-        bytes => format!("{effect} {}", reply(bytes)),
-    }
-}
-
-fn call(text: &str) -> Op {
-    let (word, operand) = text.split_once(' ').unwrap_or((text, ""));
-    match word {
-        "allow" => Op::Allow(bytes(operand)),
-        "deny" => Op::Deny(bytes(operand)),
-        "drop" => Op::Drop(bytes(operand)),
-        "done" => Op::Done,
-        "failed" => {
-            let codes = ["EPERM", "EIO", "ENOENT", "ENOSPC"];
-            Op::Failed(1 + codes.iter().position(|&code| code == operand).unwrap() as u8)
-        }
-        _ => panic!("no such call: {text}"),
-    }
-}
-
-/// Feeds a piece until it is consumed.
-fn feed(console: &mut Console, mut piece: Vec<u8>) -> String {
-    let mut reports = Vec::new();
-    loop {
-        let answer = console.apply(&Op::Feed(piece.clone())).unwrap();
-        if answer.refusal.is_some() || answer.told != Told::Nothing {
-            reports.push(shown(console, &answer, "-"));
-        }
-        piece.drain(..answer.consumed);
-        let stuck = matches!(answer.refusal, Some(Refusal::ShortBuffer | Refusal::AnswerOwed));
-        if piece.is_empty() || stuck {
-            break;
-        }
-    }
-    if reports.is_empty() {
-        reports.push("-".into());
-    }
-    reports.join(" + ")
-}
-
-fn run(items: &str) -> String {
-    run_on(&mut Console::default(), items)
-}
-
-fn run_on(console: &mut Console, items: &str) -> String {
-    let results = items.split(" | ").map(|item| {
-        match item.strip_prefix('[').and_then(|item| item.strip_suffix(']')) {
-            Some(text) => {
-                let answer = console.apply(&call(text)).unwrap();
-                shown(console, &answer, "ok")
-            }
-            None => feed(console, bytes(item)),
-        }
-    });
-    results.collect::<Vec<String>>().join(" | ")
 }
 
 /// Replays the recording in pieces of each of several sizes; the replies must be the same.
@@ -349,7 +258,7 @@ fn the_33rd_file() {
 #[test]
 fn bad_scripts() {
     for (script, expected) in [
-        (&b"z"[..], "bad script\n"),
+        (&b"Z"[..], "bad script\n"),
         (b"e\x05", "bad script\n"),
         (b"f\x02\x00a", "bad script\n"),
         (b"y\x00y\x02m", "y none\nbad script\n"),

@@ -40,7 +40,7 @@ impl Status {
         }
     }
 
-    fn held_back(self, quiet: u8) -> bool {
+    pub(super) fn held_back(self, quiet: u8) -> bool {
         let good =
             matches!(self, Status::Ok | Status::Started | Status::Progress | Status::Canceled);
         quiet == 2 || quiet == 1 && good

@@ -6,7 +6,7 @@ use super::reply::{Reply, Status};
 use super::session::{File, FileState, Id, Session, SessionState};
 use super::{Answer, Owed, Part, Receiver, Told};
 
-const LARGEST_PART: usize = 4096;
+pub(super) const LARGEST_PART: usize = 4096;
 const LARGEST_FILE: u64 = 1 << 40;
 const PERMISSIONS: std::ops::RangeInclusive<i64> = 0..=4095;
 
@@ -16,7 +16,12 @@ fn about_session(quiet: u8, id: &[u8], status: Status, reply: &mut [u8]) -> usiz
 }
 
 /// The answer whose only outcome is the status of a file command, with no record made.
-fn refuse_file(session: &Session, fid: &[u8], status: Status, reply: &mut [u8]) -> Answer {
+pub(super) fn refuse_file(
+    session: &Session,
+    fid: &[u8],
+    status: Status,
+    reply: &mut [u8],
+) -> Answer {
     let id = session.id.bytes();
     let len = Reply { quiet: session.quiet, id, fid, size: 0, status }.write(reply);
     Answer::told(Told::Status(status), len)
@@ -80,6 +85,12 @@ impl Receiver {
             Some((place, SessionState::Open)) => {
                 self.in_open(place, action, command, scratch, reply)
             }
+            Some((place, state @ (SessionState::Listing | SessionState::Serving))) => {
+                self.in_open_receive(place, state, action, command, reply)
+            }
+            Some((place, SessionState::Naming)) if action == Action::File => {
+                self.path(place, command, scratch, reply)
+            }
             Some((place, _)) if action == Action::Cancel => {
                 self.end(place, Told::Withdrawn, Some(Status::Canceled), reply)
             }
@@ -96,7 +107,10 @@ impl Receiver {
                 }
                 _ => Status::Busy,
             },
-            Action::Receive => Status::NotSupported,
+            Action::Receive => match self.receive(command) {
+                None => return Answer::told(Told::Naming, 0),
+                Some(status) => status,
+            },
             _ => return Answer::told(Told::Ignored, 0),
         };
         let len = about_session(command.quiet, command.id, status, reply);
@@ -112,12 +126,7 @@ impl Receiver {
         reply: &mut [u8],
     ) -> Answer {
         match action {
-            Action::Send | Action::Receive => {
-                let session = self.sessions.at(place);
-                let id = session.id.bytes();
-                let len = about_session(session.quiet, id, Status::Invalid, reply);
-                Answer::told(Told::Status(Status::Invalid), len)
-            }
+            Action::Send | Action::Receive => self.begun(place, reply),
             Action::File => self.file(place, command, scratch, reply),
             Action::Data => self.part(place, command, false, reply),
             Action::EndData => self.part(place, command, true, reply),
@@ -125,6 +134,13 @@ impl Receiver {
             Action::Cancel => self.end(place, Told::Discarded, Some(Status::Canceled), reply),
             Action::Status => Answer::told(Told::Ignored, 0),
         }
+    }
+
+    /// A session that is open cannot begin.
+    pub(super) fn begun(&mut self, place: usize, reply: &mut [u8]) -> Answer {
+        let session = self.sessions.at(place);
+        let len = about_session(session.quiet, session.id.bytes(), Status::Invalid, reply);
+        Answer::told(Told::Status(Status::Invalid), len)
     }
 
     fn file(
@@ -171,7 +187,7 @@ impl Receiver {
     }
 
     /// Drops a session; its own quiet decides whether the status is sent.
-    fn end(
+    pub(super) fn end(
         &mut self,
         place: usize,
         told: Told,

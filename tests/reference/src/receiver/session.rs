@@ -31,6 +31,8 @@ impl Id {
 pub enum FileState {
     #[default]
     Opening,
+    /// A path of a receive session.
+    Named,
     Started,
     Done,
     Failed,
@@ -52,6 +54,25 @@ pub enum SessionState {
     Absent,
     Asked,
     Open,
+    /// A receive session whose paths are still to come.
+    Naming,
+    /// The user is asked about a receive session.
+    Waiting,
+    /// An open receive session before its home OK.
+    Listing,
+    /// The same after it.
+    Serving,
+}
+
+impl SessionState {
+    /// What the session becomes if the user allows it; none if the user is not asked.
+    pub fn allowed(self) -> Option<SessionState> {
+        match self {
+            SessionState::Asked => Some(SessionState::Open),
+            SessionState::Waiting => Some(SessionState::Listing),
+            _ => None,
+        }
+    }
 }
 
 /// What a console may show of a session: its started files, and the bytes of its done ones.
@@ -68,6 +89,8 @@ pub struct Session {
     pub id: Id,
     files: [File; FILES],
     used: usize,
+    /// The paths still to be named.
+    left: usize,
 }
 
 impl Session {
@@ -77,6 +100,13 @@ impl Session {
         self.quiet = quiet;
         self.id = id;
         self.used = 0;
+    }
+
+    /// Takes free room for a receive session of so many paths.
+    pub fn ask_paths(&mut self, id: Id, quiet: u8, paths: usize) {
+        self.ask(id, quiet);
+        self.state = SessionState::Naming;
+        self.left = paths;
     }
 
     pub fn clear(&mut self) {
@@ -96,6 +126,17 @@ impl Session {
         self.files[self.used] = File { id, directory, declared, ..File::default() };
         self.used += 1;
         self.used - 1
+    }
+
+    /// Keeps the id of a path; answers whether it was the last one, so that the user is asked.
+    pub fn name(&mut self, id: Id) -> bool {
+        let place = self.add(id, false, None);
+        self.files[place].state = FileState::Named;
+        self.left -= 1;
+        if self.left == 0 {
+            self.state = SessionState::Waiting;
+        }
+        self.left == 0
     }
 
     pub fn file(&mut self, place: usize) -> &mut File {

@@ -1,6 +1,6 @@
 //! Scripts for a sender: operations and their bytes.
 
-use crate::script::{Operands, Operation};
+use crate::script::{long, short, Operands, Operation};
 
 /// The buffer that an operation limits.
 #[derive(Clone, Copy, Debug, PartialEq)]
@@ -60,20 +60,6 @@ impl Op {
             Op::Finish | Op::Text | Op::Anew => {}
         }
     }
-}
-
-/// Bytes behind their length in one byte.
-fn short(bytes: &[u8], out: &mut Vec<u8>) {
-    let len = bytes.len().min(u8::MAX as usize);
-    out.push(len as u8);
-    out.extend_from_slice(&bytes[..len]);
-}
-
-/// Bytes behind their length in two bytes.
-fn long(bytes: &[u8], out: &mut Vec<u8>) {
-    let len = bytes.len().min(u16::MAX as usize);
-    out.extend_from_slice(&(len as u16).to_le_bytes());
-    out.extend_from_slice(&bytes[..len]);
 }
 
 /// The bytes of a list of operations.

@@ -1,21 +1,37 @@
-//! Counts what came up in the outputs: refusals, statuses sent, what the console was told, and a session's numbers.
+//! Counts what came up in the outputs: refusals, statuses sent, what the console was told, a session's numbers, and what each call
+//! of receive sessions gave.
 
 use reference::receiver::base64;
 use std::collections::BTreeMap;
 
-/// Document 01's numbers, with order 4's in the place of 6.
-const REFUSALS: [u8; 18] = [1, 2, 3, 4, 5, 61, 62, 63, 64, 65, 66, 67, 7, 8, 9, 10, 11, 12];
+/// Document 01's numbers, with order 4's in the place of 6, and order 6's.
+#[rustfmt::skip]
+const REFUSALS: [u8; 20] =
+    [1, 2, 3, 4, 5, 61, 62, 63, 64, 65, 66, 67, 7, 8, 9, 10, 11, 12, 17, 18];
 
 #[rustfmt::skip]
-const TOLD: [&str; 11] = [
+const TOLD: [&str; 15] = [
     "none", "ignored", "asked", "open", "write", "last", "commit", "withdrawn", "discarded",
-    "committed", "status",
+    "committed", "status", "naming", "path", "lastpath", "request",
 ];
 
 #[rustfmt::skip]
 const STATUSES: [&str; 14] = [
     "OK", "STARTED", "PROGRESS", "CANCELED", "EBUSY", "ENOTSUP", "EINVAL", "EPERM", "EIO",
     "ENOENT", "ENOSPC", "EEXIST", "EMFILE", "EFBIG",
+];
+
+/// The calls that receive sessions have, and the answers to an ask: their refusals; `written` and `held` where there is none, by
+/// whether something was written.
+const CALLS: [(&str, &[&str]); 8] = [
+    ("l", &["written", "8", "9", "18", "62"]),
+    ("g", &["written", "held", "8", "9", "18", "62"]),
+    ("h", &["written", "held", "9", "18"]),
+    ("p", &["written", "9", "17", "18"]),
+    ("z", &["written", "9", "17", "18"]),
+    ("u", &["written", "held", "9", "18"]),
+    ("k", &["written", "held", "9", "11", "18"]),
+    ("e", &["written", "held", "9", "11"]),
 ];
 
 /// Of order 10's two numbers: which are not zero; or no session.
@@ -27,6 +43,7 @@ pub struct Coverage {
     told: BTreeMap<String, u64>,
     statuses: BTreeMap<String, u64>,
     numbers: BTreeMap<String, u64>,
+    calls: BTreeMap<String, u64>,
     lines: u64,
 }
 
@@ -38,7 +55,7 @@ impl Coverage {
             let fields: Vec<&[u8]> = line.split(|&b| b == b' ').collect();
             match fields[..] {
                 [b"y", ..] => self.numbers(&fields[1..]),
-                _ if fields.len() == 8 => self.answer(&fields),
+                _ if fields.len() == 8 || fields.len() == 9 => self.answer(&fields),
                 _ => {}
             }
         }
@@ -60,7 +77,23 @@ impl Coverage {
         *self.refusals.entry(number.unwrap_or(255)).or_default() += 1;
         let told = fields[3].split(|&b| b == b':').next().unwrap_or_default();
         *self.told.entry(String::from_utf8_lossy(told).into_owned()).or_default() += 1;
-        self.replies(&unhex(fields[4]));
+        self.call(fields);
+        // What an entry calls its status is a file's id.
+        if fields[0] != b"l" {
+            self.replies(&unhex(fields[4]));
+        }
+    }
+
+    fn call(&mut self, fields: &[&[u8]]) {
+        let letter = String::from_utf8_lossy(fields[0]);
+        let outcome = match (fields[1], fields[4]) {
+            (b"0", b"-") => "held".into(),
+            (b"0", _) => "written".into(),
+            (refusal, _) => String::from_utf8_lossy(refusal),
+        };
+        if CALLS.iter().any(|(call, _)| *call == letter) {
+            *self.calls.entry(format!("{letter} {outcome}")).or_default() += 1;
+        }
     }
 
     /// Counts the replies in a run of bytes.
@@ -81,6 +114,7 @@ impl Coverage {
         join(&mut self.told, other.told);
         join(&mut self.statuses, other.statuses);
         join(&mut self.numbers, other.numbers);
+        join(&mut self.calls, other.calls);
         self.lines += other.lines;
     }
 
@@ -90,11 +124,15 @@ impl Coverage {
         let told = TOLD.iter().filter(|kind| !self.told.contains_key(**kind));
         let statuses = STATUSES.iter().filter(|word| !self.statuses.contains_key(**word));
         let numbers = NUMBERS.iter().filter(|kind| !self.numbers.contains_key(**kind));
+        let calls = CALLS.iter().flat_map(|(call, all)| all.iter().map(move |of| (call, of)));
+        let calls = calls.map(|(call, outcome)| format!("{call} {outcome}"));
+        let calls = calls.filter(|call| !self.calls.contains_key(call));
         refusals
             .map(|no| format!("refusal {no}"))
             .chain(told.map(|kind| format!("told {kind}")))
             .chain(statuses.map(|word| format!("status {word}")))
             .chain(numbers.map(|kind| format!("numbers {kind}")))
+            .chain(calls.map(|call| format!("call {call}")))
             .collect()
     }
 
@@ -104,6 +142,7 @@ impl Coverage {
         println!("told: {}", listed(&self.told));
         println!("statuses sent: {}", listed(&self.statuses));
         println!("a session's numbers: {}", listed(&self.numbers));
+        println!("calls: {}", listed(&self.calls));
     }
 }
 

@@ -1,6 +1,6 @@
 //! Can the comparison fail? For each fault of the lists, the reference with that line changed is compared as if it were the program.
 
-use crate::patches::{self, Patch};
+use crate::patches::{self, Patch, Whose};
 use crate::trials::{self, Trial};
 use std::fs;
 use std::io;
@@ -14,25 +14,67 @@ const BUILD: &str = "target/reference/faults/build";
 /// The profile in Cargo.toml, which is also the name of its folder.
 const PROFILE: &str = "faults";
 
+/// The inputs of a list's faults, and the programs that take them.
+struct Ground {
+    whose: Whose,
+    trials: fn() -> Vec<Trial>,
+    programs: &'static [&'static str],
+}
+
+const GROUNDS: [Ground; 3] = [
+    Ground { whose: Whose::Receivers, trials: trials::quick, programs: &["drive", "replay"] },
+    Ground { whose: Whose::Senders, trials: trials::senders, programs: &["drive_sender"] },
+    Ground { whose: Whose::Menders, trials: trials::menders, programs: &["mend", "mend_script"] },
+];
+
 /// Tries the faults whose names have the given words in them. Answers whether each was found.
 pub fn run(words: &[&str]) -> Result<bool, String> {
     let patches = chosen(words)?;
-    let count = patches.len();
-    let (senders, others): (Vec<Patch>, Vec<Patch>) =
-        patches.into_iter().partition(Patch::of_sender);
-    let found = found_of(&others, trials::quick)? + found_of(&senders, trials::senders)?;
-    println!("{found} of {count} faults found");
-    Ok(found == count)
+    let mut found = 0;
+    for ground in &GROUNDS {
+        let of_ground = |patch: &&Patch| patch.of() == ground.whose;
+        found += ground.found_of(&patches.iter().filter(of_ground).collect::<Vec<_>>())?;
+    }
+    println!("{found} of {} faults found", patches.len());
+    Ok(found == patches.len())
 }
 
-/// How many of the faults the trials find.
-fn found_of(patches: &[Patch], trials: fn() -> Vec<Trial>) -> Result<usize, String> {
-    if patches.is_empty() {
-        return Ok(0);
+impl Ground {
+    /// How many of the faults the trials find.
+    fn found_of(&self, patches: &[&Patch]) -> Result<usize, String> {
+        if patches.is_empty() {
+            return Ok(0);
+        }
+        let trials = (self.trials)();
+        self.unchanged(&trials)?;
+        Ok(patches.iter().filter(|patch| self.hunt(patch, &trials)).count())
     }
-    let trials = trials();
-    unchanged(&trials)?;
-    Ok(patches.iter().filter(|patch| hunt(patch, &trials)).count())
+
+    /// The copy without a fault must agree everywhere: else what is found says nothing.
+    fn unchanged(&self, trials: &[Trial]) -> Result<(), String> {
+        let programs = build(self.programs, None)?;
+        match trials.iter().find_map(|trial| trial.difference(&programs)) {
+            Some(difference) => Err(format!("the reference unchanged: {difference}")),
+            None => {
+                let inputs: usize = trials.iter().map(Trial::inputs).sum();
+                println!("the reference unchanged: {inputs} inputs agree");
+                Ok(())
+            }
+        }
+    }
+
+    /// Looks for the first difference that a fault makes, says it, and answers whether there is one.
+    fn hunt(&self, patch: &Patch, trials: &[Trial]) -> bool {
+        let search =
+            |programs: PathBuf| trials.iter().find_map(|trial| trial.difference(&programs));
+        let difference = build(self.programs, Some(patch)).map(search);
+        match &difference {
+            Ok(Some(difference)) => println!("found      {}: {difference}", patch.name),
+            Ok(None) => println!("NOT FOUND  {}", patch.name),
+            Err(error) => println!("ERROR      {error}"),
+        }
+        matches!(difference, Ok(Some(_)))
+    }
 }
 
 /// The faults to try. Each is checked before the first is built.
@@ -46,43 +88,14 @@ fn chosen(words: &[&str]) -> Result<Vec<Patch>, String> {
     Ok(patches)
 }
 
-/// The copy without a fault must agree everywhere: else what is found says nothing.
-fn unchanged(trials: &[Trial]) -> Result<(), String> {
-    let programs = build(None)?;
-    match trials.iter().find_map(|trial| trial.difference(&programs)) {
-        Some(difference) => Err(format!("the reference unchanged: {difference}")),
-        None => {
-            let inputs: usize = trials.iter().map(Trial::inputs).sum();
-            println!("the reference unchanged: {inputs} inputs agree");
-            Ok(())
-        }
-    }
-}
-
-/// Looks for the first difference that a fault makes, says it, and answers whether there is one.
-fn hunt(patch: &Patch, trials: &[Trial]) -> bool {
-    let search = |programs: PathBuf| trials.iter().find_map(|trial| trial.difference(&programs));
-    let difference = build(Some(patch)).map(search);
-    match &difference {
-        Ok(Some(difference)) => println!("found      {}: {difference}", patch.name),
-        Ok(None) => println!("NOT FOUND  {}", patch.name),
-        Err(error) => println!("ERROR      {error}"),
-    }
-    matches!(difference, Ok(Some(_)))
-}
-
-/// Builds the reference with a fault in it. Answers the folder of its programs. The copy is made anew each time: all its files are then
+/// Builds programs of the reference with a fault in it. Answers their folder. The copy is made anew each time: all its files are then
 /// newer than the build before, so cargo builds what stands there.
-fn build(patch: Option<&Patch>) -> Result<PathBuf, String> {
+fn build(programs: &[&str], patch: Option<&Patch>) -> Result<PathBuf, String> {
     copy_reference().map_err(|error| format!("cannot copy the reference: {error}"))?;
     patch.map_or(Ok(()), |patch| patch.apply(Path::new(COPY)))?;
     let mut cargo = Command::new("cargo");
-    cargo
-        .args(
-            "build --quiet --offline --bin drive --bin replay --bin drive_sender --profile"
-                .split(' '),
-        )
-        .arg(PROFILE);
+    cargo.args(["build", "--quiet", "--offline", "--profile", PROFILE]);
+    cargo.args(programs.iter().flat_map(|name| ["--bin", name]));
     cargo.args(["--manifest-path", &format!("{COPY}/Cargo.toml"), "--target-dir", BUILD]);
     let output = cargo.output().map_err(|error| format!("cargo: {error}"))?;
     if output.status.success() {

@@ -1,6 +1,7 @@
 //! Runs a case on both sides, counts, and keeps the cases that differ.
 
 use crate::coverage::Coverage;
+use crate::mend_coverage::MendCoverage;
 use crate::programs::{self, Outcome, DRIVE_SENDER, REPLAY};
 use crate::sender_coverage::SenderCoverage;
 use crate::shrink::shrink;
@@ -9,6 +10,7 @@ use reference::replay::Replay;
 use reference::script::{self, Ops};
 use reference::sender;
 use std::fs;
+use std::path::Path;
 use std::sync::atomic::{AtomicUsize, Ordering};
 
 pub const KEEP_IN: &str = "target/reference/differ";
@@ -27,12 +29,33 @@ pub struct Case {
 pub struct Scripted {
     pub name: &'static str,
     pub path: fn() -> &'static str,
-    run: fn(&[u8], &mut Vec<u8>),
+    pub run: fn(&[u8], &mut Vec<u8>),
     /// The operations of a proper script, each by its bytes.
-    cut: fn(&[u8]) -> Option<Vec<Vec<u8>>>,
+    pub cut: fn(&[u8]) -> Option<Vec<Vec<u8>>>,
     /// Counts what came up in an output.
-    count: fn(&mut Tally, &[u8]),
+    pub count: fn(&mut Tally, &[u8]),
 }
+
+/// A program that takes a recording, and what stands for it here.
+pub struct Taker {
+    pub name: &'static str,
+    pub path: &'static str,
+    pub run: fn(&Path, &[u8], usize) -> Outcome,
+    pub expected: fn(&[u8]) -> Vec<u8>,
+    pub count: fn(&mut Tally, &[u8]),
+}
+
+pub static REPLAYER: Taker = Taker {
+    name: "replay",
+    path: REPLAY,
+    run: programs::run,
+    expected: |input| {
+        let mut out = Vec::new();
+        Replay::default().take(input, &mut out);
+        out
+    },
+    count: |tally, output| tally.coverage.replies(output),
+};
 
 pub static RECEIVER: Scripted = Scripted {
     name: "drive",
@@ -63,8 +86,12 @@ impl Scripted {
         out
     }
 
+    fn outcome(&self, input: &[u8]) -> Outcome {
+        programs::run(Path::new((self.path)()), input, LONGEST_SCRIPT)
+    }
+
     fn differs(&self, input: &[u8]) -> bool {
-        !programs::run((self.path)(), input, LONGEST_SCRIPT).agrees(&self.expected(input))
+        !self.outcome(input).agrees(&self.expected(input))
     }
 }
 
@@ -72,17 +99,12 @@ impl Scripted {
 pub struct Tally {
     pub coverage: Coverage,
     pub senders: SenderCoverage,
+    pub menders: MendCoverage,
     pub scripts: u64,
     pub recordings: u64,
     pub runs: u64,
     pub bytes: u64,
     pub differ: u64,
-}
-
-pub fn expected_of_recording(input: &[u8]) -> Vec<u8> {
-    let mut out = Vec::new();
-    Replay::default().take(input, &mut out);
-    out
 }
 
 /// Joins the scripts in as few runs as their length allows.
@@ -117,7 +139,7 @@ impl Tally {
         self.scripts += batch.len() as u64;
         self.runs += 1;
         self.bytes += input.len() as u64;
-        let actual = programs::run((program.path)(), &input, LONGEST_SCRIPT);
+        let actual = program.outcome(&input);
         (program.count)(self, &actual.output);
         if actual.agrees(&expected) {
             return;
@@ -134,7 +156,7 @@ impl Tally {
     }
 
     fn alone(&mut self, program: &Scripted, case: &Case, expected: &[u8]) {
-        let actual = programs::run((program.path)(), &case.input, LONGEST_SCRIPT);
+        let actual = program.outcome(&case.input);
         if actual.agrees(expected) {
             return;
         }
@@ -144,37 +166,38 @@ impl Tally {
         }
         if let Some(ops) = (program.cut)(&case.input) {
             let small = shrink(ops, |ops| program.differs(&ops.concat())).concat();
-            let actual = programs::run((program.path)(), &small, LONGEST_SCRIPT);
+            let actual = program.outcome(&small);
             write(&format!("{}-small", case.name), &small, &program.expected(&small), &actual);
         }
     }
 
-    /// Judges a recording, written to the program in pieces of `step` bytes.
-    pub fn recording(&mut self, case: &Case, step: usize) {
-        let expected = expected_of_recording(&case.input);
-        let actual = programs::run(REPLAY, &case.input, step);
+    /// Judges a recording, written to the program in pieces of `step` bytes. Gives what the program wrote.
+    pub fn recording(&mut self, program: &Taker, case: &Case, step: usize) -> Vec<u8> {
+        let expected = (program.expected)(&case.input);
+        let run = |input: &[u8], step| (program.run)(Path::new(program.path), input, step);
+        let actual = run(&case.input, step);
         self.recordings += 1;
         self.runs += 1;
         self.bytes += case.input.len() as u64;
-        self.coverage.replies(&actual.output);
+        (program.count)(self, &actual.output);
         if actual.agrees(&expected) {
-            return;
+            return actual.output;
         }
         self.differ += 1;
         if keep(&case.name, &case.input, &expected, &actual) {
-            let differs = |input: &[u8]| {
-                let actual = programs::run(REPLAY, input, LONGEST_SCRIPT);
-                !actual.agrees(&expected_of_recording(input))
-            };
+            let differs =
+                |input: &[u8]| !run(input, LONGEST_SCRIPT).agrees(&(program.expected)(input));
             let small = shrink(case.input.clone(), differs);
-            let actual = programs::run(REPLAY, &small, LONGEST_SCRIPT);
-            write(&format!("{}-small", case.name), &small, &expected_of_recording(&small), &actual);
+            let (expected, actual) = ((program.expected)(&small), run(&small, LONGEST_SCRIPT));
+            write(&format!("{}-small", case.name), &small, &expected, &actual);
         }
+        actual.output
     }
 
     pub fn join(&mut self, other: Tally) {
         self.coverage.join(other.coverage);
         self.senders.join(other.senders);
+        self.menders.join(other.menders);
         self.scripts += other.scripts;
         self.recordings += other.recordings;
         self.runs += other.runs;

@@ -5,14 +5,21 @@
 mod bad_texts;
 mod bad_values;
 mod coverage;
+mod entries;
 mod fields;
 mod framing;
 mod hunt;
 mod judge;
+mod mend_cases;
+mod mend_coverage;
+mod mend_special;
 mod mutate;
 mod names;
+mod one;
 mod patches;
 mod programs;
+mod receive_special;
+mod receives;
 mod recordings;
 mod rng;
 mod scripts;
@@ -25,25 +32,27 @@ mod shrink;
 mod sizes;
 mod special;
 mod streams;
+mod supplies;
 mod trials;
 mod window;
 mod work;
 
-use crate::judge::{expected_of_recording, Case, Tally, KEEP_IN, RECEIVER, SENDER};
+use crate::judge::{Tally, KEEP_IN};
 use crate::mutate::Stored;
 use std::process::ExitCode;
 use std::time::{Duration, Instant};
 use std::{env, fs};
 
 const USAGE: &str = "compare [in-place] quick | long | fuzz SECONDS [SEED] | one KIND SEED
-compare senders [N] | faults [WORD..]
-KIND: script, recording, sender, fuzz-script, fuzz-raw, fuzz-recording";
+compare senders [N] | menders [N] | faults [WORD..]
+KIND: script, recording, sender, mender, mend, fuzz-script, fuzz-raw, fuzz-recording";
 
 /// What came up, and whether what never did is a fault.
 enum Cover {
     Must,
     May,
     Senders,
+    Menders,
 }
 
 fn main() -> ExitCode {
@@ -56,30 +65,45 @@ fn main() -> ExitCode {
         args.remove(0);
         programs::play_in_place();
     }
-    let wanted: &[&str] = match args[..] {
-        ["senders", ..] | ["one", "sender", _] => &[programs::DRIVE_SENDER],
-        _ => &[programs::player(), programs::REPLAY],
-    };
-    let missing = programs::missing(wanted);
+    let missing = programs::missing(&wanted(&args));
     if !missing.is_empty() {
         println!("missing: {}", missing.join(", "));
         return ExitCode::FAILURE;
     }
+    run(&args).unwrap_or_else(usage)
+}
+
+/// The programs that a command needs.
+fn wanted(args: &[&str]) -> Vec<&'static str> {
+    match args {
+        ["senders", ..] | ["one", "sender", _] => vec![programs::DRIVE_SENDER],
+        ["menders", ..] | ["one", "mender" | "mend", _] => {
+            vec![programs::MEND_SCRIPT, programs::MEND]
+        }
+        _ => vec![programs::player(), programs::REPLAY],
+    }
+}
+
+/// Runs a command; none if it is not one.
+fn run(args: &[&str]) -> Option<ExitCode> {
     let start = Instant::now();
     let number = |text: &str| text.parse::<u64>().ok();
-    match args[..] {
-        ["quick"] => finish(start, generated(work::QUICK), Cover::Must),
-        ["long"] => finish(start, generated(work::LONG), Cover::Must),
-        ["fuzz", seconds] => fuzz(start, number(seconds), Some(1)),
-        ["fuzz", seconds, seed] => fuzz(start, number(seconds), number(seed)),
-        ["senders"] => finish(start, senders(work::SENDERS), Cover::Senders),
-        ["senders", count] => match number(count) {
-            Some(count) => finish(start, senders(count), Cover::Senders),
-            None => usage(),
-        },
-        ["one", kind, seed] => number(seed).and_then(|seed| one(kind, seed)).unwrap_or_else(usage),
-        _ => usage(),
-    }
+    let count = |given: &[&str], usual| match given {
+        [] => Some(usual),
+        [count] => number(count),
+        _ => None,
+    };
+    let (tally, cover) = match args {
+        ["quick"] => (generated(work::QUICK), Cover::Must),
+        ["long"] => (generated(work::LONG), Cover::Must),
+        ["fuzz", seconds] => (fuzz(number(seconds)?, 1), Cover::May),
+        ["fuzz", seconds, seed] => (fuzz(number(seconds)?, number(seed)?), Cover::May),
+        ["senders", given @ ..] => (senders(count(given, work::SENDERS)?), Cover::Senders),
+        ["menders", given @ ..] => (menders(count(given, work::MENDERS)?), Cover::Menders),
+        ["one", kind, seed] => return one::one(kind, number(seed)?),
+        _ => return None,
+    };
+    Some(finish(start, tally, cover))
 }
 
 fn usage() -> ExitCode {
@@ -101,12 +125,15 @@ fn senders(count: u64) -> Tally {
     tally
 }
 
-fn fuzz(start: Instant, seconds: Option<u64>, seed: Option<u64>) -> ExitCode {
-    let (Some(seconds), Some(seed)) = (seconds, seed) else {
-        return usage();
-    };
-    let tally = work::fuzzed(Duration::from_secs(seconds), seed, &stored());
-    finish(start, tally, Cover::May)
+fn menders(count: u64) -> Tally {
+    let mut tally = Tally::default();
+    mend_special::judge(&mut tally);
+    tally.join(work::menders(count));
+    tally
+}
+
+fn fuzz(seconds: u64, seed: u64) -> Tally {
+    work::fuzzed(Duration::from_secs(seconds), seed, &stored())
 }
 
 /// Needs none of the programs under test: the reference is compared with itself, changed.
@@ -166,6 +193,10 @@ fn missing(tally: &Tally, cover: Cover) -> Vec<String> {
             tally.senders.print();
             tally.senders.missing()
         }
+        Cover::Menders => {
+            tally.menders.print();
+            tally.menders.missing()
+        }
         Cover::Must => {
             tally.coverage.print();
             tally.coverage.missing()
@@ -175,37 +206,4 @@ fn missing(tally: &Tally, cover: Cover) -> Vec<String> {
             Vec::new()
         }
     }
-}
-
-/// Writes one input out with what both sides make of it.
-fn one(kind: &str, seed: u64) -> Option<ExitCode> {
-    let stored = stored();
-    let Case { name, input } = match kind {
-        "script" => work::script_case(seed),
-        "recording" => work::recording_case(seed),
-        "sender" => work::sender_case(seed),
-        "fuzz-script" => work::mutated_script_case(seed, &stored),
-        "fuzz-raw" => work::raw_script_case(seed, &stored),
-        "fuzz-recording" => work::mutated_recording_case(seed, &stored),
-        _ => return None,
-    };
-    let (program, expected) = match kind {
-        "recording" | "fuzz-recording" => (programs::REPLAY, expected_of_recording(&input)),
-        "sender" => ((SENDER.path)(), SENDER.expected(&input)),
-        _ => ((RECEIVER.path)(), RECEIVER.expected(&input)),
-    };
-    let actual = programs::run(program, &input, input.len().max(1));
-    let path = format!("target/reference/{name}");
-    for (end, bytes) in [("in", &input), ("expected", &expected), ("actual", &actual.kept())] {
-        if let Err(error) = fs::write(format!("{path}.{end}"), bytes) {
-            println!("cannot write {path}.{end}: {error}");
-        }
-    }
-    println!("{path}.in, {path}.expected (the reference), {path}.actual ({program})");
-    if actual.agrees(&expected) {
-        println!("agree");
-        return Some(ExitCode::SUCCESS);
-    }
-    println!("differ: {}", actual.why(&expected));
-    Some(ExitCode::FAILURE)
 }

@@ -1,8 +1,11 @@
 //! Mutated inputs: stored and generated ones, changed at random.
 
+use crate::entries;
 use crate::recordings::recording;
 use crate::rng::Rng;
 use crate::scripts::{self, script};
+use crate::streams::part;
+use reference::receiver::Entry;
 use reference::script::{self as ops, Op, Ops};
 
 /// Inputs that stand in the repository.
@@ -16,7 +19,7 @@ pub struct Stored {
 const LONGEST_RECORDING: usize = 30_000;
 const LONGEST_SCRIPT: usize = 30_000;
 const INTERESTING: &[u8] = b"\x1b\x1b\x1b\\\\]];;==0123456789-+/A~\x00\x07\x7f\x80\x9c\x9d\xff m";
-const WORDS: [&[u8]; 16] = [
+const WORDS: [&[u8]; 18] = [
     b"\x1b]",
     b"\x1b\\",
     b"\x1b]5113;",
@@ -25,6 +28,8 @@ const WORDS: [&[u8]; 16] = [
     b";fid=A",
     b"ac=file",
     b"ac=data",
+    b"ac=receive",
+    b";sz=1",
     b"ac=end_data",
     b";ac=finish",
     b";d=",
@@ -205,18 +210,36 @@ fn split(rng: &mut Rng, list: &mut Vec<Op>, place: usize) {
 }
 
 fn change(rng: &mut Rng, op: &mut Op) {
+    let other = rng.chance(30);
     match op {
         Op::Feed(piece) => mutate(rng, piece),
         Op::Allow(id) | Op::Deny(id) | Op::Drop(id) | Op::Numbers(id) => mutate(rng, id),
-        Op::Failed(code) => *code = rng.within(1, 4) as u8,
+        Op::Part(bytes) | Op::LastPart(bytes) => mutate(rng, bytes),
+        Op::Home { id, path } => mutate(rng, if other { id } else { path }),
+        Op::List(entry) => change_entry(rng, entry),
+        Op::Failed(code) | Op::ListFailed { code, .. } => *code = rng.within(1, 4) as u8,
         Op::Lend(_, len) => *len = len.wrapping_add(*rng.pick(&[1, 2, u16::MAX])),
         _ => *op = any_op(rng),
     }
 }
 
+fn change_entry(rng: &mut Rng, entry: &mut Entry) {
+    match rng.below(9) {
+        0 => entry.modified ^= 1 << rng.below(64),
+        1 => entry.permissions = entry.permissions.wrapping_neg(),
+        2 => entry.size = rng.number() as i64,
+        3 => mutate(rng, &mut entry.id),
+        4 => mutate(rng, &mut entry.path_id),
+        5 => mutate(rng, &mut entry.parent),
+        6 => mutate(rng, &mut entry.name),
+        7 => mutate(rng, &mut entry.own_id),
+        _ => mutate(rng, &mut entry.target),
+    }
+}
+
 fn any_op(rng: &mut Rng) -> Op {
     let id = rng.word(&["m", "mm", "M", "a", "0", "@_:./-", ""]).to_vec();
-    match rng.below(9) {
+    match rng.below(15) {
         0 => Op::Allow(id),
         1 => Op::Deny(id),
         2 => Op::Drop(id),
@@ -225,6 +248,12 @@ fn any_op(rng: &mut Rng) -> Op {
         5 => Op::Text,
         6 => Op::Feed(rng.pick(&WORDS).to_vec()),
         7 => Op::Numbers(id),
+        8 => Op::List(entries::entry(rng, id, 10)),
+        9 => Op::ListFailed { id, fid: entries::id(rng), code: rng.within(1, 4) as u8 },
+        10 => Op::Home { path: entries::home(rng, &id, 10), id },
+        11 => Op::Part(part(rng, 10)),
+        12 => Op::LastPart(part(rng, 10)),
+        13 => Op::Unlisted,
         _ => Op::Anew,
     }
 }

@@ -15,6 +15,14 @@ pub struct Patch {
     new: Vec<String>,
 }
 
+/// For whom inputs are made.
+#[derive(Clone, Copy, Debug, PartialEq)]
+pub enum Whose {
+    Receivers,
+    Senders,
+    Menders,
+}
+
 /// Every fault of every list in the folder, in the order of the lists' names.
 pub fn read_all(folder: &Path) -> Result<Vec<Patch>, String> {
     let entries = fs::read_dir(folder).and_then(|entries| entries.collect::<io::Result<Vec<_>>>());
@@ -59,9 +67,13 @@ fn fault(group: &str, block: &[&str]) -> Result<Patch, String> {
 }
 
 impl Patch {
-    /// Whether it lies in what only a sender runs.
-    pub fn of_sender(&self) -> bool {
-        self.file.starts_with("src/sender")
+    /// Whose inputs are to find it. The writer is the receiver's too, so the list decides, not the file.
+    pub fn of(&self) -> Whose {
+        match &self.name {
+            name if name.starts_with("sender") => Whose::Senders,
+            name if name.starts_with("mend") => Whose::Menders,
+            _ => Whose::Receivers,
+        }
     }
 
     /// The source with the fault in it. The old text must stand exactly once, so that no fault lands elsewhere unseen.

@@ -17,6 +17,8 @@ const DRIVE: &str = "target/bin/drive";
 const DRIVE_IN_PLACE: &str = "target/bin/drive_in_place";
 pub const REPLAY: &str = "target/bin/replay";
 pub const DRIVE_SENDER: &str = "target/bin/drive_sender";
+pub const MEND: &str = "target/bin/mend";
+pub const MEND_SCRIPT: &str = "target/bin/mend_script";
 
 static PLAYER: OnceLock<&str> = OnceLock::new();
 
@@ -62,23 +64,46 @@ impl Outcome {
 }
 
 /// Runs the program on the input, written in pieces of `step` bytes, so that its reads are cut differently.
-pub fn run(path: impl AsRef<Path>, input: &[u8], step: usize) -> Outcome {
-    run_within(LONGEST_RUN, path.as_ref(), input, step)
+pub fn run(path: &Path, input: &[u8], step: usize) -> Outcome {
+    let (mut outcome, errors) = run_within(LONGEST_RUN, path, input, step);
+    outcome.faults.extend(said(&errors));
+    outcome
 }
 
-fn run_within(limit: Duration, path: &Path, input: &[u8], step: usize) -> Outcome {
+/// The same for a program that is to write on standard error: both outputs are one, as `aloud` joins them.
+pub fn run_aloud(path: &Path, input: &[u8], step: usize) -> Outcome {
+    let (outcome, errors) = run_within(LONGEST_RUN, path, input, step);
+    Outcome { output: aloud(&outcome.output, &errors), ..outcome }
+}
+
+/// A line with the length of what stands on standard output, that, and what stands on standard error.
+pub fn aloud(output: &[u8], errors: &[u8]) -> Vec<u8> {
+    [format!("{}\n", output.len()).as_bytes(), output, errors].concat()
+}
+
+/// The two outputs that `aloud` joined.
+pub fn apart(joined: &[u8]) -> (&[u8], &[u8]) {
+    let line = joined.iter().position(|&b| b == b'\n').unwrap_or(0);
+    let len = std::str::from_utf8(&joined[..line]).ok().and_then(|text| text.parse().ok());
+    let rest = joined.get(line + 1..).unwrap_or_default();
+    rest.split_at_checked(len.unwrap_or(0)).unwrap_or_default()
+}
+
+/// What a run gave, and what it wrote on standard error.
+fn run_within(limit: Duration, path: &Path, input: &[u8], step: usize) -> (Outcome, Vec<u8>) {
     let mut command = Command::new(path);
     command.stdin(Stdio::piped()).stdout(Stdio::piped()).stderr(Stdio::piped());
     match command.spawn() {
         Ok(child) => watch(child, limit, input, step),
         Err(error) => {
-            Outcome { faults: vec![format!("cannot be started: {error}")], ..Outcome::default() }
+            let faults = vec![format!("cannot be started: {error}")];
+            (Outcome { faults, ..Outcome::default() }, Vec::new())
         }
     }
 }
 
 /// Writes, reads both outputs and waits at the same time, since any of them may be what the program waits for.
-fn watch(mut child: Child, limit: Duration, input: &[u8], step: usize) -> Outcome {
+fn watch(mut child: Child, limit: Duration, input: &[u8], step: usize) -> (Outcome, Vec<u8>) {
     let end = Instant::now() + limit;
     let (stdin, stdout, stderr) = (child.stdin.take(), child.stdout.take(), child.stderr.take());
     let (sender, closed) = mpsc::channel();
@@ -94,8 +119,8 @@ fn watch(mut child: Child, limit: Duration, input: &[u8], step: usize) -> Outcom
         let ended = ended(&mut child, end);
         let (output, unread) = joined(output);
         let (errors, errors_unread) = joined(errors);
-        let faults = [ended, unread, said(&errors), errors_unread, joined(written)];
-        Outcome { output, faults: faults.into_iter().flatten().collect() }
+        let faults = [ended, unread, errors_unread, joined(written)];
+        (Outcome { output, faults: faults.into_iter().flatten().collect() }, errors)
     })
 }
 
@@ -109,7 +134,7 @@ fn ended(child: &mut Child, end: Instant) -> Option<String> {
         match child.try_wait() {
             Ok(Some(status)) => return status_fault(status),
             Err(error) => return Some(format!("cannot be waited for: {error}")),
-            Ok(None) if Instant::now() < end => thread::sleep(Duration::from_millis(1)),
+            Ok(None) if Instant::now() < end => thread::sleep(Duration::from_micros(100)),
             Ok(None) => break,
         }
     }
@@ -147,7 +172,7 @@ mod tests {
 
     /// The shell as the program under test: its input is what it does.
     fn shell(script: &str) -> Outcome {
-        run("/bin/sh", script.as_bytes(), 7)
+        run(Path::new("/bin/sh"), script.as_bytes(), 7)
     }
 
     fn faults(script: &str) -> String {
@@ -175,16 +200,25 @@ mod tests {
         assert!(faults("kill -KILL $$").contains("signal: 9"));
         assert_eq!(faults("echo oh >&2"), "wrote on standard error: oh\\n");
         assert_eq!(faults("echo oh >&2; exit 2").split("; ").count(), 2);
-        let missing = run("/no/such/program", b"", 1);
+        let missing = run(Path::new("/no/such/program"), b"", 1);
         assert!(missing.faults[0].starts_with("cannot be started"), "{missing:?}");
         assert!(!missing.agrees(b""));
+    }
+
+    #[test]
+    fn what_is_said_aloud_is_no_fault() {
+        let script = b"printf well; echo oh >&2";
+        let outcome = run_aloud(Path::new("/bin/sh"), script, 7);
+        assert!(outcome.agrees(b"4\nwelloh\n"), "{outcome:?}");
+        assert_eq!(apart(&outcome.output), (&b"well"[..], &b"oh\n"[..]));
+        assert_eq!(apart(b""), (&b""[..], &b""[..]));
     }
 
     #[test]
     fn a_run_without_end_is_ended() {
         for script in [&b"exec sleep 60"[..], b"exec >&- 2>&-; while :; do :; done"] {
             let path = Path::new("/bin/sh");
-            let outcome = run_within(Duration::from_millis(300), path, script, script.len());
+            let (outcome, _) = run_within(Duration::from_millis(300), path, script, script.len());
             assert_eq!(outcome.faults[0], "did not end");
         }
     }

@@ -6,7 +6,7 @@ use crate::rng::Rng;
 use crate::streams::{stream, Shape, Stream};
 use reference::console::Console;
 use reference::receiver::{Answer, Place, Refusal, Told};
-use reference::script::{Buffer, Op};
+use reference::script::{encode, Buffer, Op};
 
 /// A script stops after so many operations or bytes.
 const MOST_OPS: usize = 220;
@@ -23,14 +23,14 @@ pub enum Cut {
     Escapes,
 }
 
-struct Maker<'r> {
-    rng: &'r mut Rng,
+pub struct Maker<'r> {
+    pub rng: &'r mut Rng,
     console: Console,
     ops: Vec<Op>,
     bytes: usize,
     ids: Vec<Vec<u8>>,
     /// Calls that do not fit, in a hundred.
-    wrong: usize,
+    pub wrong: usize,
     /// Failures among the answers, in a hundred.
     failures: usize,
     /// Sessions left asked for a while, in a hundred.
@@ -39,6 +39,15 @@ struct Maker<'r> {
     looks: usize,
     /// Those that were left asked; some are meanwhile withdrawn.
     waiting: Vec<Vec<u8>>,
+    /// Receive sessions whose last path was named, and of them those allowed that list; some are meanwhile gone.
+    named: Vec<Vec<u8>>,
+    pub listing: Vec<Vec<u8>>,
+    /// Whether the latest ask was a request.
+    requested: bool,
+    /// Listings taken up before a feed, in a hundred.
+    pub prompt: usize,
+    /// Operands of a supply about as long as they may be, in a hundred.
+    pub long: usize,
 }
 
 /// The script of a seed.
@@ -61,9 +70,24 @@ pub fn perform(rng: &mut Rng, chunks: &[Vec<u8>], ids: Vec<Vec<u8>>) -> Vec<Op> 
     let cut = cut(rng);
     let (wrong, failures) = (*rng.pick(&[0, 2, 10, 30]), *rng.pick(&[0, 5, 25]));
     let (hesitates, looks) = (*rng.pick(&[0, 5, 50]), *rng.pick(&[0, 20, 80]));
-    let (console, ops, waiting) = (Console::default(), Vec::new(), Vec::new());
-    let mut maker =
-        Maker { rng, console, ops, bytes: 0, ids, wrong, failures, hesitates, looks, waiting };
+    let (prompt, long) = (*rng.pick(&[50, 95, 95, 95]), *rng.pick(&[0, 0, 3, 15]));
+    let mut maker = Maker {
+        rng,
+        console: Console::default(),
+        ops: Vec::new(),
+        bytes: 0,
+        ids,
+        wrong,
+        failures,
+        hesitates,
+        looks,
+        waiting: Vec::new(),
+        named: Vec::new(),
+        listing: Vec::new(),
+        requested: false,
+        prompt,
+        long,
+    };
     maker.perform(chunks, cut);
     maker.ops
 }
@@ -117,6 +141,7 @@ impl Maker<'_> {
             if self.rng.chance(self.wrong) {
                 self.stray();
             }
+            self.list_some();
             let chunk = ends.iter().find(|&&end| end > at).map_or(0, |end| end - at);
             let len = piece_len(self.rng, cut, &stream[at..], chunk);
             let Some(answer) = self.add(Op::Feed(stream[at..at + len].to_vec())) else {
@@ -137,12 +162,9 @@ impl Maker<'_> {
         }
     }
 
-    fn add(&mut self, op: Op) -> Option<Answer> {
+    pub fn add(&mut self, op: Op) -> Option<Answer> {
         let answer = self.console.apply(&op);
-        self.bytes += match &op {
-            Op::Feed(piece) => piece.len() + 3,
-            _ => 3,
-        };
+        self.bytes += encode(std::slice::from_ref(&op)).len();
         self.ops.push(op);
         answer
     }
@@ -178,11 +200,16 @@ impl Maker<'_> {
     /// Answers a session that was asked.
     fn decide(&mut self, id: Vec<u8>) {
         let op = match self.rng.weighted(&[90, 7, 3]) {
-            0 => Op::Allow(id),
-            1 => Op::Deny(id),
-            _ => Op::Drop(id),
+            0 => Op::Allow(id.clone()),
+            1 => Op::Deny(id.clone()),
+            _ => Op::Drop(id.clone()),
         };
-        self.add(op);
+        let allows = matches!(op, Op::Allow(_));
+        let taken = self.add(op).is_some_and(|answer| answer.refusal.is_none());
+        if allows && taken && self.named.contains(&id) {
+            self.named.retain(|named| *named != id);
+            self.listing.push(id);
+        }
     }
 
     /// Answers one of the sessions that were left asked, now and then.
@@ -197,11 +224,13 @@ impl Maker<'_> {
     /// What a console does after a report.
     fn react(&mut self, answer: &Answer) {
         match answer.told {
-            Told::Asked(id) if self.rng.chance(self.hesitates) => {
-                self.waiting.push(id.bytes().to_vec());
+            Told::Asked(id) => self.asked(id.bytes().to_vec()),
+            Told::LastPath { id, .. } => {
+                self.named.push(id.bytes().to_vec());
+                self.asked(id.bytes().to_vec());
             }
-            Told::Asked(id) => self.decide(id.bytes().to_vec()),
-            Told::Open | Told::Write { .. } | Told::Commit => {
+            Told::Open | Told::Write { .. } | Told::Commit | Told::Request { .. } => {
+                self.requested = matches!(answer.told, Told::Request { .. });
                 self.decide_late();
                 // Sometimes another call comes first, or a feed that meets refusal 10.
                 if self.rng.chance(self.wrong) {
@@ -214,8 +243,20 @@ impl Maker<'_> {
         }
     }
 
+    /// Answers a session at once, or leaves it asked.
+    fn asked(&mut self, id: Vec<u8>) {
+        if self.rng.chance(self.hesitates) {
+            self.waiting.push(id);
+        } else {
+            self.decide(id);
+        }
+    }
+
     /// Answers the ask; sometimes first with a reply buffer that is too short, which leaves it owed.
     fn settle(&mut self) {
+        if self.requested {
+            return self.serve();
+        }
         if self.rng.chance(self.wrong / 2) {
             self.add(Op::Lend(Buffer::Reply, 123));
             self.answer();
@@ -246,7 +287,7 @@ impl Maker<'_> {
         }
     }
 
-    fn any_id(&mut self) -> Vec<u8> {
+    pub fn any_id(&mut self) -> Vec<u8> {
         let mut id = self.rng.pick(&self.ids).clone();
         match self.rng.weighted(&[80, 5, 5, 5, 5]) {
             0 => {}
@@ -259,8 +300,8 @@ impl Maker<'_> {
     }
 
     /// A call that need not fit.
-    fn stray(&mut self) {
-        let op = match self.rng.below(13) {
+    pub fn stray(&mut self) {
+        let op = match self.rng.below(18) {
             0 | 1 => Op::Allow(self.any_id()),
             2 => Op::Deny(self.any_id()),
             3 => Op::Drop(self.any_id()),
@@ -269,14 +310,19 @@ impl Maker<'_> {
             7 => Op::Text,
             8 => Op::Feed(Vec::new()),
             9 => Op::Numbers(self.any_id()),
+            10..=13 => self.stray_supply(),
             _ => self.lend(),
         };
         self.add(op);
     }
 
     fn lend(&mut self) -> Op {
-        let (buffer, limit) =
-            *self.rng.pick(&[(Buffer::Carry, 8192), (Buffer::Scratch, 6144), (Buffer::Reply, 124)]);
+        let (buffer, limit) = *self.rng.pick(&[
+            (Buffer::Carry, 8192),
+            (Buffer::Scratch, 6144),
+            (Buffer::Reply, 124),
+            (Buffer::Out, 8196),
+        ]);
         let len = match self.rng.below(6) {
             0 => limit - 1,
             1 => limit,

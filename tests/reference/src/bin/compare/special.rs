@@ -1,11 +1,12 @@
 //! Cases that no seed makes, or few: scripts at the length limit, scripts that are none, long texts in pieces, every listed
-//! value, the numbers of a full session, tiny recordings, every edge of UTF-8, declared lengths met and missed by one, a long file.
+//! value, the numbers of a full session, receive sessions, tiny recordings, every edge of UTF-8, declared lengths met and missed by
+//! one, a long file.
 
 use crate::bad_values;
 use crate::fields::{encoded, Fields};
 use crate::framing::framed;
-use crate::judge::{Case, Tally, RECEIVER};
-use crate::{sequences, sizes};
+use crate::judge::{Case, Tally, RECEIVER, REPLAYER};
+use crate::{receive_special, sequences, sizes};
 use reference::console::LONGEST_SCRIPT;
 use reference::script::{encode, Op};
 
@@ -15,7 +16,7 @@ pub fn judge(tally: &mut Tally) {
         tally.scripts(&RECEIVER, vec![case]);
     }
     for case in recordings() {
-        tally.recording(&case, step(&case));
+        tally.recording(&REPLAYER, &case, step(&case));
     }
 }
 
@@ -29,11 +30,12 @@ pub fn named(kind: &str, inputs: Vec<Vec<u8>>) -> Vec<Case> {
     inputs.map(|(i, input)| Case { name: format!("special-{kind}-{i}"), input }).collect()
 }
 
-/// Scripts at the length limit, scripts that are none, long texts, one of values, one of numbers; only to be run alone.
+/// Scripts at the length limit, scripts that are none, long texts, one of values, one of numbers, those of receive sessions; only
+/// to be run alone.
 pub fn scripts() -> Vec<Case> {
     #[rustfmt::skip]
     let faults = [
-        &b""[..], b"z", b"N", b"\x00", b"\xff", b"\n", b"kz", b"ke\x00", b"ke\x05", b"ke\xff", b"te",
+        &b""[..], b"Z", b"N", b"\x00", b"\xff", b"\n", b"kZ", b"ke\x00", b"ke\x05", b"ke\xff", b"te",
         b"f", b"f\x00", b"f\x01\x00", b"f\x02\x00a", b"a", b"a\x01", b"d\x02m", b"x", b"c", b"c\x00",
         b"s\x01", b"r\x7b", b"t", b"tkn", b"kkt", b"f\x00\x00t", b"a\x00d\x00x\x00",
         b"y", b"y\x01", b"y\x02m", b"ty\xff", b"y\x00", b"y\x01my\x01mt", b"Y\x01m",
@@ -42,6 +44,7 @@ pub fn scripts() -> Vec<Case> {
     all.extend([LONGEST_SCRIPT - 1, LONGEST_SCRIPT, LONGEST_SCRIPT + 1, 70_000].map(long));
     all.extend([8191, 8192, 8193, 8300, 20_000].map(in_pieces));
     all.extend([values(), full_room()]);
+    all.extend(receive_special::scripts());
     named("script", all)
 }
 
@@ -101,7 +104,7 @@ fn long(len: usize) -> Vec<u8> {
 }
 
 /// Tiny recordings, document 01's example cut off at many places, files with every edge of UTF-8 in their names, files that declare
-/// a length, and long ones.
+/// a length, long ones, and receive sessions.
 pub fn recordings() -> Vec<Case> {
     let example: &[u8] = b"\x1b]5113;ac=send;id=m\x1b\\\x1b]5113;ac=file;id=m;fid=a;n=L256\x1b\\\
         \x1b]5113;ac=data;id=m;fid=a;d=YWJj\x1b\\\x1b]5113;ac=end_data;id=m;fid=a\x1b\\\
@@ -116,6 +119,7 @@ pub fn recordings() -> Vec<Case> {
     all.push(sizes::listed(&sizes::ODD, 2));
     all.extend([1, 3, 4096, 4097].map(|total| sizes::listed(&[&total.to_string()], total)));
     all.push(sizes::long());
+    all.extend(receive_special::recordings());
     named("recording", all)
 }
 

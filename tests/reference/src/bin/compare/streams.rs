@@ -4,6 +4,7 @@ use crate::bad_texts;
 use crate::fields::{adorn, cast, encoded, random_bytes, Fields, ACTIONS, GOOD_INTEGERS};
 use crate::framing::{damaged, fragments, framed, noise};
 use crate::names;
+use crate::receives;
 use crate::rng::Rng;
 use crate::sizes;
 use crate::window::window;
@@ -30,7 +31,7 @@ pub struct Shape {
 pub fn stream(rng: &mut Rng, shape: &Shape) -> Stream {
     let count = rng.weighted(&[0, 30, 30, 15, 10, 5, 10]).max(1);
     let ids = cast(rng, count);
-    let chunks = match rng.weighted(&[32, 18, 15, 8, 8, 9, 10, 6]) {
+    let chunks = match rng.weighted(&[32, 14, 13, 7, 7, 9, 9, 5, 16]) {
         0 => window(rng, shape, &ids),
         1 => soup(rng, shape, &ids),
         2 => faulty(rng, shape, &ids),
@@ -38,7 +39,8 @@ pub fn stream(rng: &mut Rng, shape: &Shape) -> Stream {
         4 => named(rng, shape, &ids),
         5 => limits(rng, shape, &ids),
         6 => sizes::sizes(rng, shape, &ids),
-        _ => rows(rng, shape, &ids),
+        7 => rows(rng, shape, &ids),
+        _ => receives::receives(rng, shape, &ids),
     };
     Stream { chunks, ids }
 }
@@ -58,9 +60,9 @@ pub fn emit(rng: &mut Rng, shape: &Shape, fields: Fields, chunks: &mut Vec<Vec<u
     }
 }
 
-/// The content of a part.
-pub fn part(rng: &mut Rng, shape: &Shape) -> Vec<u8> {
-    let len = if rng.chance(shape.big) {
+/// The content of a part, of about 4,096 bytes so often in a hundred.
+pub fn part(rng: &mut Rng, big: usize) -> Vec<u8> {
+    let len = if rng.chance(big) {
         *rng.pick(&[4093, 4094, 4095, 4096, 4096, 4096, 4097, 4098])
     } else {
         let most = *rng.pick(&[1, 4, 12, 60]);
@@ -88,27 +90,29 @@ fn soup(rng: &mut Rng, shape: &Shape, ids: &[Vec<u8>]) -> Vec<Vec<u8>> {
     chunks
 }
 
-fn any_command(
+pub fn any_command(
     rng: &mut Rng,
     shape: &Shape,
     action: &str,
     ids: &[Vec<u8>],
     fids: &[Vec<u8>],
 ) -> Fields {
-    let mut fields = Fields::new(action, rng.id(ids));
+    let id = rng.id(ids);
+    let mut fields = Fields::new(action, id);
     if rng.chance(85) {
         fields = fields.with("fid", rng.id(fids));
     }
     match action {
         "file" => return file_fields(rng, fields),
         "data" | "end_data" if rng.chance(85) => {
-            let content = part(rng, shape);
+            let content = part(rng, shape.big);
             fields = fields.with("d", &encoded(&content));
         }
         "send" if rng.chance(40) => {
             let quiet = rng.word(&["0", "1", "2"]);
             fields = fields.with("q", quiet);
         }
+        "receive" if rng.chance(85) => return receives::beginning(rng, id, 1),
         _ => {}
     }
     fields
@@ -298,13 +302,16 @@ fn many_sessions(rng: &mut Rng, shape: &Shape) -> Vec<Vec<u8>> {
     let ids = cast(rng, 8);
     let mut chunks = Vec::new();
     for i in 0..shape.commands.max(10) {
-        let action = match rng.weighted(&[75, 10, 15]) {
+        let action = match rng.weighted(&[55, 30, 15]) {
             0 => "send",
             1 => "receive",
             _ => *rng.pick(&["cancel", "finish", "status", "file"]),
         };
         let id = if i < 5 { &ids[i] } else { rng.pick(&ids) };
         let mut fields = Fields::new(action, id);
+        if action == "receive" {
+            fields = fields.with("sz", rng.word(&["1", "2", "32", "0", "33"]));
+        }
         if rng.chance(25) {
             fields = fields.with("q", rng.word(&["0", "1", "2"]));
         }

@@ -1,14 +1,16 @@
 //! The quick run's inputs with what the reference makes of them, made once to try many programs on.
 
-use crate::judge::{batches, expected_of_recording, Case, Scripted, RECEIVER, SENDER};
-use crate::programs;
-use crate::{sender_special, special, work};
+use crate::judge::{batches, Case, Scripted, Taker, RECEIVER, REPLAYER, SENDER};
+use crate::mend_cases::{self, MENDER, MEND_TOOL};
+use crate::programs::{self, Outcome};
+use crate::{mend_special, sender_special, special, work};
 use reference::console::LONGEST_SCRIPT;
 use std::path::Path;
 
 /// One run of a program: a recording, or scripts that go in one run.
 pub struct Trial {
     program: &'static str,
+    run: fn(&Path, &[u8], usize) -> Outcome,
     /// The size of the pieces in which the input is written.
     step: usize,
     cases: Vec<(Case, Vec<u8>)>,
@@ -26,13 +28,13 @@ pub fn quick() -> Vec<Trial> {
         }
         let case = work::recording_case(seed);
         let step = work::step(seed, case.input.len());
-        all.push(a_recording(case, step));
+        all.push(a_recording(&REPLAYER, case, step));
     }
     all.extend(scripts);
     all.extend(special::scripts().into_iter().map(|case| together(vec![case])));
     all.extend(special::recordings().into_iter().map(|case| {
         let step = special::step(&case);
-        a_recording(case, step)
+        a_recording(&REPLAYER, case, step)
     }));
     all
 }
@@ -45,18 +47,30 @@ pub fn senders() -> Vec<Trial> {
     batches(scripts).into_iter().chain(alone).map(together).collect()
 }
 
+/// Those of recordings to mend: each script alone, and a sample of recordings by the tool.
+pub fn menders() -> Vec<Trial> {
+    let scripts = (0..work::MENDERS).map(mend_cases::script_case);
+    let tools =
+        (0..work::MENDERS).filter(|seed| mend_cases::sampled(*seed)).map(mend_cases::tool_case);
+    let scripts = scripts.chain(mend_special::scripts());
+    let tools = tools.chain(mend_special::recordings());
+    let script = |case| scripts_together(&MENDER, vec![case]);
+    let tool = |case| a_recording(&MEND_TOOL, case, LONGEST_SCRIPT);
+    scripts.map(script).chain(tools.map(tool)).collect()
+}
+
 fn scripts_together(program: &Scripted, cases: Vec<Case>) -> Trial {
     let judged = |case: Case| {
         let expected = program.expected(&case.input);
         (case, expected)
     };
     let cases = cases.into_iter().map(judged).collect();
-    Trial { program: program.name, step: LONGEST_SCRIPT, cases }
+    Trial { program: program.name, run: programs::run, step: LONGEST_SCRIPT, cases }
 }
 
-fn a_recording(case: Case, step: usize) -> Trial {
-    let expected = expected_of_recording(&case.input);
-    Trial { program: "replay", step, cases: vec![(case, expected)] }
+fn a_recording(program: &Taker, case: Case, step: usize) -> Trial {
+    let expected = (program.expected)(&case.input);
+    Trial { program: program.name, run: program.run, step, cases: vec![(case, expected)] }
 }
 
 impl Trial {
@@ -69,9 +83,9 @@ impl Trial {
         let path = folder.join(self.program);
         let input: Vec<u8> = self.cases.iter().flat_map(|(case, _)| case.input.clone()).collect();
         let expected: Vec<u8> = self.cases.iter().flat_map(|(_, output)| output.clone()).collect();
-        let why = self.run(&path, &input, &expected)?;
+        let why = self.why(&path, &input, &expected)?;
         let alone = |(case, expected): &(Case, Vec<u8>)| {
-            let why = self.run(&path, &case.input, expected)?;
+            let why = self.why(&path, &case.input, expected)?;
             Some(format!("{}, {why}", case.name))
         };
         let together = || format!("{} and those after it together, {why}", self.cases[0].0.name);
@@ -79,8 +93,8 @@ impl Trial {
     }
 
     /// How a run differs, if it does.
-    fn run(&self, path: &Path, input: &[u8], expected: &[u8]) -> Option<String> {
-        let outcome = programs::run(path, input, self.step);
+    fn why(&self, path: &Path, input: &[u8], expected: &[u8]) -> Option<String> {
+        let outcome = (self.run)(path, input, self.step);
         (!outcome.agrees(expected)).then(|| outcome.why(expected))
     }
 }

@@ -1,7 +1,8 @@
-//! Generated transfers as a client makes them: sessions with files, interleaved.
+//! Generated transfers as a client makes them: sessions with files in either direction, interleaved.
 
 use crate::fields::{cast, encoded, Fields};
 use crate::names;
+use crate::receives;
 use crate::rng::Rng;
 use crate::sizes;
 use crate::streams::{emit, part, Shape};
@@ -28,6 +29,11 @@ pub fn window(rng: &mut Rng, shape: &Shape, ids: &[Vec<u8>]) -> Vec<Vec<u8>> {
 }
 
 fn client(rng: &mut Rng, shape: &Shape, id: &[u8], commands: usize) -> Client {
+    if rng.chance(35) {
+        let mut list = receives::client(rng, shape, id, commands);
+        end(rng, id, &mut list);
+        return Client(list);
+    }
     let mut send = Fields::new("send", id);
     if rng.chance(30) {
         send = send.with("q", rng.word(&["0", "1", "2"]));
@@ -55,8 +61,8 @@ fn transfer(rng: &mut Rng, shape: &Shape, id: &[u8], fid: &[u8], list: &mut Vec<
     }
     let file = if rng.chance(30) { file.with("prm", b"420") } else { file };
     let count = rng.weighted(&[30, 30, 20, 10, 10]);
-    let parts: Vec<Vec<u8>> = (0..count).map(|_| part(rng, shape)).collect();
-    let last = if rng.chance(50) { part(rng, shape) } else { Vec::new() };
+    let parts: Vec<Vec<u8>> = (0..count).map(|_| part(rng, shape.big)).collect();
+    let last = if rng.chance(50) { part(rng, shape.big) } else { Vec::new() };
     let total = parts.iter().chain([&last]).map(Vec::len).sum();
     list.push(declaring(rng, file, total));
     list.extend(parts.iter().map(|content| of("data").with("d", &encoded(content))));

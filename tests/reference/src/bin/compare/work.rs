@@ -1,6 +1,7 @@
 //! Shares the cases out to two threads.
 
-use crate::judge::{Case, Tally, RECEIVER, SENDER};
+use crate::judge::{Case, Tally, RECEIVER, REPLAYER, SENDER};
+use crate::mend_cases;
 use crate::mutate::{mutated_recording, mutated_script, raw_script, Stored};
 use crate::recordings::recording;
 use crate::scripts::script;
@@ -16,6 +17,8 @@ pub const QUICK: (u64, u64) = (2_000, 500);
 pub const LONG: (u64, u64) = (100_000, 20_000);
 /// The senders' scripts where no number is given.
 pub const SENDERS: u64 = 2_000;
+/// The same for recordings to mend.
+pub const MENDERS: u64 = 2_000;
 
 const THREADS: usize = 2;
 /// Cases taken at a time.
@@ -67,7 +70,7 @@ pub fn generated((scripts, recordings): (u64, u64)) -> Tally {
         tally.scripts(&RECEIVER, cases);
         for seed in b.clone() {
             let case = recording_case(seed);
-            tally.recording(&case, step(seed, case.input.len()));
+            tally.recording(&REPLAYER, &case, step(seed, case.input.len()));
         }
         !a.is_empty() || !b.is_empty()
     })
@@ -79,6 +82,16 @@ pub fn senders(count: u64) -> Tally {
     share(|tally| {
         let seeds = seeds(&next, count, SCRIPTS);
         tally.scripts(&SENDER, seeds.clone().map(sender_case).collect());
+        !seeds.is_empty()
+    })
+}
+
+/// The recordings to mend of the first seeds.
+pub fn menders(count: u64) -> Tally {
+    let next = AtomicU64::new(0);
+    share(|tally| {
+        let seeds = seeds(&next, count, RECORDINGS);
+        seeds.clone().for_each(|seed| mend_cases::judge(tally, seed));
         !seeds.is_empty()
     })
 }
@@ -100,7 +113,7 @@ pub fn fuzzed(time: Duration, seed: u64, stored: &Stored) -> Tally {
         }
         for seed in from..from + SCRIPTS / 4 {
             let case = mutated_recording_case(seed, stored);
-            tally.recording(&case, step(seed, case.input.len()));
+            tally.recording(&REPLAYER, &case, step(seed, case.input.len()));
         }
         Instant::now() < end
     })
