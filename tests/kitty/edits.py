@@ -47,7 +47,7 @@ def end(way, status):
 
 
 def about(reply, word, of_file=True):
-    return reply["st"] == word and ("fid" in reply) == of_file
+    return reply.get("st") == word and ("fid" in reply) == of_file
 
 
 # The receiver's replies.
@@ -151,3 +151,115 @@ def lost_part(command):
 def twice_a_part(command):
     return [command, command] if command["ac"] == "data" else [command]
 
+
+# The server's listing and parts.
+
+WAYS["allows-all"] = nothing
+KEPT = []
+
+
+def last_part(reply):
+    return reply["ac"] == "end_data"
+
+
+@way
+def lost_last_part(reply):
+    """The end comes, without its bytes."""
+    return [{key: value for key, value in reply.items() if key != "d"} if last_part(reply) else reply]
+
+
+@way
+def lost_end(reply):
+    return [] if last_part(reply) else [reply]
+
+
+@way
+def data_for_end(reply):
+    return [{**reply, "ac": "data"} if last_part(reply) else reply]
+
+
+@way
+def end_for_data(reply):
+    """Each part is an end."""
+    return [{**reply, "ac": "end_data"} if reply["ac"] == "data" else reply]
+
+
+@way
+def halved_parts(reply):
+    """Each part but the last as two."""
+    half = len(reply.get("d", b"")) // 2
+    return [{**reply, "d": reply["d"][:half]}, {**reply, "d": reply["d"][half:]}] if reply["ac"] == "data" else [reply]
+
+
+@way
+def end_apart(reply):
+    """The last part as data, and then an end with no bytes: this is not wrong."""
+    return [{**reply, "ac": "data"}, {key: value for key, value in reply.items() if key != "d"}] if last_part(reply) else [reply]
+
+
+@way
+def swapped_parts(reply):
+    """Each part but the last changes places with the one after it."""
+    if reply["ac"] == "data" and not KEPT:
+        KEPT.append(reply["d"])
+        return []
+    return [{**reply, "ac": "data"}, {**reply, "d": KEPT.pop()}] if KEPT else [reply]
+
+
+def to_file(reply, of, to):
+    return [{**reply, "fid": to} if reply["ac"] == "data" and reply["fid"] == of else reply]
+
+
+@way
+def to_the_next_file(reply):
+    """The first file's parts, but the last, under the second one's id."""
+    return to_file(reply, "1", "2")
+
+
+@way
+def to_the_former_file(reply):
+    return to_file(reply, "2", "1")
+
+
+@way
+def to_the_path(reply):
+    """Parts under the id that the path had: one less than the request's."""
+    return [{**reply, "fid": str(int(reply["fid"]) - 1)} if "d" in reply else reply]
+
+
+@way
+def other_field_order(reply):
+    return [dict(reversed(reply.items()))]
+
+
+@way
+def other_name(reply):
+    """The listing names another file than the one that is there."""
+    return [{**reply, "n": reply["n"] + b"x"} if reply["ac"] == "file" else reply]
+
+
+@way
+def lists_twice(reply):
+    return [reply, reply] if reply["ac"] == "file" else [reply]
+
+
+@way
+def other_mode(reply):
+    return [{**reply, "prm": "438"} if reply["ac"] == "file" else reply]
+
+
+@way
+def true_size(reply):
+    """The listing tells the size of a file over 4,096 bytes too (as of the file of 9,000)."""
+    return [{**reply, "sz": "9000"} if reply["ac"] == "file" else reply]
+
+
+@way
+def lost_home(reply):
+    return [] if "n" in reply and about(reply, b"OK", of_file=False) else [reply]
+
+
+@way
+def error_for_end(reply):
+    """A read error at the last part."""
+    return [{"ac": "status", "id": reply["id"], "fid": reply["fid"], "st": b"EIO"} if last_part(reply) else reply]

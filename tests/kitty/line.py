@@ -120,7 +120,8 @@ def end_of(pid, until):
 
 
 class Run:
-    """One run of the client against the receiver, whole. `waited`: it sat still for `quiet` seconds and was sent ctrl-c."""
+    """One run of the client against the receiver, whole. `waited`: it sat still for `quiet` seconds and was sent ctrl-c. `lingered`: the
+    seconds from the last command, of either, to its end."""
 
     def __init__(self, argv, env, folder, receiver, limit, quiet, sender=bytes):
         start, errors = time.monotonic(), tempfile.TemporaryFile()
@@ -131,6 +132,7 @@ class Run:
         if self.waited:
             line.press(CTRL_C)
             line.pump(time.monotonic() + 8)
+        self.lingered = time.monotonic() - (line.last_command or start)
         self.status = end_of(pid, time.monotonic() + 1)
         self.receiver_status = line.hang_up()
         errors.seek(0)
