@@ -1,0 +1,13 @@
+mod Numbers
+mod Judged
+mod Escapes
+mod PieceLaws
+mod CutLaws
+mod Runs
+mod Readable
+mod SettledLaws
+mod RowLaws
+mod Every
+mod SightLaws
+mod TurnLaws
+mod Examples

@@ -1,0 +1,6 @@
+pub mod Pieces
+pub mod Laws
+pub mod Mend
+pub mod Walk
+pub mod Examples
+pub mod WrongMenders
