@@ -1,5 +1,5 @@
 #!/usr/bin/env bash
-# Times mend: the proved program, the mender of tests/reference, and `wc -c`, over recordings of 65,536 bytes.
+# Times mend: the proved program, the mender of tests/reference, and `wc -c`, over recordings of up to 65,536 bytes.
 #
 #   bench/mend.sh [RUNS]
 #
@@ -10,15 +10,15 @@ runs=${1:-400}
 build mend
 cargo build -q --release --offline --manifest-path tests/reference/Cargo.toml --target-dir target/reference
 
-# The first 65,536 bytes of a text that is written over and over.
+# A text that is written over and over, up to 65,536 bytes.
 repeated() {
-    { yes "$(printf "$1")" || true; } | tr -d '\n' | head -c 65536 >"$out/$2.rec"
+    awk -v t="$1" 'BEGIN { for (n = length(t); n <= 65536; n += length(t)) printf "%s", t }' >"$out/$2.rec"
 }
 
+part=$(head -c 4096 /dev/zero | base64 -w 0)
 repeated 'screen output \033[0m' noise
-repeated '\033]5113;ac=data;id=m;fid=a;d=%s\033\\' frames
-{ for ((i = 0; i < 12; i++)); do printf '\033]5113;ac=data;id=m;fid=a;d=%s\033\\' "$(head -c 4096 /dev/zero | base64 -w 0)"; done; } |
-    head -c 65536 >"$out/parts.rec"
+repeated '\033]5113;ac=data;id=m;fid=a;d=YWJj\033\\' frames
+repeated "\033]5113;ac=data;id=m;fid=a;d=$part\033\\\\" parts
 : >"$out/empty.rec"
 
 # CPU microseconds of one run, on average.
