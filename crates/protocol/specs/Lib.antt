@@ -19,6 +19,7 @@ pub mod Sound
 pub mod Promises
 pub mod Claim
 pub mod Cuts
+pub mod Replay
 pub mod Counts
 pub mod WrongMachines
 pub mod Serving

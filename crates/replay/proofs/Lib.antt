@@ -1,1 +1,4 @@
 mod Loops
+pub mod ReplayLaws
+mod Onwards
+pub mod PieceLaws

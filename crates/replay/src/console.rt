@@ -6,8 +6,13 @@
 // reply itself. The receiver stores a reply in the first Reply::ROOM bytes of the reply buffer; behind
 // them the replies of before wait, in their order.
 ghost use mathlib.Core.Path.{_≡_};
+ghost use mathlib.Core.Bool.{true};
 ghost use Prim.Native.Nat.{_-_, _≤_};
-ghost use lib.ListN.{length};
+ghost use lib.ListN.{length, drop};
+ghost use Rattle.protocol.specs.Calls.{feedOf};
+ghost use Rattle.streams.specs.Streams.{isWell, Keeps};
+ghost use Rattle.replay.specs.Plans.{isOver, callFor, LeftByTurn};
+ghost use Rattle.replay.specs.Pieces.{OnAfter, Takes};
 use octets::Stored;
 use protocol::Receiver;
 use protocol::Reply;
@@ -43,7 +48,8 @@ pub struct Plan {
 }
 
 // ---- What makes or passes on a `&mut Receiver` is proved by a walk, and decides nothing.
-// Feeds a piece until it is consumed or something fails. Replies may still wait then.
+// Feeds a piece until it is consumed or something fails. Replies may still wait then. Where the run is
+// well, that was a replay of the whole piece.
 pub(crate) fn take<'p, 'b>(
     before: Receiver,
     run: Run,
@@ -51,7 +57,10 @@ pub(crate) fn take<'p, 'b>(
     carry: &'b mut [u8],
     scratch: &'b mut [u8],
     reply: &'b mut [u8],
-) -> Taken {
+) -> Taken
+    ensures { λ t. ⌜ Takes (now (piece .entry)) (now (reply .entry)) before (now (carry .entry)) (t .onward .run)
+        (t .receiver) (now (carry .exit)) ⌝ }
+{
     let mut receiver = before;
     let mut onward = Onward {
         at: 0,
@@ -67,8 +76,8 @@ pub(crate) fn take<'p, 'b>(
     }
 }
 
-// Feeds a piece from a place on through the first thing to report, and answers that. At least one byte
-// less is left.
+// Feeds a piece from a place on through the first thing to report, and answers that as `answersTo` says.
+// At least one byte less is left.
 fn turn<'r, 'p, 'b>(
     receiver: &'r mut Receiver,
     piece: &'p [u8],
@@ -77,7 +86,11 @@ fn turn<'r, 'p, 'b>(
     scratch: &'b mut [u8],
     reply: &'b mut [u8],
 ) -> Onward
-    ensures { λ o. ⌜ length (now (piece .entry)) - o .at ≤ (length (now (piece .entry)) - onward .at) - 1 ⌝ }
+    ensures { λ o. ⌜ (length (now (piece .entry)) - o .at ≤ (length (now (piece .entry)) - onward .at) - 1)
+        × (let left = drop (onward .at) (now (piece .entry)) in
+        let f = feedOf (now (receiver .entry)) left (now (carry .entry)) (now (scratch .entry)) (now (reply .entry)) in
+        LeftByTurn (now (receiver .exit)) (now (carry .exit)) (now (scratch .exit)) left f
+        × OnAfter (length (now (piece .entry))) (f .fed .consumed) onward o) ⌝ }
 {
     let left = rest(piece, onward.at);
     let fed = receiver_in_place::feed(receiver, left, carry, scratch, reply);
@@ -92,7 +105,7 @@ fn turn<'r, 'p, 'b>(
 // ---- What is decided and written.
 // What of a piece is left at a place.
 fn rest<'p>(piece: &'p [u8], at: usize) -> &'p [u8]
-    ensures { λ r. ⌜ length (now r) ≤ length (now (piece .entry)) ⌝ }
+    ensures { λ r. ⌜ now r ≡ drop at (now (piece .entry)) ⌝ }
 {
     if at > piece.len() {
         return &piece[..0];
@@ -102,7 +115,8 @@ fn rest<'p>(piece: &'p [u8], at: usize) -> &'p [u8]
 
 // Sends the feed's reply, and plans what follows.
 fn planned<'b>(fed: FedInPlace, onward: Onward, len: usize, reply: &'b mut [u8]) -> Plan
-    ensures { λ p. ⌜ len - p .onward .at ≤ (len - onward .at) - 1 ⌝ }
+    ensures { λ p. ⌜ (len - p .onward .at ≤ (len - onward .at) - 1) × (p .«is_over» ≡ isOver (fed .told))
+        × (p .call ≡ callFor (fed .told)) × OnAfter len (fed .consumed) onward (p .onward) ⌝ }
 {
     let told = fed.told;
     let sent = send(onward, fed.reply_len, reply);
@@ -113,7 +127,9 @@ fn planned<'b>(fed: FedInPlace, onward: Onward, len: usize, reply: &'b mut [u8])
     }
 }
 
-fn call_for(told: Told) -> Call {
+fn call_for(told: Told) -> Call
+    ensures { λ c. ⌜ c ≡ callFor told ⌝ }
+{
     match told {
         Told::Asked => Call::Allow,
         Told::LastPath => Call::Allow,
@@ -131,7 +147,9 @@ fn call_for(told: Told) -> Call {
 }
 
 // Whether nothing is to answer.
-fn is_over(told: Told) -> bool {
+fn is_over(told: Told) -> bool
+    ensures { λ r. ⌜ r ≡ isOver told ⌝ }
+{
     match told {
         Told::Asked => false,
         Told::LastPath => false,
@@ -150,7 +168,8 @@ fn is_over(told: Told) -> bool {
 
 // Sends an answer's reply.
 fn finish<'b>(onward: Onward, n: usize, len: usize, reply: &'b mut [u8]) -> Onward
-    ensures { λ o. ⌜ len - o .at ≤ len - onward .at ⌝ }
+    ensures { λ o. ⌜ (len - o .at ≤ len - onward .at)
+        × (isWell (o .run) ≡ true → (isWell (onward .run) ≡ true) × (o .at ≡ onward .at)) ⌝ }
 {
     let sent = send(onward, n, reply);
     let run = sent.run;
@@ -160,10 +179,10 @@ fn finish<'b>(onward: Onward, n: usize, len: usize, reply: &'b mut [u8]) -> Onwa
     Onward { at: len, ..sent }
 }
 
-// After so many bytes used at a place: the next place, or the end where the run failed or nothing was
-// used.
+// After so many bytes used at a place: the place behind them, or the end where the run failed or nothing
+// was used.
 fn moved(onward: Onward, used: usize, len: usize) -> Onward
-    ensures { λ o. ⌜ len - o .at ≤ (len - onward .at) - 1 ⌝ }
+    ensures { λ o. ⌜ (len - o .at ≤ (len - onward .at) - 1) × OnAfter len used onward o ⌝ }
 {
     let at = onward.at;
     let run = onward.run;
@@ -191,7 +210,7 @@ fn moved(onward: Onward, used: usize, len: usize) -> Onward
 
 // Puts a reply of n bytes behind those that wait. Where no room is left there, all are written.
 fn send<'b>(onward: Onward, n: usize, reply: &'b mut [u8]) -> Onward
-    ensures { λ o. ⌜ o .at ≡ onward .at ⌝ }
+    ensures { λ o. ⌜ (o .at ≡ onward .at) × Keeps (onward .run) (o .run) ⌝ }
 {
     let Stored::End(end) = put_by(reply, onward.replies_end, n) else {
         let run = flush(onward, reply);
@@ -216,7 +235,9 @@ fn put_by<'b>(reply: &'b mut [u8], at: usize, n: usize) -> Stored {
 }
 
 // Writes the replies that wait.
-pub(crate) fn flush(onward: Onward, reply: &[u8]) -> Run {
+pub(crate) fn flush(onward: Onward, reply: &[u8]) -> Run
+    ensures { λ r. ⌜ Keeps (onward .run) r ⌝ }
+{
     let run = onward.run;
     let n = octets::size::less(onward.replies_end, Reply::ROOM);
     run.text(octets::part(reply, Reply::ROOM, n))

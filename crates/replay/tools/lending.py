@@ -87,6 +87,7 @@ use Rattle.receiver_kept.proofs.Local.{{lend-local, local-back}}
 """
 # what the walks of receiver_in_place do not use
 MORE = """use Prim.Native.Nat.{_-_, _≤_}
+use lib.ListN.{drop as dropped}
 use denote.Slice.{shr-slice-lawful}
 use denote.Triple.Walked.{stay-slice, onExit, goes-slice}
 use mathlib.Core.WellFounded.{WellFounded, InvImage·wf}
@@ -99,7 +100,16 @@ use prog.Wp.{afterTurn}
 use types.Kit.{Item, atRet}
 use types.Run.{exec, first, blocks, loops, again, assigns-last, land-last}
 use denote.Triple.Call.{calls-at-last}
+use mathlib.Core.Bool.{true}
+use lib.Dec.{ltb}
+use borrow.Author.Tests.{ltb-false}
+use Rattle.streams.specs.Streams.{isWell}
+use Rattle.replay.specs.Plans.{isOver, callFor, LeftByTurn}
+use Rattle.replay.specs.Pieces.{OnAfter, Takes}
 use Rattle.replay.proofs.Loops.{turns-or, tyAt, envOf, restOf}
+use Rattle.replay.proofs.ReplayLaws.{turned-over, turned-on}
+use Rattle.replay.proofs.Onwards.{fed-after, answered-after}
+use Rattle.replay.proofs.PieceLaws.{Going, going-first, going-on, going-last}
 """
 
 

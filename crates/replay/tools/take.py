@@ -8,11 +8,13 @@ REF = "RefT (List ℕ)"
 U8 = "(plain (λ _. u8))"
 GHOST = "((κp, (κb, tt)), (qp, (qb, tt)), tt, x, at)"
 LEN = "(length (yp .now))"
+LEFT_AT = "(dropped (t .0 .1 .0 .at) (yp .now))"
 # of the loop's state: the receiver, where the piece goes on, the buffers; and what is known of them
 G, O = "(t .0 .0)", "(t .0 .1 .0)"
 LISTS = {"carry": "(t .0 .1 .1 .0)", "scratch": "(t .0 .1 .1 .1 .0)", "reply": "(t .0 .1 .1 .1 .1)"}
 SAME = {"carry": "(t .1 .0)", "scratch": "(t .1 .1 .0)", "reply": "(t .1 .1 .1 .0)"}
-G_IS, O_IS = "(t .1 .1 .1 .1 .0)", "(t .1 .1 .1 .1 .1)"
+FED = f"feedOf {G} {LEFT_AT} " + " ".join(LISTS[n] for n in LISTS)
+G_IS, O_IS, GOING = "(t .1 .1 .1 .1 .0)", "(t .1 .1 .1 .1 .1 .0)", "(t .1 .1 .1 .1 .1 .1)"
 
 w = Walk("replay", "console::take")
 w.names = {**NAMES, **CALLED}
@@ -35,7 +37,7 @@ w.assign(lawful("LL", "On", "start", "start-is"))
 FRONT = [("p-token", "‵ (flft κp qp)"), ("b-token", "‵ (flft κb qb)"), ("piece", "‵ Piece")]
 FRONT += [(n, f"‵ (MutSlice (named 1) κb u8 .own (x{v} γ{v} {LISTS[n]}) (t{v} ∷ []))") for n, v in (("carry", "c"), ("scratch", "s"), ("reply", "y"))]
 VALUES = {1: "(only (vals h))", 2: "(rval s)", 3: "tp", 4: "tc", 5: "ts", 6: "ty", 7: f"(only (vals {G}))", 8: f"(onval {O})"}
-w.loop(FRONT, VALUES, "At", "Nearer Nearer-wf", "((h, (start, (c₀, (s₀, y₀)))), (refl, (refl, (refl, (was, start-is)))))")
+w.loop(FRONT, VALUES, "At", "Nearer Nearer-wf", "((h, (start, (c₀, (s₀, y₀)))), (refl, (refl, (refl, (was, (start-is, going-first (yp .now) y₀ h c₀ start refl))))))")
 REST = "restOf (" * (before - len(w.after)) + "code.function .body" + ")" * (before - len(w.after))
 w.assign("(tt, record { fits = room-p .0 })")
 w.assign()
@@ -59,7 +61,7 @@ def turn():
     w.note()
     w.call(f"Turned {X}", "known-turned", f"to-turned {ghost}", "v₁")
     said(w, "₁", ("Onward", "On"), "‵ (flft (ν ∷ []) fullShare) ⊛ ‵ (flft κp qp) ⊛ ‵ (flft (μ₁ ∷ []) fullShare) ⊛ ‵ ftrue", "turned", f"(ν ∷ [], (κp, (μ₁ ∷ [], tt))) (turned-args l₇ δ δc₁ δs₁ δy₁ {A})",
-         typed("Receiver", *["Unit {0}"] * 2, *["List ℕ"] * 3), f"{LEN} - {{r}} .at ≤ ({LEN} - {O} .at) - 1")
+         typed("Receiver", *["Unit {0}"] * 2, *["List ℕ"] * 3), f"({LEN} - {{r}} .at ≤ ({LEN} - {O} .at) - 1) × (LeftByTurn ({{zs}} .0) ({{zs}} .1 .1 .1 .0) ({{zs}} .1 .1 .1 .1 .0) {LEFT_AT} ({FED}) × OnAfter {LEN} ({FED} .fed .consumed) {O} {{r}})")
     w.step(["lasts"], "fsplit ! $", ["receiver-last", "lasts"])
     back(w, "₁", 2, "carry", "scratch", "reply")
     w.step(["answer"], "split ! $", ["tokens", "answer"])
@@ -74,11 +76,12 @@ def turn():
     w.note()
     w.land(lawful("LL", "On", "r₁", "is₁"))
     w.rewrite("_8", "(λ (u : Val). ‵ (fat fullShare On′.mir l₈ 0 u)) (ap only (LL.tells On.the-type On′.the-laws r₁ _ is₁)) refl")
-    w.say(f"let less : {LEN} - r₁ .at < {LEN} - {O} .at = omega (arith, e₁, ltb→lt ({O} .at) {LEN} held) in")
+    w.say(f"let less : {LEN} - r₁ .at < {LEN} - {O} .at = omega (arith, e₁ .0, ltb→lt ({O} .at) {LEN} held) in")
     w.say(" ".join(f"forget ! {w.at(f'_{k}')} refl $" for k in sorted(w.made - set(VALUES))))
     w.settle()
     now = "((zs₁ .0), (r₁, (" + buffers.now["carry"] + ", (" + buffers.now["scratch"] + ", " + buffers.now["reply"] + "))))"
-    same = f"({buffers.same['carry']}, ({buffers.same['scratch']}, ({buffers.same['reply']}, (now-is, now-on))))"
+    same = f"({buffers.same['carry']}, ({buffers.same['scratch']}, ({buffers.same['reply']}, (now-is, (now-on, going)))))"
+    w.say(f"let going = going-on (yp .now) y₀ h c₀ {O} r₁ {G} (zs₁ .0) {LISTS['carry']} {buffers.now['carry']} {LISTS['scratch']} {buffers.now['scratch']} {LISTS['reply']} {SAME['reply']} {GOING} (e₁ .1 .0) (e₁ .1 .1) in")
     w.say(f"again ! Nearer (At {w.blocks}) t ({now}, {same}) less")
 
 
@@ -89,7 +92,7 @@ w.say(f"let done-is = LL.owes Tn.the-type Tn′.the-laws {DONE} ({G_IS}, ({O_IS}
 w.assign(lawful("LL", "Tn", DONE, "done-is"))
 assert w.todo == ["return"], w.todo
 w.leave()
-w.say("keep ! (" + "".join(f"{w.at(n)} ∷ " for n in ("p-token", "b-token", "carry", "scratch", "reply")) + f"[]) $ by ! (exits {DONE} " + " ".join(LISTS[n] for n in LISTS) + " " + " ".join(SAME[n] for n in SAME) + " done-is)")
+w.say("keep ! (" + "".join(f"{w.at(n)} ∷ " for n in ("p-token", "b-token", "carry", "scratch", "reply")) + f"[]) $ by ! (exits {DONE} " + " ".join(LISTS[n] for n in LISTS) + f" (going-last (yp .now) y₀ h c₀ {O} {G} {LISTS['carry']} (ltb-false ({O} .at) {LEN} (is-false (ltb ({O} .at) {LEN}) over)) {GOING}) " + " ".join(SAME[n] for n in SAME) + " done-is)")
 w.close_loop()
 
 mut = lambda v, δ, l: f"MutSlice (named 2) (μ ∷ []) u8 .own (x{v} {δ} {l}) (t{v} ∷ [])"
@@ -169,7 +172,7 @@ module _ {GIVEN} (W : Given 𝓤 H A) {RUN} (κp κb : Lft) (qp qb : Share) (h :
   State = Receiver × (Onward × (List ℕ × (List ℕ × List ℕ)))
 
   abbrev Facts : State → Type 0
-  Facts z = (length (z .1 .1 .0) ≡ length c₀) × ((length (z .1 .1 .1 .0) ≡ length s₀) × ((length (z .1 .1 .1 .1) ≡ length y₀) × (Is T.the-row (z .0) (vals (z .0)) × Is On.the-row (z .1 .0) (onval (z .1 .0) ∷ []))))
+  Facts z = (length (z .1 .1 .0) ≡ length c₀) × ((length (z .1 .1 .1 .0) ≡ length s₀) × ((length (z .1 .1 .1 .1) ≡ length y₀) × (Is T.the-row (z .0) (vals (z .0)) × (Is On.the-row (z .1 .0) (onval (z .1 .0) ∷ []) × Going (yp .now) y₀ h c₀ (z .1 .0) (z .0) (z .1 .1 .0)))))
 
   abbrev Turning : Type 0
   Turning = (z : State) × Facts z
@@ -200,16 +203,12 @@ module _ {GIVEN} (W : Given 𝓤 H A) {RUN} (κp κb : Lft) (qp qb : Share) (h :
   goes-turned : (ν μ l : ℕ) (δ δc δs δy : GName) (g : Receiver) (d : Onward) (zc zs zy : List ℕ) → ent 𝓤 (sep 𝓤 (sep 𝓤 (A .lft (ν ∷ []) fullShare) (sep 𝓤 (A .lft κp qp) (sep 𝓤 (A .lft (μ ∷ []) fullShare) (sem 𝓤 H A ftrue)))) (sem 𝓤 H A (TurnedOwn {NAMES_}))) (Turned {X} .pre (to-turned {NAMES_}))
   goes-turned {NAMES_} = qed W (((‵ (flft (ν ∷ []) fullShare) ⊛ ‵ (flft κp qp) ⊛ ‵ (flft (μ ∷ []) fullShare) ⊛ ‵ ftrue) ⊛ ‵ (TurnedOwn {NAMES_})) ∷ []) ∵ frame ! $ done !
 
-  -- the walk's end: the buffers are still owned, and nothing is ensured
-  abbrev Had : Taken → List ℕ → List ℕ → List ℕ → SProp 𝓤
-  Had r zc zs zy = onExit 𝓤 H A f.ended stayed (κp, (κb, tt)) (qp, (qb, tt)) at (LL.val Tn.the-type Tn′.the-laws r) r x {tup('tt', 'tt', 'tt', 'zc', 'zs', 'zy')}
-
-  exits : (r : Taken) (zc zs zy : List ℕ) → length zc ≡ length c₀ → length zs ≡ length s₀ → length zy ≡ length y₀ → Is Tn.the-row r (LL.val Tn.the-type Tn′.the-laws r ∷ [])
+  -- the walk's end: the buffers are still owned
+  exits : (r : Taken) (zc zs zy : List ℕ) → Takes (yp .now) y₀ h c₀ (r .onward .run) (r .receiver) zc → length zc ≡ length c₀ → length zs ≡ length s₀ → length zy ≡ length y₀ → Is Tn.the-row r (LL.val Tn.the-type Tn′.the-laws r ∷ [])
       → ent 𝓤 (sep 𝓤 (A .lft κp qp) (sep 𝓤 (A .lft κb qb) (sep 𝓤 (sem 𝓤 H A ({OWNED[0]})) (sep 𝓤 (sem 𝓤 H A ({OWNED[1]})) (sem 𝓤 H A ({OWNED[2]})))))) (Post (LL.val Tn.the-type Tn′.the-laws r))
-  exits r zc zs zy lc ls ly is =
+  exits r zc zs zy e lc ls ly is =
       qed W (‵ (flft κp qp) ∷ ‵ (flft κb qb) ∷ {''.join(f'‵ ({t}) ∷ ' for t in OWNED)}[]) ∵
-      suffices ! (Had r zc zs zy) (via 𝓤 (sep 𝓤 (Had r zc zs zy) (emp 𝓤)) (via 𝓤 (sep 𝓤 (emp 𝓤) (Had r zc zs zy)) (emp∗ 𝓤 (Had r zc zs zy)) (comm∗ 𝓤 (emp 𝓤) (Had r zc zs zy)))
-      (ends-at 𝓤 H A f.ended stayed (f.clauses {X}) W ({GHOST}, tt) (LL.val Tn.the-type Tn′.the-laws r) r {tup('tt', 'tt', 'tt', 'zc', 'zs', 'zy')} {tup('tt', 'tt', 'tt', 'lc', 'ls', 'ly')})) $
+      suffices ! _ (ends-at 𝓤 H A f.ended stayed (f.clauses {X}) W ({GHOST}, tt) (LL.val Tn.the-type Tn′.the-laws r) r {tup('tt', 'tt', 'tt', 'zc', 'zs', 'zy')} {tup('tt', 'tt', 'tt', 'lc', 'ls', 'ly')}) $ says ! e $
       nothing ! $ move ! (2 ∷ 0 ∷ []) $ join ! $ move ! (1 ∷ 0 ∷ []) $ join ! $ frame ! $
       -- [the buffers]
       nothing ! $ move ! (3 ∷ 0 ∷ []) $ fjoin ! $ move ! (2 ∷ 0 ∷ []) $ fjoin ! $ move ! (1 ∷ 0 ∷ []) $ fjoin ! $ nothing ! $ fjoin ! $ nothing ! $ fjoin ! $ nothing ! $ fjoin ! $

@@ -8,6 +8,8 @@ REF = "RefT (List ℕ)"
 U8 = "(plain (λ _. u8))"
 GHOST = "((κ, (κp, (κb, tt))), (q, (qp, (qb, tt))), tt, x, at)"
 LEN = "(length (yp .now))"
+LEFT_AT = "(dropped (on .at) (yp .now))"
+USED = f"(feedOf h {LEFT_AT} c₀ s₀ y₀ .fed .consumed)"
 
 w = Walk("replay", "console::turn")
 w.names = {**NAMES, **CALLED}
@@ -30,7 +32,10 @@ asked(w, "Rest", "to-rest", "goes-rest", ("p-token",), ("piece", "number"))
 w.call(f"Rest {X}", "known-rest", "to-rest", "v₀")
 ROW = "(ShrSlice (named 0) κp u8)"
 w.step([], f"use1 W (later (some (λ (r : {REF}). ((‵ (flft κp qp) ⊛ ‵ ftrue) ⊛ ‵ ({ROW} .own r (v₀ ∷ []))) ⊛ raw (ensured 𝓤 H A rest.ended (rest.clauses {X}) (κp, tt) rest-args tt r)))) (id⊢ 𝓤 _) $ await ! tt $ pick ! (λ r₀. split ! $", ["answer", "ensured"])
-w.drop("ensured")
+IS_LEFT = f"r₀ .now ≡ {LEFT_AT}"
+w.step(["ensured"], f"use1 W (some (λ (zs : {typed(*['Unit {0}'] * 2)}). ‵ (lasts rest.ended (κp, tt) rest-args zs) ⊛ raw (fact 𝓤 ({IS_LEFT})))) (id⊢ 𝓤 _) $ pick ! (λ zs₀. split ! $", ["lasts", "fact"])
+w.step(["fact"], f"heard ! ({IS_LEFT}) (λ e₀.", [])
+w.drop("lasts")
 w.step(["answer"], "split ! $", ["tokens", "left"])
 spread(w, "tokens", "p-token")
 w.step(["left"], f"peeks ! {ROW} (Is {ROW}) (shows 𝓤 H A {ROW}) r₀ (v₀ ∷ []) (λ is₀.", ["left"])
@@ -65,12 +70,13 @@ buffers.lend("μ₂", 0, "reply")
 number(w, LEN, "(refl, room-p .0)", "length")
 own(w, "LL", "On", "on", "on-is", "onward")
 own(w, "LL", "F", "r₁", "(LL.owes F.the-type F′.the-laws r₁ told₁)", "fed")
-REPLY1 = "(zs₁ .1 .1 .1 .1 .0)"
+CARRY1, SCRATCH1, REPLY1 = "(zs₁ .1 .1 .0)", "(zs₁ .1 .1 .1 .0)", "(zs₁ .1 .1 .1 .1 .0)"
 G = f"μ₂ δy₂ r₁ {REPLY1}"
 asked(w, "Planned", f"(to-planned {G})", f"(goes-planned {G})", ("μ₂",), ("fed", "onward", "length", "reply"))
 w.note()
 w.call(f"Planned {X}", "known-planned", f"to-planned {G}", "v₂")
-said(w, "₂", ("Plan", "Pl"), "‵ (flft (μ₂ ∷ []) fullShare) ⊛ ‵ ftrue", "planned", f"(μ₂ ∷ [], tt) (planned-args δy₂ r₁ {REPLY1})", typed(*["Unit {0}"] * 3, "List ℕ"), f"{LEN} - {{r}} .onward .at ≤ ({LEN} - on .at) - 1")
+said(w, "₂", ("Plan", "Pl"), "‵ (flft (μ₂ ∷ []) fullShare) ⊛ ‵ ftrue", "planned", f"(μ₂ ∷ [], tt) (planned-args δy₂ r₁ {REPLY1})", typed(*["Unit {0}"] * 3, "List ℕ"),
+     f"({LEN} - {{r}} .onward .at ≤ ({LEN} - on .at) - 1) × ({{r}} .«is_over» ≡ isOver (r₁ .told)) × ({{r}} .call ≡ callFor (r₁ .told)) × OnAfter {LEN} (r₁ .consumed) on ({{r}} .onward)")
 back(w, "₂", 3, "reply")
 w.step(["answer"], "split ! $", ["tokens", "answer"])
 landed(w, "₂", "Pl", "r₂", 9)
@@ -89,11 +95,14 @@ def ended(how, g, r, v, e, known):
 
 
 ONWARD_IS = "(told₂ .1 .1 .0)"
+FED = f"r₁ c₀ s₀ y₀ {CARRY1} {SCRATCH1} {REPLY1} (r₀ .now) {LEFT_AT}"
+w.say(f"let fed-on : OnAfter {LEN} {USED} on (r₂ .onward) = fed-after h (zs₁ .0) {FED} {LEN} on (r₂ .onward) e₀ e₁ (e₂ .3) in")
 
 
 def over():
     w.assign(lawful("LL", "On", "(r₂ .onward)", ONWARD_IS))
-    ended("returns-within ! Post refl", "(zs₁ .0)", "(r₂ .onward)", "(LL.val On.the-type On′.the-laws (r₂ .onward))", "e₂", ONWARD_IS)
+    ended("returns-within ! Post refl", "(zs₁ .0)", "(r₂ .onward)", "(LL.val On.the-type On′.the-laws (r₂ .onward))",
+          f"(e₂ .0, (turned-over h (zs₁ .0) {FED} e₀ e₁ (sym (e₂ .1) ∙ is-true (r₂ .«is_over») yes), fed-on))", ONWARD_IS)
 
 
 w.assign("(tt, tt)")
@@ -106,7 +115,7 @@ w.step([], "lft-new ! tt (λ μ₃.", ["μ₃"])
 buffers.lend("μ₃", 2, "carry", "reply")
 own(w, "LL", "F", "r₁", "(LL.owes F.the-type F′.the-laws r₁ told₁)", "fed")
 own(w, "EL", "K", "(r₂ .call)", "(told₂ .0)", "call")
-CARRY1, REPLY2 = "(zs₁ .1 .1 .0)", "(zs₂ .1 .1 .1 .0)"
+REPLY2 = "(zs₂ .1 .1 .1 .0)"
 A = f"(zs₁ .0) (r₂ .call) r₁ r₀ {CARRY1} {REPLY2}"
 G = f"ν₃ μ₃ δ₃ δc₃ δy₃ v₀ {A}"
 asked(w, "Answer", f"(to-answer {G})", f"(goes-answer {G})", ("ν₃", "p-token", "μ₃"), ("lent", "call", "fed", "left-again", "carry", "reply"))
@@ -137,16 +146,19 @@ G = f"μ₄ δy₄ {A}"
 asked(w, "Finish", f"(to-finish {G})", f"(goes-finish {G})", ("μ₄",), ("onward", "reply-len", "length", "reply"))
 w.note()
 w.call(f"Finish {X}", "known-finish", f"to-finish {G}", "v₄")
-said(w, "₄", ("Onward", "On"), "‵ (flft (μ₄ ∷ []) fullShare) ⊛ ‵ ftrue", "finish", f"(μ₄ ∷ [], tt) (finish-args δy₄ {A})", typed(*["Unit {0}"] * 3, "List ℕ"), f"{LEN} - {{r}} .at ≤ {LEN} - r₂ .onward .at")
+said(w, "₄", ("Onward", "On"), "‵ (flft (μ₄ ∷ []) fullShare) ⊛ ‵ ftrue", "finish", f"(μ₄ ∷ [], tt) (finish-args δy₄ {A})", typed(*["Unit {0}"] * 3, "List ℕ"),
+     f"({LEN} - {{r}} .at ≤ {LEN} - r₂ .onward .at) × (isWell ({{r}} .run) ≡ true → (isWell (r₂ .onward .run) ≡ true) × ({{r}} .at ≡ r₂ .onward .at))")
 back(w, "₄", 3, "reply")
 w.step(["answer"], "split ! $", ["tokens", "answer"])
 w.step(["answer"], "peeks ! On.the-row (Is On.the-row) (shows 𝓤 H A On.the-row) r₄ (v₄ ∷ []) (λ is₄. drop ! $", [])
 w.land(lawful("LL", "On", "r₄", "is₄"))
 spread(w, "tokens", "μ₄")
 buffers.back("μ₄", 0, {"reply": ("(zs₄ .1 .1 .1 .0)", "ly₄")}, "reply")
-w.say(f"let nearer : {LEN} - r₄ .at ≤ ({LEN} - on .at) - 1 = omega (arith, e₂, e₄) in")
+w.say(f"let nearer : {LEN} - r₄ .at ≤ ({LEN} - on .at) - 1 = omega (arith, e₂ .0, e₄ .0) in")
+CARRY3 = "(zs₃ .1 .1 .1 .1 .0)"
+w.say(f"let at-last = turned-on h (zs₁ .0) (zs₃ .0) r₁ r₃ (r₂ .call) c₀ s₀ y₀ {CARRY1} {CARRY3} {SCRATCH1} {REPLY1} {REPLY2} {REPLY3} (r₀ .now) {LEFT_AT} e₀ e₁ (sym (e₂ .1) ∙ is-false (r₂ .«is_over») no) (e₂ .2) ly₂ (e₃ .0) (e₃ .1) in")
 assert w.todo == ["return"], w.todo
-ended("returns !", "(zs₃ .0)", "r₄", "v₄", "nearer", "is₄")
+ended("returns !", "(zs₃ .0)", "r₄", "v₄", f"(nearer, (at-last, answered-after {LEN} {USED} on (r₂ .onward) r₄ fed-on (e₄ .1)))", "is₄")
 
 
 def contract(name, lower):
@@ -253,7 +265,7 @@ module _ {GIVEN} (W : Given 𝓤 H A) {RUN} (κ κp κb : Lft) (q qp qb : Share)
 
   -- what the callees' triples bind outside, and what they ask{ASKS}
   -- the walk's end: the receiver and the buffers are still owned
-  exits : (g : Receiver) (r : Onward) (v : Val) (zc zs zy : List ℕ) → {LEN} - r .at ≤ ({LEN} - on .at) - 1 → length zc ≡ length c₀ → length zs ≡ length s₀ → length zy ≡ length y₀ → Is On.the-row r (v ∷ [])
+  exits : (g : Receiver) (r : Onward) (v : Val) (zc zs zy : List ℕ) → ({LEN} - r .at ≤ ({LEN} - on .at) - 1) × (LeftByTurn g zc zs {LEFT_AT} (feedOf h {LEFT_AT} c₀ s₀ y₀) × OnAfter {LEN} {USED} on r) → length zc ≡ length c₀ → length zs ≡ length s₀ → length zy ≡ length y₀ → Is On.the-row r (v ∷ [])
       → ent 𝓤 (sep 𝓤 (A .lft κ q) (sep 𝓤 (A .lft κp qp) (sep 𝓤 (A .lft κb qb) (sep 𝓤 (sem 𝓤 H A (MutRef (named 0) κ T.the-row .own (lent γ g) (vptr b o ∷ []))) (sep 𝓤 (sem 𝓤 H A ({OWNED[0]})) (sep 𝓤 (sem 𝓤 H A ({OWNED[1]})) (sem 𝓤 H A ({OWNED[2]})))))))) (Post v)
   exits g r v zc zs zy e lc ls ly is =
       qed W (‵ (flft κ q) ∷ ‵ (flft κp qp) ∷ ‵ (flft κb qb) ∷ ‵ (MutRef (named 0) κ T.the-row .own (lent γ g) (vptr b o ∷ [])) ∷ {''.join(f'‵ ({t}) ∷ ' for t in OWNED)}[]) ∵

@@ -43,26 +43,33 @@ use denote.Triple.Spec.{Meets, tripleOf}
 use denote.Triple.Statement.{Contract, Triple}
 use denote.Triple.Clauses.{ensured, lasts}
 use denote.Triple.Table.{entered, cited}
-use denote.Triple.Walked.{Stays, stay-dropped, walkOf, goes-dropped, Walks, ends-at, walked, walk-meets}
+use denote.Triple.Walked.{says, Stays, stay-dropped, walkOf, goes-dropped, Walks, ends-at, walked, walk-meets}
 use denote.Exit.{yes}
+use Rattle.protocol.specs.Calls.{feedOf}
 use Rattle.protocol.specs.declared.Receiver.{Receiver}
 use Rattle.protocol.proofs.Receiver as T
 use Rattle.protocol.proofs.Receiver.Laws as T′
 use Rattle.receiver_in_place.proofs.Again.{LentAgain, lends-again, comes-back}
+use Rattle.receiver_in_place.proofs.Early.{is-false}
 use Rattle.receiver_in_place.proofs.Cells.{vals}
 use Prim.Native.Nat.{_-_, _≤_}
-use denote.Triple.Walked.{stay-slice, onExit, goes-slice}
+use lib.ListN.{drop as dropped}
+use denote.Triple.Walked.{stay-slice, goes-slice}
 use mathlib.Core.WellFounded.{WellFounded, InvImage·wf}
 use lib.WfN.{Nat·lt-wfRel}
 use lib.Dec.{ltb→lt}
 use mir.Syntax.{Body as MirBody}
-use base.Logic.{comm∗, emp∗}
 use base.Fml.{froom, fdies}
 use prog.Wp.{afterTurn}
 use types.Kit.{Item, atRet}
 use types.Run.{exec, first, blocks, loops, again, land-last}
 use denote.Triple.Call.{calls-at-last}
+use lib.Dec.{ltb}
+use borrow.Author.Tests.{ltb-false}
+use Rattle.replay.specs.Plans.{LeftByTurn}
+use Rattle.replay.specs.Pieces.{OnAfter, Takes}
 use Rattle.replay.proofs.Loops.{turns-or, tyAt, envOf, restOf}
+use Rattle.replay.proofs.PieceLaws.{Going, going-first, going-on, going-last}
 use Rattle.protocol.specs.Replies.{replyRoom}
 use Rattle.streams.specs.declared.Run.{Run}
 use Rattle.streams.proofs.Run as Rn
@@ -169,7 +176,8 @@ module _ {M : Type 1} (𝓤 : URA M) (H : Heap 𝓤) (A : Atoms 𝓤) (W : Given
 
   abbrev Facts : State → Type 0
   Facts z = (length (z .1 .1 .0) ≡ length c₀) × ((length (z .1 .1 .1 .0) ≡ length s₀) × ((length (z .1 .1 .1 .1) ≡ length y₀) × (Is
-      T.the-row (z .0) (vals (z .0)) × Is On.the-row (z .1 .0) (onval (z .1 .0) ∷ []))))
+      T.the-row (z .0) (vals (z .0)) × (Is On.the-row (z .1 .0) (onval (z .1 .0) ∷ []) × Going (yp .now) y₀ h c₀ (z .1 .0) (z .0) (z .1
+      .1 .0)))))
 
   abbrev Turning : Type 0
   Turning = (z : State) × Facts z
@@ -217,31 +225,18 @@ module _ {M : Type 1} (𝓤 : URA M) (H : Heap 𝓤) (A : Atoms 𝓤) (W : Given
   goes-turned ν μ l δ δc δs δy g d zc zs zy = qed W (((‵ (flft (ν ∷ []) fullShare) ⊛ ‵ (flft κp qp) ⊛ ‵ (flft (μ ∷ []) fullShare) ⊛ ‵
       ftrue) ⊛ ‵ (TurnedOwn ν μ l δ δc δs δy g d zc zs zy)) ∷ []) ∵ frame ! $ done !
 
-  -- the walk's end: the buffers are still owned, and nothing is ensured
-  abbrev Had : Taken → List ℕ → List ℕ → List ℕ → SProp 𝓤
-  Had r zc zs zy = onExit 𝓤 H A f.ended stayed (κp, (κb, tt)) (qp, (qb, tt)) at (LL.val Tn.the-type Tn′.the-laws r) r x (
-    tt,
-    (
-      tt,
-      (
-        tt,
-        (zc, (zs, (zy, tt))),
-      ),
-    ),
-  )
-
-  exits : (r : Taken) (zc zs zy : List ℕ) → length zc ≡ length c₀ → length zs ≡ length s₀ → length zy ≡ length y₀ → Is Tn.the-row r
-      (LL.val Tn.the-type Tn′.the-laws r ∷ [])
+  -- the walk's end: the buffers are still owned
+  exits : (r : Taken) (zc zs zy : List ℕ) → Takes (yp .now) y₀ h c₀ (r .onward .run) (r .receiver) zc → length zc ≡ length c₀ → length
+      zs ≡ length s₀ → length zy ≡ length y₀ → Is Tn.the-row r (LL.val Tn.the-type Tn′.the-laws r ∷ [])
       → ent 𝓤 (sep 𝓤 (A .lft κp qp) (sep 𝓤 (A .lft κb qb) (sep 𝓤 (sem 𝓤 H A (MutSlice (named 1) κb u8 .own (xc γc zc) (tc ∷ []))) (sep
       𝓤 (sem 𝓤 H A (MutSlice (named 1) κb u8 .own (xs γs zs) (ts ∷ []))) (sem 𝓤 H A (MutSlice (named 1) κb u8 .own (xy γy zy) (ty ∷
       []))))))) (Post (LL.val Tn.the-type Tn′.the-laws r))
-  exits r zc zs zy lc ls ly is =
+  exits r zc zs zy e lc ls ly is =
       qed W (‵ (flft κp qp) ∷ ‵ (flft κb qb) ∷ ‵ (MutSlice (named 1) κb u8 .own (xc γc zc) (tc ∷ [])) ∷ ‵ (MutSlice (named 1) κb u8
       .own (xs γs zs) (ts ∷ [])) ∷ ‵ (MutSlice (named 1) κb u8 .own (xy γy zy) (ty ∷ [])) ∷ []) ∵
-      suffices ! (Had r zc zs zy) (via 𝓤 (sep 𝓤 (Had r zc zs zy) (emp 𝓤)) (via 𝓤 (sep 𝓤 (emp 𝓤) (Had r zc zs zy)) (emp∗ 𝓤 (Had r zc zs
-      zy)) (comm∗ 𝓤 (emp 𝓤) (Had r zc zs zy)))
-      (ends-at 𝓤 H A f.ended stayed (f.clauses 𝓤 H A at-mem run) W (((κp, (κb, tt)), (qp, (qb, tt)), tt, x, at), tt) (LL.val
-      Tn.the-type Tn′.the-laws r) r (tt, (tt, (tt, (zc, (zs, (zy, tt)))))) (tt, (tt, (tt, (lc, (ls, (ly, tt)))))))) $
+      suffices ! _ (ends-at 𝓤 H A f.ended stayed (f.clauses 𝓤 H A at-mem run) W (((κp, (κb, tt)), (qp, (qb, tt)), tt, x, at), tt)
+      (LL.val Tn.the-type Tn′.the-laws r) r (tt, (tt, (tt, (zc, (zs, (zy, tt)))))) (tt, (tt, (tt, (lc, (ls, (ly, tt))))))) $ says !
+      e $
       nothing ! $ move ! (2 ∷ 0 ∷ []) $ join ! $ move ! (1 ∷ 0 ∷ []) $ join ! $ frame ! $
       -- [the buffers]
       nothing ! $ move ! (3 ∷ 0 ∷ []) $ fjoin ! $ move ! (2 ∷ 0 ∷ []) $ fjoin ! $ move ! (1 ∷ 0 ∷ []) $ fjoin ! $ nothing ! $ fjoin ! $
@@ -389,7 +384,7 @@ module _ {M : Type 1} (𝓤 : URA M) (H : Heap 𝓤) (A : Atoms 𝓤) (W : Given
         (named 1) (named 2) (t .0 .1 .1 .1 .1)) $ await ! tt $ pick ! (λ δy₁. split ! $
         rewrite ! 0 (λ (m : ℕ). ‵ (MutSlice (named 2) (μ₁ ∷ []) u8 .own (xy δy₁ (t .0 .1 .1 .1 .1)) (sliceVal (by′, oy) m ∷ []))) (t .1
         .1 .1 .0) refl $
-        owned ! On.the-row (Is On.the-row) (LL.makes On.the-type On′.the-plain 𝓤 H A) (t .0 .1 .0) _ (t .1 .1 .1 .1 .1) $
+        owned ! On.the-row (Is On.the-row) (LL.makes On.the-type On′.the-plain 𝓤 H A) (t .0 .1 .0) _ (t .1 .1 .1 .1 .1 .0) $
         nothing ! $
         move ! (2 ∷ 0 ∷ []) $ fjoin ! $
         move ! (3 ∷ 0 ∷ []) $ fjoin ! $
@@ -425,9 +420,15 @@ module _ {M : Type 1} (𝓤 : URA M) (H : Heap 𝓤) (A : Atoms 𝓤) (W : Given
         r)))) (id⊢ 𝓤 _) $ await ! tt $ pick ! (λ r₁. split ! $
         move ! (1 ∷ []) $ use1 W (some (λ (zs : Receiver × (Unit {0} × (Unit {0} × (List ℕ × (List ℕ × (List ℕ × Unit {0})))))). ‵
         (lasts turned.ended (ν ∷ [], (κp, (μ₁ ∷ [], tt))) (turned-args l₇ δ δc₁ δs₁ δy₁ (t .0 .0) (t .0 .1 .0) (t .0 .1 .1 .0) (t
-        .0 .1 .1 .1 .0) (t .0 .1 .1 .1 .1)) zs) ⊛ raw (fact 𝓤 ((length (yp .now)) - r₁ .at ≤ ((length (yp .now)) - (t .0 .1 .0)
-        .at) - 1)))) (id⊢ 𝓤 _) $ pick ! (λ zs₁. split ! $
-        move ! (1 ∷ []) $ heard ! ((length (yp .now)) - r₁ .at ≤ ((length (yp .now)) - (t .0 .1 .0) .at) - 1) (λ e₁.
+        .0 .1 .1 .1 .0) (t .0 .1 .1 .1 .1)) zs) ⊛ raw (fact 𝓤 (((length (yp .now)) - r₁ .at ≤ ((length (yp .now)) - (t .0 .1 .0)
+        .at) - 1) × (LeftByTurn (zs .0) (zs .1 .1 .1 .0) (zs .1 .1 .1 .1 .0) (dropped (t .0 .1 .0 .at) (yp .now)) (feedOf (t .0 .0)
+        (dropped (t .0 .1 .0 .at) (yp .now)) (t .0 .1 .1 .0) (t .0 .1 .1 .1 .0) (t .0 .1 .1 .1 .1)) × OnAfter (length (yp .now))
+        (feedOf (t .0 .0) (dropped (t .0 .1 .0 .at) (yp .now)) (t .0 .1 .1 .0) (t .0 .1 .1 .1 .0) (t .0 .1 .1 .1 .1) .fed
+        .consumed) (t .0 .1 .0) r₁))))) (id⊢ 𝓤 _) $ pick ! (λ zs₁. split ! $
+        move ! (1 ∷ []) $ heard ! (((length (yp .now)) - r₁ .at ≤ ((length (yp .now)) - (t .0 .1 .0) .at) - 1) × (LeftByTurn (zs₁ .0)
+        (zs₁ .1 .1 .1 .0) (zs₁ .1 .1 .1 .1 .0) (dropped (t .0 .1 .0 .at) (yp .now)) (feedOf (t .0 .0) (dropped (t .0 .1 .0 .at) (yp
+        .now)) (t .0 .1 .1 .0) (t .0 .1 .1 .1 .0) (t .0 .1 .1 .1 .1)) × OnAfter (length (yp .now)) (feedOf (t .0 .0) (dropped (t .0
+        .1 .0 .at) (yp .now)) (t .0 .1 .1 .0) (t .0 .1 .1 .1 .0) (t .0 .1 .1 .1 .1) .fed .consumed) (t .0 .1 .0) r₁)) (λ e₁.
         fsplit ! $
         move ! (1 ∷ []) $ fsplit ! $ drop ! $
         fsplit ! $ drop ! $
@@ -474,7 +475,7 @@ module _ {M : Type 1} (𝓤 : URA M) (H : Heap 𝓤) (A : Atoms 𝓤) (W : Given
         rewrite ! 27 (λ (u : Val). ‵ (fat fullShare On′.mir l₈ 0 u)) (ap only (LL.tells On.the-type On′.the-laws r₁ _ is₁)) refl $
         let less : (length (yp .now)) - r₁ .at < (length (yp .now)) - (t .0 .1 .0) .at = omega (
           arith,
-          e₁,
+          e₁ .0,
           ltb→lt ((t .0 .1 .0) .at)
               (length (yp .now)) held,
         ) in
@@ -482,6 +483,8 @@ module _ {M : Type 1} (𝓤 : URA M) (H : Heap 𝓤) (A : Atoms 𝓤) (W : Given
         refl $ forget ! 11 refl $ forget ! 9 refl $
         keep ! (5 ∷ 0 ∷ 6 ∷ 3 ∷ 2 ∷ 1 ∷ 7 ∷ 8 ∷ 9 ∷ 10 ∷ 11 ∷ 12 ∷ 13 ∷ 14 ∷ 15 ∷ 16 ∷ 17 ∷ 18 ∷ 19 ∷ 20 ∷ 21 ∷ 22 ∷ 23 ∷ 24 ∷ 25 ∷ 26
         ∷ 27 ∷ 28 ∷ 4 ∷ 29 ∷ 30 ∷ 31 ∷ 32 ∷ 33 ∷ 34 ∷ 35 ∷ 36 ∷ 37 ∷ 38 ∷ 39 ∷ 40 ∷ 41 ∷ 42 ∷ 43 ∷ []) $
+        let going = going-on (yp .now) y₀ h c₀ (t .0 .1 .0) r₁ (t .0 .0) (zs₁ .0) (t .0 .1 .1 .0) (zs₁ .1 .1 .1 .0) (t .0 .1 .1 .1 .0)
+        (zs₁ .1 .1 .1 .1 .0) (t .0 .1 .1 .1 .1) (t .1 .1 .1 .0) (t .1 .1 .1 .1 .1 .1) (e₁ .1 .0) (e₁ .1 .1) in
         again ! Nearer (At l₀ l₁ l₂ l₃ l₄ l₅ l₆ l₇ l₈ l₉ l₁₀ l₁₁ l₁₂ l₁₃ l₁₄ l₁₅ l₁₆ l₁₇ l₁₈) t (
           (
             (zs₁ .0),
@@ -499,7 +502,7 @@ module _ {M : Type 1} (𝓤 : URA M) (H : Heap 𝓤) (A : Atoms 𝓤) (W : Given
               (ls₁ ∙ (t .1 .1 .0)),
               (
                 (ly₁ ∙ (t .1 .1 .1 .0)),
-                (now-is, now-on),
+                (now-is, (now-on, going)),
               ),
             ),
           ),
@@ -511,7 +514,7 @@ module _ {M : Type 1} (𝓤 : URA M) (H : Heap 𝓤) (A : Atoms 𝓤) (W : Given
         (LL.lawful T.the-type T′.the-laws 𝓤 H A W .typed (t .0 .0) _ (t .1 .1 .1 .1 .0) .0)) $
         let done-is = LL.owes Tn.the-type Tn′.the-laws (record { receiver = (t .0 .0); onward = (t .0 .1 .0) }) (
           (t .1 .1 .1 .1 .0),
-          ((t .1 .1 .1 .1 .1), tt),
+          ((t .1 .1 .1 .1 .1 .0), tt),
         ) in
         assigns ! (agg ! (and-then ! (load ! (from ! (stop !)) (look ! 6 {τ = T′.mir} refl)) (and-then ! (load ! (from ! (stop !))
         (look ! 26 {τ = On′.mir} refl)) (no-more !)))) (from ! (stop !)) (init ! 42 {τ = Tn′.mir} refl (LL.lawful Tn.the-type
@@ -526,13 +529,25 @@ module _ {M : Type 1} (𝓤 : URA M) (H : Heap 𝓤) (A : Atoms 𝓤) (W : Given
         []) $ free1 ! $ move ! (12 ∷ 13 ∷ []) $ free1 ! $ move ! (10 ∷ 11 ∷ []) $ free1 ! $ move ! (8 ∷ 9 ∷ []) $ free1 ! $ move !
         (6 ∷ 7 ∷ []) $ free1 ! $ free0 ! $
         keep ! (0 ∷ 1 ∷ 3 ∷ 4 ∷ 5 ∷ []) $ by ! (exits (record { receiver = (t .0 .0); onward = (t .0 .1 .0) }) (t .0 .1 .1 .0) (t .0 .1
-        .1 .1 .0) (t .0 .1 .1 .1 .1) (t .1 .0) (t .1 .1 .0) (t .1 .1 .1 .0) done-is))) (
+        .1 .1 .0) (t .0 .1 .1 .1 .1) (going-last (yp .now) y₀ h c₀ (t .0 .1 .0) (t .0 .0) (t .0 .1 .1 .0) (ltb-false ((t .0 .1 .0)
+        .at) (length (yp .now)) (is-false (ltb ((t .0 .1 .0) .at) (length (yp .now))) over)) (t .1 .1 .1 .1 .1 .1)) (t .1 .0) (t .1
+        .1 .0) (t .1 .1 .1 .0) done-is))) (
           (h, (start, (c₀, (s₀, y₀)))),
           (
             refl,
             (
               refl,
-              (refl, (was, start-is)),
+              (
+                refl,
+                (
+                  was,
+                  (
+                    start-is,
+                    going-first (yp
+                        .now) y₀ h c₀ start refl,
+                  ),
+                ),
+              ),
             ),
           ),
         ))))))))))))))))))))

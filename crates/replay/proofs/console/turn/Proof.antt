@@ -2,6 +2,7 @@
 -- back.
 -- Printed by tools/turn.py. Assumes nothing.
 use mathlib.Core.Path.{_≡_, refl, sym, _∙_, ap, subst}
+use mathlib.Core.Bool.{true}
 use Prim.Native.Nat.{ℕ}
 use native.Mathlib.Omega.{arith}
 use mathlib.Core.List.{[], _∷_, List}
@@ -58,15 +59,22 @@ use Rattle.session_in_place.specs.declared.Call.{Call}
 use Rattle.session_in_place.specs.declared.AnsweredInPlace.{AnsweredInPlace}
 use Rattle.session_in_place.specs.declared.FedInPlace.{FedInPlace}
 use Rattle.receiver_in_place.proofs.Again.{LentAgain, lends-again, comes-back}
-use Rattle.receiver_in_place.proofs.Early.{early}
+use Rattle.receiver_in_place.proofs.Early.{early, is-true, is-false}
 use Rattle.receiver_in_place.proofs.Cells.{vals}
 use Rattle.session_in_place.proofs.Call as K
 use Rattle.session_in_place.proofs.Call.Laws as K′
 use Rattle.session_in_place.proofs.FedInPlace as F
 use Rattle.session_in_place.proofs.FedInPlace.Laws as F′
 use Prim.Native.Nat.{_-_, _≤_}
+use lib.ListN.{drop as dropped}
 use denote.Slice.{shr-slice-lawful}
 use denote.Triple.Walked.{stay-slice, goes-slice}
+use mathlib.Core.Bool.{true}
+use Rattle.streams.specs.Streams.{isWell}
+use Rattle.replay.specs.Plans.{isOver, callFor, LeftByTurn}
+use Rattle.replay.specs.Pieces.{OnAfter}
+use Rattle.replay.proofs.ReplayLaws.{turned-over, turned-on}
+use Rattle.replay.proofs.Onwards.{fed-after, answered-after}
 use Rattle.replay.specs.declared.console.Onward.{Onward}
 use Rattle.replay.specs.declared.console.Plan.{Plan}
 use Rattle.replay.proofs.console.Onward as On
@@ -323,8 +331,10 @@ module _ {M : Type 1} (𝓤 : URA M) (H : Heap 𝓤) (A : Atoms 𝓤) (W : Given
   goes-finish μ δ d m l = qed W (((‵ (flft (μ ∷ []) fullShare) ⊛ ‵ ftrue) ⊛ ‵ (FinishOwn μ δ d m l)) ∷ []) ∵ frame ! $ done !
 
   -- the walk's end: the receiver and the buffers are still owned
-  exits : (g : Receiver) (r : Onward) (v : Val) (zc zs zy : List ℕ) → (length (yp .now)) - r .at ≤ ((length (yp .now)) - on .at) - 1 →
-      length zc ≡ length c₀ → length zs ≡ length s₀ → length zy ≡ length y₀ → Is On.the-row r (v ∷ [])
+  exits : (g : Receiver) (r : Onward) (v : Val) (zc zs zy : List ℕ) → ((length (yp .now)) - r .at ≤ ((length (yp .now)) - on .at) - 1)
+      × (LeftByTurn g zc zs (dropped (on .at) (yp .now)) (feedOf h (dropped (on .at) (yp .now)) c₀ s₀ y₀) × OnAfter (length (yp .now))
+      (feedOf h (dropped (on .at) (yp .now)) c₀ s₀ y₀ .fed .consumed) on r) → length zc ≡ length c₀ → length zs ≡ length s₀ → length zy
+      ≡ length y₀ → Is On.the-row r (v ∷ [])
       → ent 𝓤 (sep 𝓤 (A .lft κ q) (sep 𝓤 (A .lft κp qp) (sep 𝓤 (A .lft κb qb) (sep 𝓤 (sem 𝓤 H A (MutRef (named 0) κ T.the-row .own
       (lent γ g) (vptr b o ∷ []))) (sep 𝓤 (sem 𝓤 H A (MutSlice (named 2) κb u8 .own (xc γc zc) (tc ∷ []))) (sep 𝓤 (sem 𝓤 H A
       (MutSlice (named 2) κb u8 .own (xs γs zs) (ts ∷ []))) (sem 𝓤 H A (MutSlice (named 2) κb u8 .own (xy γy zy) (ty ∷ [])))))))))
@@ -395,7 +405,10 @@ module _ {M : Type 1} (𝓤 : URA M) (H : Heap 𝓤) (A : Atoms 𝓤) (W : Given
           use1 W (later (some (λ (r : RefT (List ℕ)). ((‵ (flft κp qp) ⊛ ‵ ftrue) ⊛ ‵ ((ShrSlice (named 0) κp u8) .own r (v₀ ∷ []))) ⊛
           raw (ensured 𝓤 H A rest.ended (rest.clauses 𝓤 H A at-mem run) (κp, tt) rest-args tt r)))) (id⊢ 𝓤 _) $ await ! tt $ pick !
           (λ r₀. split ! $
-          move ! (1 ∷ []) $ drop ! $
+          move ! (1 ∷ []) $ use1 W (some (λ (zs : Unit {0} × (Unit {0} × Unit {0})). ‵ (lasts rest.ended (κp, tt) rest-args zs) ⊛ raw
+          (fact 𝓤 (r₀ .now ≡ (dropped (on .at) (yp .now)))))) (id⊢ 𝓤 _) $ pick ! (λ zs₀. split ! $
+          move ! (1 ∷ []) $ heard ! (r₀ .now ≡ (dropped (on .at) (yp .now))) (λ e₀.
+          drop ! $
           split ! $
           split ! $
           move ! (1 ∷ []) $ drop ! $
@@ -550,9 +563,11 @@ module _ {M : Type 1} (𝓤 : URA M) (H : Heap 𝓤) (A : Atoms 𝓤) (W : Given
             μ₂ ∷
                 [],
             tt,
-          ) (planned-args δy₂ r₁ (zs₁ .1 .1 .1 .1 .0)) zs) ⊛ raw (fact 𝓤 ((length (yp .now)) - r₂ .onward .at ≤ ((length (yp
-          .now)) - on .at) - 1)))) (id⊢ 𝓤 _) $ pick ! (λ zs₂. split ! $
-          move ! (1 ∷ []) $ heard ! ((length (yp .now)) - r₂ .onward .at ≤ ((length (yp .now)) - on .at) - 1) (λ e₂.
+          ) (planned-args δy₂ r₁ (zs₁ .1 .1 .1 .1 .0)) zs) ⊛ raw (fact 𝓤 (((length (yp .now)) - r₂ .onward .at ≤ ((length (yp
+          .now)) - on .at) - 1) × (r₂ .«is_over» ≡ isOver (r₁ .told)) × (r₂ .call ≡ callFor (r₁ .told)) × OnAfter (length (yp .now))
+          (r₁ .consumed) on (r₂ .onward))))) (id⊢ 𝓤 _) $ pick ! (λ zs₂. split ! $
+          move ! (1 ∷ []) $ heard ! (((length (yp .now)) - r₂ .onward .at ≤ ((length (yp .now)) - on .at) - 1) × (r₂ .«is_over» ≡ isOver
+          (r₁ .told)) × (r₂ .call ≡ callFor (r₁ .told)) × OnAfter (length (yp .now)) (r₁ .consumed) on (r₂ .onward)) (λ e₂.
           fsplit ! $ drop ! $
           fsplit ! $ drop ! $
           fsplit ! $ drop ! $
@@ -572,6 +587,9 @@ module _ {M : Type 1} (𝓤 : URA M) (H : Heap 𝓤) (A : Atoms 𝓤) (W : Given
           .1 .1 .1 .1 .0) δy₂ (zs₂ .1 .1 .1 .0) (subst (Room u8) (sym ly₁) room-y) ly₂) $ await ! tt $ split ! $
           rewrite ! 0 (λ (m : ℕ). ‵ (MutSlice (named 2) κb u8 .own (xy γy (zs₂ .1 .1 .1 .0)) (sliceVal (by′, oy) m ∷ []))) ly₁ refl $
           -- [reply; b-token; scratch; carry; ref; r-token; p-token; left-again] and the locals
+          let fed-on : OnAfter (length (yp .now)) (feedOf h (dropped (on .at) (yp .now)) c₀ s₀ y₀ .fed .consumed) on (r₂ .onward) =
+          fed-after h (zs₁ .0) r₁ c₀ s₀ y₀ (zs₁ .1 .1 .0) (zs₁ .1 .1 .1 .0) (zs₁ .1 .1 .1 .1 .0) (r₀ .now) (dropped (on .at) (yp
+          .now)) (length (yp .now)) on (r₂ .onward) e₀ e₁ (e₂ .3) in
           assigns ! (of-opd ! (load ! (from ! (fld ! {τ = tyBool} {d = 2} refl (stop !))) (look-in ! 46 {τ = tyBool} (sub ! 1 {τ =
           tyBool} {d = 2} refl (whole !))))) (from ! (stop !)) (init ! 22 {τ = tyBool} refl (tt, tt)) $
           early ! (load ! (from ! (stop !)) (look ! 22 {τ = tyBool} refl)) (λ yes.
@@ -593,7 +611,15 @@ module _ {M : Type 1} (𝓤 : URA M) (H : Heap 𝓤) (A : Atoms 𝓤) (W : Given
           ∷ 15 ∷ []) $ free1 ! $ move ! (12 ∷ 13 ∷ []) $ free1 ! $ move ! (10 ∷ 11 ∷ []) $ free1 ! $ move ! (8 ∷ 9 ∷ []) $ free1 ! $
           free0 ! $
           keep ! (5 ∷ 6 ∷ 1 ∷ 4 ∷ 3 ∷ 2 ∷ 0 ∷ []) $ by ! (exits (zs₁ .0) (r₂ .onward) (LL.val On.the-type On′.the-laws (r₂ .onward)) (zs₁
-          .1 .1 .0) (zs₁ .1 .1 .1 .0) (zs₂ .1 .1 .1 .0) e₂ lc₁ ls₁ (ly₂ ∙ ly₁) (told₂ .1 .1 .0)))
+          .1 .1 .0) (zs₁ .1 .1 .1 .0) (zs₂ .1 .1 .1 .0) (
+            e₂ .0,
+            (
+              turned-over h (zs₁ .0) r₁ c₀ s₀ y₀ (zs₁ .1 .1 .0) (zs₁ .1 .1 .1 .0)
+                  (zs₁ .1 .1 .1 .1 .0) (r₀ .now) (dropped (on .at) (yp .now)) e₀ e₁ (sym (e₂ .1) ∙ is-true (r₂ .«is_over») yes),
+              fed-on,
+            ),
+          ) lc₁
+          ls₁ (ly₂ ∙ ly₁) (told₂ .1 .1 .0)))
           (λ no.
           assigns ! (addr ! (from ! (hop ! {τ = T′.mir} (look ! 62 refl) (stop !)))) (from ! (stop !)) (init ! 20 refl (tt, tt)) $
           assigns ! (addr ! (from ! (fld ! {d = 0} refl (hop ! {τ = tyInt w8} (look-in ! 56 (sub ! 0 {d = 0} refl (whole !))) (stop
@@ -737,9 +763,11 @@ module _ {M : Type 1} (𝓤 : URA M) (H : Heap 𝓤) (A : Atoms 𝓤) (W : Given
             μ₄ ∷
                 [],
             tt,
-          ) (finish-args δy₄ (r₂ .onward) (r₃ .«reply_len») (zs₃ .1 .1 .1 .1 .1 .0)) zs) ⊛ raw (fact 𝓤 ((length (yp .now)) - r₄
-          .at ≤ (length (yp .now)) - r₂ .onward .at)))) (id⊢ 𝓤 _) $ pick ! (λ zs₄. split ! $
-          move ! (1 ∷ []) $ heard ! ((length (yp .now)) - r₄ .at ≤ (length (yp .now)) - r₂ .onward .at) (λ e₄.
+          ) (finish-args δy₄ (r₂ .onward) (r₃ .«reply_len») (zs₃ .1 .1 .1 .1 .1 .0)) zs) ⊛ raw (fact 𝓤 (((length (yp .now)) -
+          r₄ .at ≤ (length (yp .now)) - r₂ .onward .at) × (isWell (r₄ .run) ≡ true → (isWell (r₂ .onward .run) ≡ true) × (r₄ .at ≡ r₂
+          .onward .at)))))) (id⊢ 𝓤 _) $ pick ! (λ zs₄. split ! $
+          move ! (1 ∷ []) $ heard ! (((length (yp .now)) - r₄ .at ≤ (length (yp .now)) - r₂ .onward .at) × (isWell (r₄ .run) ≡ true →
+          (isWell (r₂ .onward .run) ≡ true) × (r₄ .at ≡ r₂ .onward .at))) (λ e₄.
           fsplit ! $ drop ! $
           fsplit ! $ drop ! $
           fsplit ! $ drop ! $
@@ -758,7 +786,10 @@ module _ {M : Type 1} (𝓤 : URA M) (H : Heap 𝓤) (A : Atoms 𝓤) (W : Given
           ! $
           rewrite ! 0 (λ (m : ℕ). ‵ (MutSlice (named 2) κb u8 .own (xy γy (zs₄ .1 .1 .1 .0)) (sliceVal (by′, oy) m ∷ []))) (ly₃ ∙ (ly₂ ∙
           ly₁)) refl $
-          let nearer : (length (yp .now)) - r₄ .at ≤ ((length (yp .now)) - on .at) - 1 = omega (arith, e₂, e₄) in
+          let nearer : (length (yp .now)) - r₄ .at ≤ ((length (yp .now)) - on .at) - 1 = omega (arith, e₂ .0, e₄ .0) in
+          let at-last = turned-on h (zs₁ .0) (zs₃ .0) r₁ r₃ (r₂ .call) c₀ s₀ y₀ (zs₁ .1 .1 .0) (zs₃ .1 .1 .1 .1 .0) (zs₁ .1 .1 .1 .0)
+          (zs₁ .1 .1 .1 .1 .0) (zs₂ .1 .1 .1 .0) (zs₃ .1 .1 .1 .1 .1 .0) (r₀ .now) (dropped (on .at) (yp .now)) e₀ e₁ (sym (e₂ .1) ∙
+          is-false (r₂ .«is_over») no) (e₂ .2) ly₂ (e₃ .0) (e₃ .1) in
           returns ! (look ! 63 {τ = On′.mir} refl) $ forget ! 7 refl $ forget ! 9 refl $ forget ! 11 refl $ forget ! 13 refl $ forget !
           15 refl $ forget ! 17 refl $ forget ! 19 refl $ forget ! 21 {τ = tyBool} refl $ forget ! 23 refl $ forget ! 25 refl $
           forget ! 27 refl $ forget ! 29 refl $ forget ! 31 refl $ forget ! 33 refl $ forget ! 35 refl $ forget ! 37 refl $ forget !
@@ -774,9 +805,15 @@ module _ {M : Type 1} (𝓤 : URA M) (H : Heap 𝓤) (A : Atoms 𝓤) (W : Given
           free1 ! $ move ! (19 ∷ 20 ∷ []) $ free1 ! $ move ! (17 ∷ 18 ∷ []) $ free1 ! $ move ! (15 ∷ 16 ∷ []) $ free1 ! $ move ! (13
           ∷ 14 ∷ []) $ free1 ! $ move ! (11 ∷ 12 ∷ []) $ free1 ! $ move ! (9 ∷ 10 ∷ []) $ free1 ! $ move ! (7 ∷ 8 ∷ []) $ free1 ! $
           free0 ! $
-          keep ! (4 ∷ 5 ∷ 1 ∷ 3 ∷ 2 ∷ 6 ∷ 0 ∷ []) $ by ! (exits (zs₃ .0) r₄ v₄ (zs₃ .1 .1 .1 .1 .0) (zs₁ .1 .1 .1 .0) (zs₄ .1 .1 .1 .0)
-          nearer (lc₃ ∙ lc₁) ls₁ (ly₄ ∙ (ly₃ ∙ (ly₂ ∙ ly₁)))
-          is₄))))))))))))))))))))))))))))))))))))))))))))))))))))))))))))))))))))))))))))
+          keep ! (4 ∷ 5 ∷ 1 ∷ 3 ∷ 2 ∷ 6 ∷ 0 ∷ []) $ by ! (exits (zs₃ .0) r₄ v₄ (zs₃ .1 .1 .1 .1 .0) (zs₁ .1 .1 .1 .0) (zs₄ .1 .1 .1 .0) (
+            nearer,
+            (
+              at-last,
+              answered-after (length (yp .now)) (feedOf h (dropped (on .at) (yp .now)) c₀ s₀ y₀ .fed .consumed) on (r₂
+                  .onward) r₄ fed-on (e₄ .1),
+            ),
+          ) (lc₃ ∙ lc₁) ls₁ (ly₄ ∙ (ly₃ ∙ (ly₂ ∙ ly₁)))
+          is₄))))))))))))))))))))))))))))))))))))))))))))))))))))))))))))))))))))))))))))))
 
 module _ {M : Type 1} (𝓤 : URA M) (H : Heap 𝓤) (A : Atoms 𝓤) (W : Given 𝓤 H A) (at-mem : Memory → SProp 𝓤) (run : Routine → Fun 𝓤) where
   f-walks : (C : Calls 𝓤 H) (Λ : Loops 𝓤 H) → FmC 𝓤 H (W .laws) C → Triple 𝓤 (C #rest) (Rest 𝓤 H A at-mem run) → Triple 𝓤 (C #feed)
