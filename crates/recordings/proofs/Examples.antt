@@ -21,8 +21,8 @@ use Rattle.command.specs.Meaning.{meaningOf}
 use Rattle.recordings.specs.Pieces.{completed, cut, joined, piecesOf, bytesOf, keptBytes, rowsFrom, dropped}
 use Rattle.recordings.specs.Laws.{without, readable, IsRefused, verdicts}
 use Rattle.recordings.specs.Mend.{mendOf}
-use Rattle.recordings.specs.Examples.{noisy, send, Examples}
-use Rattle.recordings.specs.WrongMenders.{Teeth}
+use Rattle.recordings.specs.Examples.{noisy, send, MendExamples}
+use Rattle.recordings.specs.WrongMenders.{MendTeeth}
 
 -- ---- what computing opens: who names one of these on an `unfolding` line opens all that its own line names
 unfoldable meaning : Unit {0}
@@ -35,7 +35,7 @@ unfoldable pieces : Unit {0}
 unfolding meaning readByte stream completed cut joined piecesOf bytesOf keptBytes rowsFrom dropped without readable verdicts
 pieces = tt
 
-pub examples-hold : Examples
+pub examples-hold : MendExamples
 unfolding pieces mendOf
 examples-hold = (
   (
@@ -101,7 +101,7 @@ unfolding pieces
 closer-less (IsRefused.closed f e) = let z : _≡_ {A = ℕ} 51 27 = ap (λ (l : List ℕ). getD l 5 0) (f .whole) in absurd (omega arith)
 closer-less (IsRefused.abandoned n o c l a) = absurd (omega arith)
 
-pub teeth : Teeth
+pub teeth : MendTeeth
 unfolding pieces
 teeth =
     record {

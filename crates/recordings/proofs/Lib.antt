@@ -7,7 +7,8 @@ mod Runs
 mod Readable
 mod SettledLaws
 mod RowLaws
-mod Every
-mod SightLaws
+pub mod Every
+pub mod SightLaws
+pub mod TextLaws
 mod TurnLaws
 mod Examples

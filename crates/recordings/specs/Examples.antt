@@ -64,5 +64,5 @@ pub record Rooms : Type 0 where
   pub shortList : mendOf (noisy "xE]5113;ac=send;id=mE\\y") (replicate 21 0) (replicate 5 0) .answer ≡ Refused 9
   pub empty : mendOf [] [] [] .answer ≡ Done 0 0
 
-abbrev pub Examples : Type 0
-Examples = AllMend examples × Rooms
+abbrev pub MendExamples : Type 0
+MendExamples = AllMend examples × Rooms

@@ -1,5 +1,5 @@
 -- Wrong menders, most made by changing the pieces of ours, each with one error. A law that held of one of them would be worth nothing;
--- `Teeth` says that the laws are false of them.
+-- `MendTeeth` says that the laws are false of them.
 use Prim.Native.Nat.{ℕ, _-_}
 use mathlib.Core.List.{List, [], _∷_, _++_}
 use lib.ListN.{length, take, drop}
@@ -92,7 +92,7 @@ impatient xs = go (piecesOf xs)
     go (Piece.kept f ∷ ps) = Piece.kept f ∷ go ps
     go (Piece.refused n bs ∷ ps) = Piece.refused n bs ∷ go ps
 
-pub record Teeth : Type 0 where
+pub record MendTeeth : Type 0 where
   pub bytesForgotten : Covers forgetting → ⊥
   pub rowsForgotten : ListsTheRest forgetting → ⊥
   pub allDropped : SameCommands droppingAll → ⊥

@@ -1,16 +1,19 @@
 // Mends a noisy recording: copies every command frame that reads without refusal, unchanged and in
 // order, drops the rest, and lists each stretch that was dropped, with its start, its length and why.
 //
+// Where its command texts stand is found by `texts`, which any reader of a recording may call.
+//
 // Not here: sessions. A command that every session would ignore is kept.
 mod sights;
+pub mod texts;
 mod walk;
 
 ghost use mathlib.Core.Path.{_≡_};
 ghost use Rattle.recordings.specs.Pieces.{piecesOf};
 ghost use Rattle.recordings.specs.Laws.{MendLaws};
 ghost use Rattle.recordings.specs.Mend.{mending, mendOf};
-ghost use Rattle.recordings.specs.WrongMenders.{Teeth};
-ghost use Rattle.recordings.specs.Examples.{Examples};
+ghost use Rattle.recordings.specs.WrongMenders.{MendTeeth};
+ghost use Rattle.recordings.specs.Examples.{MendExamples};
 
 // How many bytes were kept and how many stretches dropped; or why nothing was done: 17 for a recording
 // over the limit, 9 for no room.
@@ -33,7 +36,7 @@ impl Mended {
 pub fn mend(recording: &[u8], output: &mut [u8], list: &mut [usize]) -> Mended
     ensures { λ r. ⌜ mending r (now (output .exit)) (now (list .exit))
         ≡ mendOf (now (recording .entry)) (now (output .entry)) (now (list .entry)) ⌝ }
-    ensures { λ _. ⌜ MendLaws piecesOf × Teeth × Examples ⌝ }
+    ensures { λ _. ⌜ MendLaws piecesOf × MendTeeth × MendExamples ⌝ }
 {
     if recording.len() > Mended::LIMIT {
         return Mended::Refused(17);

@@ -6,15 +6,15 @@ use borrow.Author.Tests.{lt-ltb, le-ltb}
 use Rattle.recordings.specs.Pieces.{piecesOf, mendedOf, listOf}
 use Rattle.recordings.specs.Mend.{recordingLimit, mendOf}
 use Rattle.recordings.specs.Laws.{MendLaws}
-use Rattle.recordings.specs.Examples.{Examples}
-use Rattle.recordings.specs.WrongMenders.{Teeth}
+use Rattle.recordings.specs.Examples.{MendExamples}
+use Rattle.recordings.specs.WrongMenders.{MendTeeth}
 use Rattle.recordings.proofs.Every.{mend-laws}
 use Rattle.recordings.proofs.Examples.{examples-hold, teeth}
 use Rattle.recordings.proofs.mend.Statement.{statement}
 use Rattle.recordings.proofs.mend.Tie as tie
 
 -- what the contract says of every recording
-claims : MendLaws piecesOf × Teeth × Examples
+claims : MendLaws piecesOf × MendTeeth × MendExamples
 claims = (mend-laws, teeth, examples-hold)
 
 returns : tie.Need-returns

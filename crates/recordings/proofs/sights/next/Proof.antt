@@ -1,79 +1,72 @@
-use Prim.Native.Nat.{_+_, _≤_}
-use mathlib.Core.Path.{_≡_, sym, _∙_}
+use Prim.Native.Nat.{ℕ}
+use mathlib.Core.Path.{_≡_, sym, ap, _∙_}
+use mathlib.Core.List.{List}
 use native.Mathlib.Omega.{arith}
-use lib.ListN.{length}
-use borrow.Author.Tests.{leb-true, not-true, not-false, eq-eqb, ne-eqb}
-use Rattle.recordings.specs.Walk.{escapeAt}
+use Rattle.recordings.specs.Walk.{nextEscape, escapeAt}
+use Rattle.recordings.specs.Texts.{nextText, sightOf}
+use Rattle.recordings.specs.declared.texts.TextSight.{TextSight}
+use Rattle.recordings.proofs.TextLaws.{next-read, frame-whole}
 use borrow.Author.Needs.{needs}
 use Rattle.recordings.proofs.sights.next.Statement.{statement}
 use Rattle.recordings.proofs.sights.next.Tie as tie
 
--- past the test two bytes more follow
-room : (c : tie.Else1) → c .before .before .find .result + 2 ≤ length (c .before .before .before .before .before .args .recording .now)
-room c = leb-true _ _ (sym (c .before .fits2 .ensures) ∙ not-false _ (c .if1 .left))
+next-text-requires : tie.Need-next-text-requires
+next-text-requires c κs = search needs
 
-find-requires : tie.Need-find-requires
-find-requires c κs = search needs
+enum-known-to : tie.Need-enum-known-to
+enum-known-to c = search needs
 
-fits-requires : tie.Need-fits-requires
-fits-requires c κs = search needs
+enum-known-start : tie.Need-enum-known-start
+enum-known-start c = search needs
+
+judged-requires : tie.Need-judged-requires
+judged-requires c κs =
+    let next = c .before .before .before .before in
+    let a = next .before .before .before .args in
+    let h = frame-whole (a .recording .now) (a .at) (next .next-text .ensures) (c .before .before .start .given .1) in
+    (omega (arith, h .0), h .1, search needs)
+
+enum-known-start-2 : tie.Need-enum-known-start-2
+enum-known-start-2 c = search needs
+
+-- what the code makes of the text that is found is what `mend` sees
+read-next : {s sight : TextSight} (xs : List ℕ) (at : ℕ) → s ≡ nextText xs at → s ≡ sight
+    → sightOf xs sight ≡ escapeAt xs (nextEscape xs at)
+read-next xs at e k = ap (sightOf xs) (sym k ∙ e) ∙ next-read xs at
 
 returns : tie.Need-returns
-unfolding escapeAt
-returns c = rw (← c .before .before .find .ensures, ← c .before .fits2 .ensures, not-true (c .before .fits2 .result) (c .if1 .taken))
-
-add-if2 : tie.Need-add-if2
-add-if2 c = omega (arith, room c)
-
-shared-slice-read-if2 : tie.Need-shared-slice-read-if2
-shared-slice-read-if2 c = omega (arith, room (c .before))
-
-add-t11 : tie.Need-add-t11
-add-t11 c = omega (arith, room (c .before .before))
-
-returns-2 : tie.Need-returns-2
-unfolding escapeAt
-returns-2 c =
-    let whole = c .before .before in
-    let fits = whole .before in
-    rw (
-      ← fits .before .find .ensures,
-      ← fits .fits2 .ensures,
-      not-false (fits .fits2 .result) (whole .if1 .left),
-      ne-eqb _ _ (c .if2 .taken),
-    )
-
-text-requires : tie.Need-text-requires
-text-requires c κs = (room (c .before .before .before), search needs)
+returns c =
+    let next = c .before .before .before in
+    let a = next .before .before .before .args in
+    read-next (a .recording .now) (a .at) (next .next-text .ensures) (c .before .to .given .1)
 
 same-length : tie.Need-same-length
 same-length c = search needs
 
+returns-2 : tie.Need-returns-2
+returns-2 c =
+    let frame = c .before .before .before .before .before in
+    let next = frame .before .before in
+    let a = next .before .before .before .args in
+    rw (c .before .before .judged .ensures)
+    (read-next (a .recording .now) (a .at) (next .next-text .ensures) (frame .start .given .1))
+
 returns-3 : tie.Need-returns-3
-unfolding escapeAt
 returns-3 c =
-    let opener = c .before .before .before .before in
-    let whole = opener .before .before in
-    let fits = whole .before in
-    rw (
-      c .before .before .text .ensures,
-      ← fits .before .find .ensures,
-      ← fits .fits2 .ensures,
-      not-false (fits .fits2 .result) (whole .if1 .left),
-      eq-eqb _ _ (opener .if2 .left),
-    )
+    let next = c .before .before .before in
+    let a = next .before .before .before .args in
+    read-next (a .recording .now) (a .at) (next .next-text .ensures) (c .before .start2 .given .1)
 
 pub next-spec : {M : Type 1} → statement M
 next-spec =
     tie.close
     (tie.spec
-    find-requires
-    fits-requires
+    next-text-requires
+    enum-known-to
+    enum-known-start
+    judged-requires
+    enum-known-start-2
     returns
-    add-if2
-    shared-slice-read-if2
-    add-t11
-    returns-2
-    text-requires
     same-length
+    returns-2
     returns-3)

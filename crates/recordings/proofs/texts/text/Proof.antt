@@ -3,13 +3,13 @@ use mathlib.Core.Path.{_≡_, sym, _∙_}
 use native.Mathlib.Omega.{arith}
 use lib.ListN.{length}
 use borrow.Author.Tests.{leb-true, not-true, not-false, eq-eqb, ne-eqb}
-use Rattle.recordings.specs.Walk.{textAt}
+use Rattle.recordings.specs.Texts.{textFrom}
 use borrow.Author.Needs.{needs}
-use Rattle.recordings.proofs.sights.text.Statement.{statement}
-use Rattle.recordings.proofs.sights.text.Tie as tie
+use Rattle.recordings.proofs.texts.text.Statement.{statement}
+use Rattle.recordings.proofs.texts.text.Tie as tie
 
 -- past the test two bytes more follow
-room : (c : tie.Else1) → c .before .before .find .result + 2 ≤ length (c .before .before .before .before .before .args .recording .now)
+room : (c : tie.Else1) → c .before .before .find .result + 2 ≤ length (c .before .before .before .before .args .recording .now)
 room c = leb-true _ _ (sym (c .before .fits2 .ensures) ∙ not-false _ (c .if1 .left))
 
 add-from : tie.Need-add-from
@@ -22,7 +22,7 @@ fits-requires : tie.Need-fits-requires
 fits-requires c κs = search needs
 
 returns : tie.Need-returns
-unfolding textAt
+unfolding textFrom
 returns c = rw (← c .before .before .find .ensures, ← c .before .fits2 .ensures, not-true (c .before .fits2 .result) (c .if1 .taken))
 
 add-after : tie.Need-add-after
@@ -46,17 +46,14 @@ part-closed-end c = omega (arith, room (c .before .before))
 closed-requires : tie.Need-closed-requires
 closed-requires c κs = search needs
 
-same-length : tie.Need-same-length
-same-length c = search needs
-
 returns-2 : tie.Need-returns-2
-unfolding textAt
+unfolding textFrom
 returns-2 c =
-    let closer = c .before .before .before .before .before in
+    let closer = c .before .before in
     let whole = closer .before .before in
     let fits = whole .before in
     rw (
-      c .before .before .closed .ensures,
+      c .closed .ensures,
       ← fits .before .find .ensures,
       ← fits .fits2 .ensures,
       not-false (fits .fits2 .result) (whole .if1 .left),
@@ -76,7 +73,7 @@ abandoned-requires : tie.Need-abandoned-requires
 abandoned-requires c κs = search needs
 
 returns-3 : tie.Need-returns-3
-unfolding textAt
+unfolding textFrom
 returns-3 c =
     let other = c .before .before in
     let whole = other .before .before in
@@ -104,7 +101,6 @@ text-spec =
     part-closed-start
     part-closed-end
     closed-requires
-    same-length
     returns-2
     sub-abandoned
     part-abandoned-start
