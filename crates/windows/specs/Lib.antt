@@ -1,0 +1,10 @@
+pub mod Hearing
+pub mod Compare
+pub mod Ranks
+pub mod Rows
+pub mod HearingSteps
+pub mod Steps
+pub mod Laws
+pub mod Examples
+pub mod WrongComparers
+pub mod WrongHearers
