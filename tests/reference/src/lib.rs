@@ -8,4 +8,5 @@ pub mod receiver;
 pub mod replay;
 pub mod script;
 pub mod sender;
+pub mod windows;
 pub mod writer;

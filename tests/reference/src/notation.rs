@@ -1,8 +1,10 @@
 //! The notation of the papers' examples.
 
+use crate::receiver::command::FileType;
 use crate::receiver::{base64, Entry};
 use crate::script::{Buffer, Op};
 use crate::sender::script as sender;
+use crate::writer::Command;
 
 /// The bytes of an example: `^[` is 1B, `<hh>` the byte hh, `{A*n}` A n times. Panics at what is no notation.
 pub fn bytes(notation: &str) -> Vec<u8> {
@@ -114,4 +116,35 @@ fn call(text: &str) -> Op {
         ("unlisted", _) => Op::Unlisted,
         _ => panic!("no such call: {text}"),
     }
+}
+
+/// The recording of order 11's short form: items parted by a comma and a blank. `junk` stands for noise, `refused frame` for a frame
+/// that is refused. Panics at what is no item.
+pub fn window(items: &str) -> Vec<u8> {
+    items.split(", ").filter(|item| !item.is_empty()).flat_map(window_item).collect()
+}
+
+fn window_item(item: &str) -> Vec<u8> {
+    let words: Vec<Vec<u8>> = item.split(' ').map(bytes).collect();
+    let words: Vec<&[u8]> = words.iter().map(Vec::as_slice).collect();
+    let number = |word: &[u8]| std::str::from_utf8(word).unwrap().parse().unwrap();
+    let of = |action, id| Command { action, id, ..Command::default() };
+    let file = |id, fid| Command { fid, name: b"/", ..of("file", id) };
+    let command = match words[..] {
+        [b"junk"] => return bytes("$ ls<0D><0A>^[[0m^[]0;t^[\\"),
+        [b"refused", b"frame"] => return bytes("^[]5113;q=3^[\\"),
+        [b"s", id] => of("send", id),
+        [b"x", id] => of("cancel", id),
+        [b"c", id] => of("finish", id),
+        [b"R", id, paths] => Command { size: number(paths), ..of("receive", id) },
+        [b"f", id, fid] => file(id, fid),
+        [b"f", id, fid, size] => Command { size: number(size), ..file(id, fid) },
+        [b"D", id, fid] => Command { file_type: FileType::Directory, ..file(id, fid) },
+        [b"d", id, fid] => Command { fid, ..of("data", id) },
+        [b"d", id, fid, data] => Command { fid, data, ..of("data", id) },
+        [b"e", id, fid] => Command { fid, ..of("end_data", id) },
+        [b"e", id, fid, data] => Command { fid, data, ..of("end_data", id) },
+        _ => panic!("no such item: {item}"),
+    };
+    command.frame().unwrap()
 }

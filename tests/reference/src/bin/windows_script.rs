@@ -1,0 +1,11 @@
+//! Compares the two recordings of a script on standard input.
+
+use std::io::{self, Read, Write};
+
+fn main() -> io::Result<()> {
+    let mut script = Vec::new();
+    io::stdin().lock().read_to_end(&mut script)?;
+    let mut out = Vec::new();
+    reference::windows::script::run(&script, &mut out);
+    io::stdout().lock().write_all(&out)
+}
