@@ -21,10 +21,15 @@ struct Ground {
     programs: &'static [&'static str],
 }
 
-const GROUNDS: [Ground; 3] = [
+const GROUNDS: [Ground; 4] = [
     Ground { whose: Whose::Receivers, trials: trials::quick, programs: &["drive", "replay"] },
     Ground { whose: Whose::Senders, trials: trials::senders, programs: &["drive_sender"] },
     Ground { whose: Whose::Menders, trials: trials::menders, programs: &["mend", "mend_script"] },
+    Ground {
+        whose: Whose::Windows,
+        trials: trials::windows,
+        programs: &["compare_windows", "windows_script"],
+    },
 ];
 
 /// Tries the faults whose names have the given words in them. Answers whether each was found.

@@ -5,6 +5,7 @@ use crate::mend_coverage::MendCoverage;
 use crate::programs::{self, Outcome, DRIVE_SENDER, REPLAY};
 use crate::sender_coverage::SenderCoverage;
 use crate::shrink::shrink;
+use crate::windows_coverage::WindowCoverage;
 use reference::console::{self, LONGEST_SCRIPT};
 use reference::replay::Replay;
 use reference::script::{self, Ops};
@@ -100,6 +101,7 @@ pub struct Tally {
     pub coverage: Coverage,
     pub senders: SenderCoverage,
     pub menders: MendCoverage,
+    pub windows: WindowCoverage,
     pub scripts: u64,
     pub recordings: u64,
     pub runs: u64,
@@ -198,6 +200,7 @@ impl Tally {
         self.coverage.join(other.coverage);
         self.senders.join(other.senders);
         self.menders.join(other.menders);
+        self.windows.join(other.windows);
         self.scripts += other.scripts;
         self.recordings += other.recordings;
         self.runs += other.runs;

@@ -7,6 +7,7 @@ mod bad_values;
 mod coverage;
 mod entries;
 mod fields;
+mod files;
 mod framing;
 mod hunt;
 mod judge;
@@ -35,6 +36,10 @@ mod streams;
 mod supplies;
 mod trials;
 mod window;
+mod windows_cases;
+mod windows_coverage;
+mod windows_plans;
+mod windows_special;
 mod work;
 
 use crate::judge::{Tally, KEEP_IN};
@@ -44,8 +49,8 @@ use std::time::{Duration, Instant};
 use std::{env, fs};
 
 const USAGE: &str = "compare [in-place] quick | long | fuzz SECONDS [SEED] | one KIND SEED
-compare senders [N] | menders [N] | faults [WORD..]
-KIND: script, recording, sender, mender, mend, fuzz-script, fuzz-raw, fuzz-recording";
+compare senders [N] | menders [N] | windows [N] | faults [WORD..]
+KIND: script, recording, sender, mender, mend, window, compare-windows, fuzz-script, fuzz-raw, fuzz-recording";
 
 /// What came up, and whether what never did is a fault.
 enum Cover {
@@ -53,6 +58,7 @@ enum Cover {
     May,
     Senders,
     Menders,
+    Windows,
 }
 
 fn main() -> ExitCode {
@@ -80,6 +86,9 @@ fn wanted(args: &[&str]) -> Vec<&'static str> {
         ["menders", ..] | ["one", "mender" | "mend", _] => {
             vec![programs::MEND_SCRIPT, programs::MEND]
         }
+        ["windows", ..] | ["one", "window" | "compare-windows", _] => {
+            vec![programs::WINDOWS_SCRIPT, programs::COMPARE_WINDOWS]
+        }
         _ => vec![programs::player(), programs::REPLAY],
     }
 }
@@ -100,6 +109,7 @@ fn run(args: &[&str]) -> Option<ExitCode> {
         ["fuzz", seconds, seed] => (fuzz(number(seconds)?, number(seed)?), Cover::May),
         ["senders", given @ ..] => (senders(count(given, work::SENDERS)?), Cover::Senders),
         ["menders", given @ ..] => (menders(count(given, work::MENDERS)?), Cover::Menders),
+        ["windows", given @ ..] => (windows(count(given, work::WINDOWS)?), Cover::Windows),
         ["one", kind, seed] => return one::one(kind, number(seed)?),
         _ => return None,
     };
@@ -129,6 +139,13 @@ fn menders(count: u64) -> Tally {
     let mut tally = Tally::default();
     mend_special::judge(&mut tally);
     tally.join(work::menders(count));
+    tally
+}
+
+fn windows(count: u64) -> Tally {
+    let mut tally = Tally::default();
+    windows_special::judge(&mut tally);
+    tally.join(work::windows(count));
     tally
 }
 
@@ -196,6 +213,10 @@ fn missing(tally: &Tally, cover: Cover) -> Vec<String> {
         Cover::Menders => {
             tally.menders.print();
             tally.menders.missing()
+        }
+        Cover::Windows => {
+            tally.windows.print();
+            tally.windows.missing()
         }
         Cover::Must => {
             tally.coverage.print();

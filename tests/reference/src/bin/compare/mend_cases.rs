@@ -203,7 +203,7 @@ fn long(rng: &mut Rng) -> Vec<u8> {
 }
 
 /// Loses, doubles, cuts, exchanges a chunk, or puts a 1B into it.
-fn harm(rng: &mut Rng, chunks: &mut Vec<Vec<u8>>) {
+pub fn harm(rng: &mut Rng, chunks: &mut Vec<Vec<u8>>) {
     if chunks.is_empty() {
         return;
     }

@@ -3,6 +3,7 @@
 use crate::judge::{Case, Scripted, Taker, RECEIVER, REPLAYER, SENDER};
 use crate::mend_cases::{self, MENDER, MEND_TOOL};
 use crate::programs::{self, Outcome};
+use crate::windows_cases::{self, WINDOWS, WINDOWS_TOOL};
 use crate::{stored, work};
 use std::fs;
 use std::path::Path;
@@ -17,6 +18,8 @@ pub fn one(kind: &str, seed: u64) -> Option<ExitCode> {
         "recording" | "fuzz-recording" => taken(&REPLAYER, &input),
         "mend" => taken(&MEND_TOOL, &input),
         "mender" => played(&MENDER, &input),
+        "window" => played(&WINDOWS, &input),
+        "compare-windows" => taken(&WINDOWS_TOOL, &input),
         "sender" => played(&SENDER, &input),
         _ => played(&RECEIVER, &input),
     };
@@ -42,6 +45,8 @@ fn case(kind: &str, seed: u64) -> Option<Case> {
         "sender" => work::sender_case(seed),
         "mender" => mend_cases::script_case(seed),
         "mend" => mend_cases::tool_case(seed),
+        "window" => windows_cases::script_case(seed),
+        "compare-windows" => windows_cases::tool_case(seed),
         "fuzz-script" => work::mutated_script_case(seed, &stored()),
         "fuzz-raw" => work::raw_script_case(seed, &stored()),
         "fuzz-recording" => work::mutated_recording_case(seed, &stored()),

@@ -21,6 +21,7 @@ pub enum Whose {
     Receivers,
     Senders,
     Menders,
+    Windows,
 }
 
 /// Every fault of every list in the folder, in the order of the lists' names.
@@ -72,6 +73,7 @@ impl Patch {
         match &self.name {
             name if name.starts_with("sender") => Whose::Senders,
             name if name.starts_with("mend") => Whose::Menders,
+            name if name.starts_with("windows") => Whose::Windows,
             _ => Whose::Receivers,
         }
     }

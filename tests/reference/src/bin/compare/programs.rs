@@ -1,7 +1,7 @@
 //! Runs the programs under test as processes. Whatever goes wrong with a run is kept beside its output.
 
 use std::io::{self, ErrorKind, Read, Write};
-use std::path::Path;
+use std::path::{Path, PathBuf};
 use std::process::{Child, Command, ExitStatus, Stdio};
 use std::sync::{mpsc, OnceLock};
 use std::thread::{self, ScopedJoinHandle};
@@ -19,6 +19,8 @@ pub const REPLAY: &str = "target/bin/replay";
 pub const DRIVE_SENDER: &str = "target/bin/drive_sender";
 pub const MEND: &str = "target/bin/mend";
 pub const MEND_SCRIPT: &str = "target/bin/mend_script";
+pub const WINDOWS_SCRIPT: &str = "target/bin/windows_script";
+pub const COMPARE_WINDOWS: &str = "target/bin/compare_windows";
 
 static PLAYER: OnceLock<&str> = OnceLock::new();
 
@@ -65,14 +67,25 @@ impl Outcome {
 
 /// Runs the program on the input, written in pieces of `step` bytes, so that its reads are cut differently.
 pub fn run(path: &Path, input: &[u8], step: usize) -> Outcome {
-    let (mut outcome, errors) = run_within(LONGEST_RUN, path, input, step);
+    silent(run_within(LONGEST_RUN, Command::new(path), input, step))
+}
+
+/// Runs the program with arguments, on no input.
+pub fn run_with(path: &Path, arguments: &[PathBuf]) -> Outcome {
+    let mut command = Command::new(path);
+    command.args(arguments);
+    silent(run_within(LONGEST_RUN, command, b"", 1))
+}
+
+/// What stands on standard error is a fault.
+fn silent((mut outcome, errors): (Outcome, Vec<u8>)) -> Outcome {
     outcome.faults.extend(said(&errors));
     outcome
 }
 
 /// The same for a program that is to write on standard error: both outputs are one, as `aloud` joins them.
 pub fn run_aloud(path: &Path, input: &[u8], step: usize) -> Outcome {
-    let (outcome, errors) = run_within(LONGEST_RUN, path, input, step);
+    let (outcome, errors) = run_within(LONGEST_RUN, Command::new(path), input, step);
     Outcome { output: aloud(&outcome.output, &errors), ..outcome }
 }
 
@@ -90,8 +103,12 @@ pub fn apart(joined: &[u8]) -> (&[u8], &[u8]) {
 }
 
 /// What a run gave, and what it wrote on standard error.
-fn run_within(limit: Duration, path: &Path, input: &[u8], step: usize) -> (Outcome, Vec<u8>) {
-    let mut command = Command::new(path);
+fn run_within(
+    limit: Duration,
+    mut command: Command,
+    input: &[u8],
+    step: usize,
+) -> (Outcome, Vec<u8>) {
     command.stdin(Stdio::piped()).stdout(Stdio::piped()).stderr(Stdio::piped());
     match command.spawn() {
         Ok(child) => watch(child, limit, input, step),
@@ -217,8 +234,8 @@ mod tests {
     #[test]
     fn a_run_without_end_is_ended() {
         for script in [&b"exec sleep 60"[..], b"exec >&- 2>&-; while :; do :; done"] {
-            let path = Path::new("/bin/sh");
-            let (outcome, _) = run_within(Duration::from_millis(300), path, script, script.len());
+            let (limit, shell) = (Duration::from_millis(300), Command::new("/bin/sh"));
+            let (outcome, _) = run_within(limit, shell, script, script.len());
             assert_eq!(outcome.faults[0], "did not end");
         }
     }

@@ -3,7 +3,8 @@
 use crate::judge::{batches, Case, Scripted, Taker, RECEIVER, REPLAYER, SENDER};
 use crate::mend_cases::{self, MENDER, MEND_TOOL};
 use crate::programs::{self, Outcome};
-use crate::{mend_special, sender_special, special, work};
+use crate::windows_cases::{self, WINDOWS, WINDOWS_TOOL};
+use crate::{mend_special, sender_special, special, windows_special, work};
 use reference::console::LONGEST_SCRIPT;
 use std::path::Path;
 
@@ -57,6 +58,17 @@ pub fn menders() -> Vec<Trial> {
     let script = |case| scripts_together(&MENDER, vec![case]);
     let tool = |case| a_recording(&MEND_TOOL, case, LONGEST_SCRIPT);
     scripts.map(script).chain(tools.map(tool)).collect()
+}
+
+/// Those of pairs of recordings, likewise.
+pub fn windows() -> Vec<Trial> {
+    let scripts = (0..work::WINDOWS).map(windows_cases::script_case);
+    let scripts = scripts.chain(windows_special::scripts());
+    let pairs = windows_cases::tool_trials(0..work::WINDOWS).into_iter();
+    let pairs = pairs.chain(windows_special::pairs());
+    let script = |case| scripts_together(&WINDOWS, vec![case]);
+    let tool = |case| a_recording(&WINDOWS_TOOL, case, LONGEST_SCRIPT);
+    scripts.map(script).chain(pairs.map(tool)).collect()
 }
 
 fn scripts_together(program: &Scripted, cases: Vec<Case>) -> Trial {

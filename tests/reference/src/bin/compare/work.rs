@@ -6,6 +6,7 @@ use crate::mutate::{mutated_recording, mutated_script, raw_script, Stored};
 use crate::recordings::recording;
 use crate::scripts::script;
 use crate::sender_scripts::sender_script;
+use crate::windows_cases;
 use reference::script::encode;
 use reference::sender;
 use std::sync::atomic::{AtomicU64, Ordering};
@@ -19,6 +20,8 @@ pub const LONG: (u64, u64) = (100_000, 20_000);
 pub const SENDERS: u64 = 2_000;
 /// The same for recordings to mend.
 pub const MENDERS: u64 = 2_000;
+/// The same for pairs of recordings.
+pub const WINDOWS: u64 = 2_000;
 
 const THREADS: usize = 2;
 /// Cases taken at a time.
@@ -92,6 +95,16 @@ pub fn menders(count: u64) -> Tally {
     share(|tally| {
         let seeds = seeds(&next, count, RECORDINGS);
         seeds.clone().for_each(|seed| mend_cases::judge(tally, seed));
+        !seeds.is_empty()
+    })
+}
+
+/// The pairs of recordings of the first seeds.
+pub fn windows(count: u64) -> Tally {
+    let next = AtomicU64::new(0);
+    share(|tally| {
+        let seeds = seeds(&next, count, RECORDINGS);
+        seeds.clone().for_each(|seed| windows_cases::judge(tally, seed));
         !seeds.is_empty()
     })
 }
