@@ -8,3 +8,4 @@ pub mod Compare
 pub mod Splits
 pub mod Cuts
 pub mod Below
+pub mod Littles

@@ -5,3 +5,4 @@ pub mod Outcome
 pub mod Slices
 pub mod Split
 pub mod Claims
+pub mod Little

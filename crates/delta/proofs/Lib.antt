@@ -1,0 +1,13 @@
+mod Choices
+mod FieldLaws
+mod HeaderLaws
+mod OperationLaws
+mod RangeLaws
+mod CallLaws
+mod WalkLaws
+mod LayoutLaws
+mod SignatureLaws
+mod PatchLaws
+mod Examples
+mod WeakLaws
+mod Every

@@ -1,0 +1,9 @@
+pub mod Layout
+pub mod Read
+pub mod Patch
+pub mod Walk
+pub mod Calls
+pub mod Weak
+pub mod Laws
+pub mod Examples
+pub mod WrongPatchers
