@@ -2,6 +2,7 @@
 //! pages and the scripted console's paper.
 
 pub mod console;
+pub mod delta;
 pub mod mend;
 pub mod notation;
 pub mod receiver;

@@ -1,5 +1,6 @@
 //! The notation of the papers' examples.
 
+use crate::delta::layout;
 use crate::receiver::command::FileType;
 use crate::receiver::{base64, Entry};
 use crate::script::{Buffer, Op};
@@ -147,4 +148,42 @@ fn window_item(item: &str) -> Vec<u8> {
         _ => panic!("no such item: {item}"),
     };
     command.frame().unwrap()
+}
+
+/// The signature of order 13's `H(SIZE)`, `H(SIZE, FIELD VALUE)`, behind it ` + N` for N more bytes or ` - N` for N less. Panics at what is
+/// none.
+pub fn signature(text: &str) -> Vec<u8> {
+    let number = |text: &str| text.parse::<u32>().unwrap();
+    let (inner, behind) = text.strip_prefix("H(").unwrap().split_once(')').unwrap();
+    let (size, field) = inner.split_once(", ").unwrap_or((inner, "version 0"));
+    let (field, value) = field.split_once(' ').unwrap();
+    let names = ["version", "checksum_type", "strong_hash_type", "weak_hash_type"];
+    let mut kinds = [0; 4];
+    kinds[names.iter().position(|name| *name == field).unwrap()] = number(value) as u16;
+    let mut all = layout::header(kinds, number(size));
+    let len = match behind.trim().split_once(' ') {
+        Some(("+", more)) => all.len() + number(more) as usize,
+        Some(("-", less)) => all.len() - number(less) as usize,
+        _ => all.len(),
+    };
+    all.resize(len, 0);
+    all
+}
+
+/// The delta of order 13's operations, parted by a comma and a blank: `B I`, `R I N`, `D BYTES`, `# BYTES`; `raw BYTES` stands for
+/// themselves. Panics at what is none.
+pub fn delta(items: &str) -> Vec<u8> {
+    let operation = |item: &str| {
+        let words: Vec<&str> = item.split(' ').collect();
+        let payload = bytes(words.get(1).unwrap_or(&""));
+        match words[..] {
+            ["B", index] => layout::block(index.parse().unwrap()),
+            ["R", first, more] => layout::blocks(first.parse().unwrap(), more.parse().unwrap()),
+            ["D", ..] => layout::data(&payload),
+            ["#", ..] => layout::hash(&payload),
+            ["raw", ..] => payload,
+            _ => panic!("no such operation: {item}"),
+        }
+    };
+    items.split(", ").filter(|item| !item.is_empty()).flat_map(operation).collect()
 }

@@ -151,6 +151,10 @@ impl<'s> Operands<'s> {
         Some(u16::from_le_bytes([bytes[0], bytes[1]]))
     }
 
+    pub fn wide(&mut self) -> Option<u32> {
+        Some(u32::from_le_bytes(self.bytes(4)?.try_into().ok()?))
+    }
+
     /// Eight bytes, two's complement.
     fn integer(&mut self) -> Option<i64> {
         Some(i64::from_le_bytes(self.bytes(8)?.try_into().ok()?))
