@@ -23,6 +23,11 @@ impl Folder {
         self.0.join(name)
     }
 
+    /// How many files are in it.
+    pub fn count(&self) -> io::Result<usize> {
+        Ok(fs::read_dir(&self.0)?.count())
+    }
+
     /// Writes a file and gives its path.
     pub fn put(&self, name: &str, bytes: &[u8]) -> io::Result<PathBuf> {
         let path = self.path(name);

@@ -21,7 +21,7 @@ struct Ground {
     programs: &'static [&'static str],
 }
 
-const GROUNDS: [Ground; 4] = [
+const GROUNDS: [Ground; 5] = [
     Ground { whose: Whose::Receivers, trials: trials::quick, programs: &["drive", "replay"] },
     Ground { whose: Whose::Senders, trials: trials::senders, programs: &["drive_sender"] },
     Ground { whose: Whose::Menders, trials: trials::menders, programs: &["mend", "mend_script"] },
@@ -30,6 +30,7 @@ const GROUNDS: [Ground; 4] = [
         trials: trials::windows,
         programs: &["compare_windows", "windows_script"],
     },
+    Ground { whose: Whose::Deltas, trials: trials::deltas, programs: &["delta_script", "patch"] },
 ];
 
 /// Tries the faults whose names have the given words in them. Answers whether each was found.

@@ -1,6 +1,7 @@
 //! Runs a case on both sides, counts, and keeps the cases that differ.
 
 use crate::coverage::Coverage;
+use crate::delta_coverage::DeltaCoverage;
 use crate::mend_coverage::MendCoverage;
 use crate::programs::{self, Outcome, DRIVE_SENDER, REPLAY};
 use crate::sender_coverage::SenderCoverage;
@@ -102,6 +103,7 @@ pub struct Tally {
     pub senders: SenderCoverage,
     pub menders: MendCoverage,
     pub windows: WindowCoverage,
+    pub deltas: DeltaCoverage,
     pub scripts: u64,
     pub recordings: u64,
     pub runs: u64,
@@ -201,6 +203,7 @@ impl Tally {
         self.senders.join(other.senders);
         self.menders.join(other.menders);
         self.windows.join(other.windows);
+        self.deltas.join(other.deltas);
         self.scripts += other.scripts;
         self.recordings += other.recordings;
         self.runs += other.runs;

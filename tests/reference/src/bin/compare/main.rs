@@ -5,6 +5,11 @@
 mod bad_texts;
 mod bad_values;
 mod coverage;
+mod delta_cases;
+mod delta_coverage;
+mod delta_differ;
+mod delta_inputs;
+mod delta_special;
 mod entries;
 mod fields;
 mod files;
@@ -17,6 +22,7 @@ mod mend_special;
 mod mutate;
 mod names;
 mod one;
+mod patch_cases;
 mod patches;
 mod programs;
 mod receive_special;
@@ -49,8 +55,8 @@ use std::time::{Duration, Instant};
 use std::{env, fs};
 
 const USAGE: &str = "compare [in-place] quick | long | fuzz SECONDS [SEED] | one KIND SEED
-compare senders [N] | menders [N] | windows [N] | faults [WORD..]
-KIND: script, recording, sender, mender, mend, window, compare-windows, fuzz-script, fuzz-raw, fuzz-recording";
+compare senders [N] | menders [N] | windows [N] | deltas [N] | patches [N] | faults [WORD..]
+KIND: script, recording, sender, mender, mend, window, compare-windows, delta, patch, fuzz-script, fuzz-raw, fuzz-recording";
 
 /// What came up, and whether what never did is a fault.
 enum Cover {
@@ -59,6 +65,8 @@ enum Cover {
     Senders,
     Menders,
     Windows,
+    Deltas,
+    Patches,
 }
 
 fn main() -> ExitCode {
@@ -89,6 +97,8 @@ fn wanted(args: &[&str]) -> Vec<&'static str> {
         ["windows", ..] | ["one", "window" | "compare-windows", _] => {
             vec![programs::WINDOWS_SCRIPT, programs::COMPARE_WINDOWS]
         }
+        ["deltas", ..] | ["one", "delta", _] => vec![programs::DELTA_SCRIPT],
+        ["patches", ..] | ["one", "patch", _] => vec![programs::PATCH],
         _ => vec![programs::player(), programs::REPLAY],
     }
 }
@@ -110,6 +120,8 @@ fn run(args: &[&str]) -> Option<ExitCode> {
         ["senders", given @ ..] => (senders(count(given, work::SENDERS)?), Cover::Senders),
         ["menders", given @ ..] => (menders(count(given, work::MENDERS)?), Cover::Menders),
         ["windows", given @ ..] => (windows(count(given, work::WINDOWS)?), Cover::Windows),
+        ["deltas", given @ ..] => (deltas(count(given, work::DELTAS_TRIED)?), Cover::Deltas),
+        ["patches", given @ ..] => (patched(count(given, work::DELTAS_TRIED)?), Cover::Patches),
         ["one", kind, seed] => return one::one(kind, number(seed)?),
         _ => return None,
     };
@@ -146,6 +158,20 @@ fn windows(count: u64) -> Tally {
     let mut tally = Tally::default();
     windows_special::judge(&mut tally);
     tally.join(work::windows(count));
+    tally
+}
+
+fn deltas(count: u64) -> Tally {
+    let mut tally = Tally::default();
+    delta_special::judge(&mut tally);
+    tally.join(work::deltas(count));
+    tally
+}
+
+fn patched(count: u64) -> Tally {
+    let mut tally = Tally::default();
+    delta_special::judge_patches(&mut tally);
+    tally.join(work::patches(count));
     tally
 }
 
@@ -217,6 +243,14 @@ fn missing(tally: &Tally, cover: Cover) -> Vec<String> {
         Cover::Windows => {
             tally.windows.print();
             tally.windows.missing()
+        }
+        Cover::Deltas => {
+            tally.deltas.print_scripts();
+            tally.deltas.missing_in_scripts()
+        }
+        Cover::Patches => {
+            tally.deltas.print_patches();
+            tally.deltas.missing_in_patches()
         }
         Cover::Must => {
             tally.coverage.print();

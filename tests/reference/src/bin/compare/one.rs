@@ -1,7 +1,9 @@
 //! One input by its kind and seed, written out with what both sides make of it.
 
+use crate::delta_cases::{self, DELTAS};
 use crate::judge::{Case, Scripted, Taker, RECEIVER, REPLAYER, SENDER};
 use crate::mend_cases::{self, MENDER, MEND_TOOL};
+use crate::patch_cases::{self, PATCHER};
 use crate::programs::{self, Outcome};
 use crate::windows_cases::{self, WINDOWS, WINDOWS_TOOL};
 use crate::{stored, work};
@@ -20,6 +22,8 @@ pub fn one(kind: &str, seed: u64) -> Option<ExitCode> {
         "mender" => played(&MENDER, &input),
         "window" => played(&WINDOWS, &input),
         "compare-windows" => taken(&WINDOWS_TOOL, &input),
+        "delta" => played(&DELTAS, &input),
+        "patch" => taken(&PATCHER, &input),
         "sender" => played(&SENDER, &input),
         _ => played(&RECEIVER, &input),
     };
@@ -47,6 +51,8 @@ fn case(kind: &str, seed: u64) -> Option<Case> {
         "mend" => mend_cases::tool_case(seed),
         "window" => windows_cases::script_case(seed),
         "compare-windows" => windows_cases::tool_case(seed),
+        "delta" => delta_cases::case(seed),
+        "patch" => patch_cases::case(seed),
         "fuzz-script" => work::mutated_script_case(seed, &stored()),
         "fuzz-raw" => work::raw_script_case(seed, &stored()),
         "fuzz-recording" => work::mutated_recording_case(seed, &stored()),

@@ -22,6 +22,7 @@ pub enum Whose {
     Senders,
     Menders,
     Windows,
+    Deltas,
 }
 
 /// Every fault of every list in the folder, in the order of the lists' names.
@@ -74,6 +75,7 @@ impl Patch {
             name if name.starts_with("sender") => Whose::Senders,
             name if name.starts_with("mend") => Whose::Menders,
             name if name.starts_with("windows") => Whose::Windows,
+            name if name.starts_with("delta") => Whose::Deltas,
             _ => Whose::Receivers,
         }
     }

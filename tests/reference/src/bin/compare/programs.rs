@@ -21,6 +21,8 @@ pub const MEND: &str = "target/bin/mend";
 pub const MEND_SCRIPT: &str = "target/bin/mend_script";
 pub const WINDOWS_SCRIPT: &str = "target/bin/windows_script";
 pub const COMPARE_WINDOWS: &str = "target/bin/compare_windows";
+pub const DELTA_SCRIPT: &str = "target/bin/delta_script";
+pub const PATCH: &str = "target/bin/patch";
 
 static PLAYER: OnceLock<&str> = OnceLock::new();
 
@@ -72,9 +74,14 @@ pub fn run(path: &Path, input: &[u8], step: usize) -> Outcome {
 
 /// Runs the program with arguments, on no input.
 pub fn run_with(path: &Path, arguments: &[PathBuf]) -> Outcome {
+    silent(run_aloud_with(path, arguments))
+}
+
+/// The same for a program that is to write on standard error, which is given too.
+pub fn run_aloud_with(path: &Path, arguments: &[PathBuf]) -> (Outcome, Vec<u8>) {
     let mut command = Command::new(path);
     command.args(arguments);
-    silent(run_within(LONGEST_RUN, command, b"", 1))
+    run_within(LONGEST_RUN, command, b"", 1)
 }
 
 /// What stands on standard error is a fault.

@@ -1,10 +1,12 @@
 //! The quick run's inputs with what the reference makes of them, made once to try many programs on.
 
+use crate::delta_cases::{self, DELTAS};
 use crate::judge::{batches, Case, Scripted, Taker, RECEIVER, REPLAYER, SENDER};
 use crate::mend_cases::{self, MENDER, MEND_TOOL};
+use crate::patch_cases::{self, PATCHER};
 use crate::programs::{self, Outcome};
 use crate::windows_cases::{self, WINDOWS, WINDOWS_TOOL};
-use crate::{mend_special, sender_special, special, windows_special, work};
+use crate::{delta_special, mend_special, sender_special, special, windows_special, work};
 use reference::console::LONGEST_SCRIPT;
 use std::path::Path;
 
@@ -69,6 +71,17 @@ pub fn windows() -> Vec<Trial> {
     let script = |case| scripts_together(&WINDOWS, vec![case]);
     let tool = |case| a_recording(&WINDOWS_TOOL, case, LONGEST_SCRIPT);
     scripts.map(script).chain(pairs.map(tool)).collect()
+}
+
+/// Those of deltas: scripts together, special ones alone, and files.
+pub fn deltas() -> Vec<Trial> {
+    let scripts = (0..work::DELTAS_TRIED).map(delta_cases::case).collect();
+    let alone = delta_special::scripts().into_iter().map(|case| vec![case]);
+    let scripts = batches(scripts).into_iter().chain(alone);
+    let sampled = (0..work::DELTAS_TRIED).filter(|seed| patch_cases::sampled(*seed));
+    let files = sampled.map(patch_cases::case).chain(delta_special::files());
+    let file = |case| a_recording(&PATCHER, case, LONGEST_SCRIPT);
+    scripts.map(|cases| scripts_together(&DELTAS, cases)).chain(files.map(file)).collect()
 }
 
 fn scripts_together(program: &Scripted, cases: Vec<Case>) -> Trial {

@@ -1,8 +1,10 @@
 //! Shares the cases out to two threads.
 
+use crate::delta_cases::{self, DELTAS};
 use crate::judge::{Case, Tally, RECEIVER, REPLAYER, SENDER};
 use crate::mend_cases;
 use crate::mutate::{mutated_recording, mutated_script, raw_script, Stored};
+use crate::patch_cases;
 use crate::recordings::recording;
 use crate::scripts::script;
 use crate::sender_scripts::sender_script;
@@ -22,6 +24,8 @@ pub const SENDERS: u64 = 2_000;
 pub const MENDERS: u64 = 2_000;
 /// The same for pairs of recordings.
 pub const WINDOWS: u64 = 2_000;
+/// The same for deltas, in scripts and as files.
+pub const DELTAS_TRIED: u64 = 2_000;
 
 const THREADS: usize = 2;
 /// Cases taken at a time.
@@ -105,6 +109,26 @@ pub fn windows(count: u64) -> Tally {
     share(|tally| {
         let seeds = seeds(&next, count, RECORDINGS);
         seeds.clone().for_each(|seed| windows_cases::judge(tally, seed));
+        !seeds.is_empty()
+    })
+}
+
+/// The deltas of the first seeds, in scripts.
+pub fn deltas(count: u64) -> Tally {
+    let next = AtomicU64::new(0);
+    share(|tally| {
+        let seeds = seeds(&next, count, SCRIPTS);
+        tally.scripts(&DELTAS, seeds.clone().map(delta_cases::case).collect());
+        !seeds.is_empty()
+    })
+}
+
+/// Those that are files for `patch`, every tenth.
+pub fn patches(count: u64) -> Tally {
+    let next = AtomicU64::new(0);
+    share(|tally| {
+        let seeds = seeds(&next, count, SCRIPTS);
+        seeds.clone().for_each(|seed| patch_cases::judge(tally, seed));
         !seeds.is_empty()
     })
 }
