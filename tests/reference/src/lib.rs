@@ -1,5 +1,5 @@
-//! An independent receiver and sender, and an independent mender of recordings, written from document 01, its readings, the orders'
-//! pages and the scripted console's paper.
+//! An independent receiver and sender, an independent mender and comparer of recordings and an independent reader of deltas, written
+//! from document 01, its readings, source 001, the orders' pages and the scripted console's paper.
 
 pub mod console;
 pub mod delta;

@@ -116,6 +116,22 @@ fn the_weak_sums() {
     assert_eq!(weak::sum(&[0xff; 65_536]), 2_147_483_648);
 }
 
+/// What the page's script gives.
+const LINES: &str = "h 0 4 1
+b 0 0 64225674 5
+b 0 none
+i blocks 1 1
+i data 18 2
+i hash 23 2
+i 0
+m 0 8 23:2
+a 0 8 23:2 60332
+x 65666768696a5859
+a 9 0 - 60332
+w 64225674
+l 64881038
+";
+
 #[test]
 fn the_scripted_form() {
     use script::{Buffer, Op};
@@ -140,22 +156,7 @@ fn the_scripted_form() {
     ];
     let mut out = Vec::new();
     script::run(&script::encode(&ops), &mut out);
-    let lines = [
-        "h 0 4 1",
-        "b 0 0 64225674 5",
-        "b 0 none",
-        "i blocks 1 1",
-        "i data 18 2",
-        "i hash 23 2",
-        "i 0",
-        "m 0 8 23:2",
-        "a 0 8 23:2 60332",
-        "x 65666768696a5859",
-        "a 9 0 - 60332",
-        "w 64225674",
-        "l 64881038",
-    ];
-    assert_eq!(String::from_utf8(out).unwrap(), lines.join("\n") + "\n");
+    assert_eq!(String::from_utf8(out).unwrap(), LINES);
     let (list, end) = operations(&delta);
     let read = [Operation::Blocks(1, 1), Operation::Data(18..20), Operation::Hash(23..25)];
     assert_eq!((&list[..], end), (&read[..], Ok(())));
