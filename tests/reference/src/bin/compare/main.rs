@@ -56,7 +56,7 @@ use std::{env, fs};
 
 const USAGE: &str = "compare [in-place] quick | long | fuzz SECONDS [SEED] | one KIND SEED
 compare senders [N] | menders [N] | windows [N] | deltas [N] | patches [N] | faults [WORD..]
-KIND: script, recording, sender, mender, mend, window, compare-windows, delta, patch, fuzz-script, fuzz-raw, fuzz-recording";
+KIND: script, recording, sender, mender, mend, window, compare-windows, alike, delta, patch, fuzz-script, fuzz-raw, fuzz-recording";
 
 /// What came up, and whether what never did is a fault.
 enum Cover {
@@ -94,7 +94,7 @@ fn wanted(args: &[&str]) -> Vec<&'static str> {
         ["menders", ..] | ["one", "mender" | "mend", _] => {
             vec![programs::MEND_SCRIPT, programs::MEND]
         }
-        ["windows", ..] | ["one", "window" | "compare-windows", _] => {
+        ["windows", ..] | ["one", "window" | "compare-windows" | "alike", _] => {
             vec![programs::WINDOWS_SCRIPT, programs::COMPARE_WINDOWS]
         }
         ["deltas", ..] | ["one", "delta", _] => vec![programs::DELTA_SCRIPT],

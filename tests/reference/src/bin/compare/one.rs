@@ -5,7 +5,7 @@ use crate::judge::{Case, Scripted, Taker, RECEIVER, REPLAYER, SENDER};
 use crate::mend_cases::{self, MENDER, MEND_TOOL};
 use crate::patch_cases::{self, PATCHER};
 use crate::programs::{self, Outcome};
-use crate::windows_cases::{self, WINDOWS, WINDOWS_TOOL};
+use crate::windows_cases::{self, ALIKE, WINDOWS, WINDOWS_TOOL};
 use crate::{stored, work};
 use std::fs;
 use std::path::Path;
@@ -22,6 +22,7 @@ pub fn one(kind: &str, seed: u64) -> Option<ExitCode> {
         "mender" => played(&MENDER, &input),
         "window" => played(&WINDOWS, &input),
         "compare-windows" => taken(&WINDOWS_TOOL, &input),
+        "alike" => taken(&ALIKE, &input),
         "delta" => played(&DELTAS, &input),
         "patch" => taken(&PATCHER, &input),
         "sender" => played(&SENDER, &input),
@@ -51,6 +52,7 @@ fn case(kind: &str, seed: u64) -> Option<Case> {
         "mend" => mend_cases::tool_case(seed),
         "window" => windows_cases::script_case(seed),
         "compare-windows" => windows_cases::tool_case(seed),
+        "alike" => windows_cases::alike_case(seed),
         "delta" => delta_cases::case(seed),
         "patch" => patch_cases::case(seed),
         "fuzz-script" => work::mutated_script_case(seed, &stored()),

@@ -22,8 +22,13 @@ pub static WINDOWS: Scripted = Scripted {
     name: "windows_script",
     path: || WINDOWS_SCRIPT,
     run: script::run,
-    // The numbers at the script's head say where the second recording begins, so nothing can be taken out.
-    cut: |_| None,
+    // The script's head says where the second recording begins, so only from that one bytes can be taken out.
+    cut: |input| {
+        let (_, first, second) = script::parts(input)?;
+        let before = input[..HEAD + first.len()].to_vec();
+        let bytes = second.iter().map(|&byte| vec![byte]);
+        Some([before].into_iter().chain(bytes).collect())
+    },
     count: |tally, output| tally.windows.script(output),
 };
 
@@ -36,7 +41,7 @@ pub static WINDOWS_TOOL: Taker = Taker {
 };
 
 /// For a recording beside itself or its mended form: every start of the first is same, whatever the reference says of the second.
-static ALIKE: Taker = Taker {
+pub static ALIKE: Taker = Taker {
     name: "compare_windows",
     path: COMPARE_WINDOWS,
     run: run_pair,
@@ -97,7 +102,7 @@ pub fn judge_pair(tally: &mut Tally, case: &Case) {
     tally.recording(&WINDOWS_TOOL, case, LONGEST_SCRIPT);
 }
 
-fn judge_alike(tally: &mut Tally, case: &Case) {
+pub fn judge_alike(tally: &mut Tally, case: &Case) {
     tally.windows.alike(&case.input);
     tally.recording(&ALIKE, case, LONGEST_SCRIPT);
 }
@@ -155,14 +160,15 @@ pub fn tool_case(seed: u64) -> Case {
 }
 
 /// A recording beside itself or beside its mended form.
-fn alike_case(seed: u64) -> Case {
+pub fn alike_case(seed: u64) -> Case {
     let rng = &mut Rng::new(seed ^ 0x616c_696b);
     let first = pair(rng, 65_536).0;
     let second = if rng.chance(25) { first.clone() } else { mend(&first) };
     Case { name: format!("alike-{seed}"), input: joined(&first, &second) }
 }
 
-fn mend(recording: &[u8]) -> Vec<u8> {
+/// What the reference's mender keeps.
+pub fn mend(recording: &[u8]) -> Vec<u8> {
     mended(recording).map_or(Vec::new(), |mended| mended.kept)
 }
 

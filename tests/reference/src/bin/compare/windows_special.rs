@@ -3,7 +3,7 @@
 
 use crate::judge::{Case, Tally};
 use crate::special::named;
-use crate::windows_cases::{joined, judge_missing, judge_pair, judge_script};
+use crate::windows_cases::{joined, judge_alike, judge_missing, judge_pair, judge_script, mend};
 use reference::console::LONGEST_SCRIPT;
 use reference::notation::window;
 use reference::windows::script::{encode, HEAD, LIST};
@@ -13,6 +13,7 @@ use reference::windows::{rows, ROW};
 pub fn judge(tally: &mut Tally) {
     scripts().into_iter().for_each(|case| judge_script(tally, case));
     pairs().iter().for_each(|case| judge_pair(tally, case));
+    alike().iter().for_each(|case| judge_alike(tally, case));
     judge_missing(tally);
 }
 
@@ -64,6 +65,12 @@ pub fn pairs() -> Vec<Case> {
     all.extend([(many.clone(), most_starts(65_536, b'n')), (many.clone(), many)]);
     all.push((Vec::new(), Vec::new()));
     named("windows", all.iter().map(|(first, second)| joined(first, second)).collect())
+}
+
+/// The examples' first recordings beside themselves and their mended form.
+fn alike() -> Vec<Case> {
+    let both = |(first, _): &Pair| [joined(first, first), joined(first, &mend(first))];
+    named("alike", examples().iter().flat_map(both).collect())
 }
 
 /// The page's.
