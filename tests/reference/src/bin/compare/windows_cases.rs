@@ -291,7 +291,7 @@ mod tests {
     #[test]
     fn everything_comes_up() {
         let mut coverage = WindowCoverage::default();
-        for seed in 0..400 {
+        for seed in 0..250 {
             let script = script_case(seed).input;
             coverage.room(&script);
             coverage.script(&WINDOWS.expected(&script));
@@ -308,7 +308,7 @@ mod tests {
     /// mirrored.
     #[test]
     fn the_claims_hold() {
-        for seed in 0..300 {
+        for seed in 0..150 {
             let alike = alike_case(seed).input;
             assert_eq!((WINDOWS_TOOL.expected)(&alike), (ALIKE.expected)(&alike), "{seed}");
             let pair = tool_case(seed).input;
