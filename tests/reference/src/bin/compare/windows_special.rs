@@ -1,5 +1,5 @@
 //! Pairs of recordings that no seed makes, or few: order 11's examples in each room and exchanged, each order of a few commands, the
-//! most starts, the longest recordings, parts about the limit, receive sessions, scripts that are none.
+//! most starts, the most parts, the longest recordings, parts about the limit, receive sessions, scripts that are none.
 
 use crate::judge::{Case, Tally};
 use crate::special::named;
@@ -27,6 +27,9 @@ pub fn scripts() -> Vec<Case> {
     let (many, other) = (most_starts(half, b'm'), most_starts(half, b'n'));
     all.extend(in_rooms(&(many.clone(), many.clone())));
     all.extend(in_rooms(&(many, other)));
+    for part in ["", "x", "{A*4096}", "{A*4095}"] {
+        all.push(encode(LIST, &most_parts(half, part), &most_parts(half, "A")));
+    }
     all.extend(no_scripts());
     let rooms = [0xff, 0x100, 0xffff, 0x01_0000, 0xff_ffff, LIST - 1, LIST, LIST + 1];
     let three = &examples()[14];
@@ -63,6 +66,10 @@ pub fn pairs() -> Vec<Case> {
     }
     let many = most_starts(65_536, b'm');
     all.extend([(many.clone(), most_starts(65_536, b'n')), (many.clone(), many)]);
+    let parts = ["", "x", "{A*4096}", "{A*4095}"].map(|part| most_parts(65_536, part));
+    for first in &parts {
+        all.extend(parts.iter().map(|second| (first.clone(), second.clone())));
+    }
     all.push((Vec::new(), Vec::new()));
     named("windows", all.iter().map(|(first, second)| joined(first, second)).collect())
 }
@@ -149,6 +156,16 @@ fn receives() -> Vec<Pair> {
     pairs
 }
 
+/// A file of as many such parts as fit into so many bytes.
+fn most_parts(most: usize, part: &str) -> Vec<u8> {
+    let mut all = window("s m, f m a");
+    let frame = window(format!("d m a {part}").trim_end());
+    while all.len() + frame.len() <= most {
+        all.extend_from_slice(&frame);
+    }
+    all
+}
+
 /// As many starts as fit into so many bytes, in sessions of this id.
 fn most_starts(most: usize, id: u8) -> Vec<u8> {
     const FIDS: &[u8; 32] = b"abcdefghijklmnopqrstuvwxyz012345";
@@ -182,6 +199,7 @@ fn ending(len: usize, recording: &[u8]) -> Vec<u8> {
 #[cfg(test)]
 mod tests {
     use super::*;
+    use reference::windows::heard::heard;
     use reference::windows::script::parts;
 
     #[test]
@@ -192,5 +210,7 @@ mod tests {
         assert_eq!(examples().len(), 19);
         let (many, other) = (most_starts(65_536, b'm'), most_starts(65_536, b'n'));
         assert!(rows(&many, &other).unwrap().len() > 3_600);
+        let content = |part: &str| heard(&most_parts(65_536, part))[0].content.len();
+        assert_eq!((content("x"), content("{A*4096}")), (1_925, 11 * 4096));
     }
 }
