@@ -111,10 +111,11 @@ mod tests {
 
     #[test]
     fn the_scripts_are_scripts() {
-        for seed in 0..100 {
+        for seed in 0..1_000 {
             let Case { input, .. } = case(seed);
             assert!(input.len() <= 65_536, "{seed}: {}", input.len());
-            assert!(!DELTAS.expected(&input).ends_with(b"bad script\n"), "{seed}");
+            let bad = seed < 100 && DELTAS.expected(&input).ends_with(b"bad script\n");
+            assert!(!bad, "{seed}");
         }
     }
 }
