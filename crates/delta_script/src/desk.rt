@@ -2,13 +2,14 @@
 ghost use Prim.Native.Nat.{_≤_};
 use crate::line;
 use crate::listing;
-use crate::script::byte;
-use crate::script::long;
-use crate::script::number;
 use delta::Measured;
 use octets::Stored;
 use octets::size::least;
 use octets::size::less;
+use script_parts::byte;
+use script_parts::four_bytes;
+use script_parts::rest;
+use script_parts::two_bytes;
 use streams::Run;
 
 // How the run stands, whether every append fitted, how many bytes of each input there are, how many of
@@ -59,7 +60,7 @@ pub(crate) fn perform(
         b'd' | b'D' => keep(desk, operation, append(operation, delta, desk.delta)),
         b'n' => anew(desk, out),
         b'r' => Desk {
-            lent: long(operation, 1),
+            lent: four_bytes(operation, 1),
             ..desk
         },
         b'a' => apply(desk, signature, old, delta, out),
@@ -70,13 +71,9 @@ pub(crate) fn perform(
 // Appends the operation's bytes, or a capital's byte as often as it says.
 fn append(operation: &[u8], buffer: &mut [u8], at: usize) -> Stored {
     if byte(operation, 0) < b'a' {
-        return repeat(buffer, at, long(operation, 1), byte(operation, 5));
+        return repeat(buffer, at, four_bytes(operation, 1), byte(operation, 5));
     }
-    octets::copy_at(
-        octets::part(operation, 3, less(operation.len(), 3)),
-        buffer,
-        at,
-    )
+    octets::copy_at(rest(operation, 3), buffer, at)
 }
 
 fn repeat(buffer: &mut [u8], at: usize, count: usize, b: u8) -> Stored {
@@ -186,20 +183,20 @@ fn told<'a>(
 ) -> Run {
     match byte(operation, 0) {
         b'h' => line::header(run, delta::read_signature(s)),
-        b'b' => line::block(run, delta::entry_at(s, number(operation, 1))),
+        b'b' => line::block(run, delta::entry_at(s, two_bytes(operation, 1))),
         b'i' => listing::operations(run, d),
         b'm' => line::measured(run.text(b"m "), delta::measure(s, o, d)).text(b"\n"),
         b'x' => line::made(run, made),
         b'w' => line::window(
             run,
-            delta::weak_sum(octets::part(o, long(operation, 1), long(operation, 5))),
+            delta::weak_sum(octets::part(o, four_bytes(operation, 1), four_bytes(operation, 5))),
         ),
         b'l' => rolled(
             run,
             o,
-            long(operation, 1),
-            long(operation, 5),
-            long(operation, 9),
+            four_bytes(operation, 1),
+            four_bytes(operation, 5),
+            four_bytes(operation, 9),
         ),
         _ => run,
     }

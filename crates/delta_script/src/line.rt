@@ -1,5 +1,4 @@
 // The lines that are printed.
-use crate::script::wide;
 use delta::Checksum;
 use delta::Entry;
 use delta::Found;
@@ -7,11 +6,8 @@ use delta::Measured;
 use delta::Operation;
 use delta::Refusal;
 use delta::Signed;
+use script_parts::sum;
 use streams::Run;
-
-pub(crate) fn bad_script(run: Run) -> Run {
-    run.text(b"bad script\n")
-}
 
 // The refusal's number, or 0, the block size and the number of blocks.
 pub(crate) fn header(run: Run, signed: Signed) -> Run {
@@ -106,18 +102,4 @@ pub(crate) fn rolled(run: Run, sum: u32) -> Run {
 
 pub(crate) fn no_window(run: Run) -> Run {
     run.text(b"l none\n")
-}
-
-// The sum of (i + 1) times byte i, modulo 65521: byte i counts in each of the i + 1 sums of the bytes
-// from a place on.
-fn sum(buffer: &[u8]) -> usize {
-    let mut total: usize = 0;
-    let mut rest: usize = 0;
-    let mut i = buffer.len();
-    while i > 0 {
-        i -= 1;
-        rest = (rest + wide(buffer[i])) % 65521;
-        total = (total + rest) % 65521;
-    }
-    total
 }

@@ -6,11 +6,10 @@ mod listing;
 mod script;
 
 use desk::Desk;
+use script_parts::SCRIPT_LIMIT;
+use script_parts::bad_script;
 use streams::Got;
 use streams::Run;
-
-// How many bytes a script has at most.
-const SCRIPT_LIMIT: usize = 65536;
 
 // One byte more is read, so that a longer script is seen.
 fn main() {
@@ -25,7 +24,7 @@ fn main() {
 // Makes the script's operations one after another, until something fails.
 fn play(bytes: &[u8]) -> Run {
     if bytes.len() > SCRIPT_LIMIT {
-        return line::bad_script(Run::Well);
+        return bad_script(Run::Well);
     }
     let mut signature = [0u8; Desk::ROOM];
     let mut old = [0u8; Desk::ROOM];
@@ -40,7 +39,7 @@ fn play(bytes: &[u8]) -> Run {
         }
         let n = script::operation_length(bytes, at);
         if n == 0 {
-            return line::bad_script(run);
+            return bad_script(run);
         }
         let operation = octets::part(bytes, at, n);
         state = desk::perform(
@@ -52,7 +51,7 @@ fn play(bytes: &[u8]) -> Run {
             &mut out,
         );
         if !state.good {
-            return line::bad_script(run);
+            return bad_script(run);
         }
         at += n;
     }

@@ -1,13 +1,9 @@
 // The lines that are printed.
-use crate::wide;
 use octets::size::least;
 use recordings::Mended;
+use script_parts::list_sum;
+use script_parts::sum;
 use streams::Run;
-
-pub(crate) fn bad_script() -> Run {
-    let run = Run::Well;
-    run.text(b"bad script\n")
-}
 
 // The refusal's number, or 0, the bytes kept and the rows, the sums of the whole buffers, and a line for
 // each row.
@@ -43,31 +39,4 @@ fn rows(run: Run, list: &[usize], n: usize) -> Run {
 fn row(run: Run, start: usize, len: usize, why: usize) -> Run {
     let first = run.number(start).text(b" ").number(len);
     first.text(b" ").number(why).text(b"\n")
-}
-
-// The sum of (i + 1) times byte i, modulo 65521: byte i counts in each of the i + 1 sums of the bytes
-// from a place on.
-fn sum(buffer: &[u8]) -> usize {
-    let mut total: usize = 0;
-    let mut rest: usize = 0;
-    let mut i = buffer.len();
-    while i > 0 {
-        i -= 1;
-        rest = (rest + wide(buffer[i])) % 65521;
-        total = (total + rest) % 65521;
-    }
-    total
-}
-
-// The same of numbers.
-fn list_sum(list: &[usize]) -> usize {
-    let mut total: usize = 0;
-    let mut rest: usize = 0;
-    let mut i = list.len();
-    while i > 0 {
-        i -= 1;
-        rest = (rest + list[i] % 65521) % 65521;
-        total = (total + rest) % 65521;
-    }
-    total
 }

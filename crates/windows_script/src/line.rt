@@ -2,13 +2,9 @@
 ghost use Prim.Native.Nat.{_+_, _≤_};
 ghost use lib.ListN.{length};
 use octets::size::least;
+use script_parts::list_sum;
 use streams::Run;
 use windows::Compared;
-
-pub(crate) fn bad_script() -> Run {
-    let run = Run::Well;
-    run.text(b"bad script\n")
-}
 
 // The refusal's number, or 0, the rows, the sum of the whole list, and a line for each row.
 pub(crate) fn tell(compared: Compared, list: &[usize]) -> Run {
@@ -23,7 +19,7 @@ pub(crate) fn tell(compared: Compared, list: &[usize]) -> Run {
 }
 
 fn sum_after(run: Run, list: &[usize]) -> Run {
-    run.text(b" ").number(sum(list)).text(b"\n")
+    run.text(b" ").number(list_sum(list)).text(b"\n")
 }
 
 // The six numbers of each of the first n rows.
@@ -49,18 +45,4 @@ fn row(run: Run, list: &[usize], at: usize) -> Run
 // A start and a length.
 fn place(run: Run, start: usize, len: usize) -> Run {
     run.text(b" ").number(start).text(b" ").number(len)
-}
-
-// The sum of (i + 1) times number i, modulo 65521: number i counts in each of the i + 1 sums of the
-// numbers from a place on.
-fn sum(list: &[usize]) -> usize {
-    let mut total: usize = 0;
-    let mut rest: usize = 0;
-    let mut i = list.len();
-    while i > 0 {
-        i -= 1;
-        rest = (rest + list[i] % 65521) % 65521;
-        total = (total + rest) % 65521;
-    }
-    total
 }

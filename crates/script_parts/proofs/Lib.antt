@@ -1,0 +1,2 @@
+mod SumLaws
+mod NumberLaws
