@@ -250,8 +250,9 @@ too-long-only s old d out = by (ltb limit (length old)) refl (ltb limit (length 
         (Signed.Refused Refusal.Damaged)
 
     by : (a : Bool) → ltb limit (length old) ≡ a → (b : Bool) → ltb limit (length d) ≡ b → (c : Bool) → ltb limit (length s) ≡ c
-        → storedIn (patchBy (cond (a || b) (Signed.Refused Refusal.TooLong) (cond c (Signed.Refused Refusal.TooLong) read)) old d) out .answer
-        ≡ Measured.Refused Refusal.TooLong → (limit < length s) ⊎ ((limit < length old) ⊎ (limit < length d))
+        → let x = cond (a || b) (Signed.Refused Refusal.TooLong) (cond c (Signed.Refused Refusal.TooLong) read) in
+        storedIn (patchBy x old d) out .answer ≡ Measured.Refused Refusal.TooLong
+        → (limit < length s) ⊎ ((limit < length old) ⊎ (limit < length d))
     by true q b r c t e = inr (inl (ltb-true limit (length old) q))
     by false q true r c t e = inr (inr (ltb-true limit (length d) r))
     by false q false r true t e = inl (ltb-true limit (length s) t)
