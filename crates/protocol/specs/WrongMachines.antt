@@ -11,7 +11,7 @@ use Rattle.frames.specs.Stream.{framed}
 use Rattle.frames.specs.declared.Framing.the-variants as Framing
 use Rattle.protocol.specs.Table.{freeFile, sessionAt, fileAt, putSession, putFile, moved, withState}
 use Rattle.protocol.specs.Calls.{Feeding, feedOf, allowOf, denyOf, dropOf, doneOf, failedOf, unlistedOf}
-use Rattle.protocol.specs.Supplies.{supplyOf}
+use Rattle.protocol.specs.Supplies.{Supply, supplyOf}
 use Rattle.protocol.specs.Machine.{Machine, isUnfed}
 use Rattle.protocol.specs.Sound.{EverySound}
 use Rattle.protocol.specs.Promises.{EveryCall}
@@ -62,58 +62,40 @@ abbrev pub statusPiece : List ℕ
 statusPiece = framed (ascii "5113;ac=status;id=m")
 
 -- ---- wrappers
--- our calls but for feed, done, drop or failed
-abbrev pub feedingBy : (Receiver → List ℕ → List ℕ → List ℕ → List ℕ → Feeding) → Machine
-feedingBy f =
+-- our deny and unlisted, and six other calls
+abbrev pub calling : (Receiver → List ℕ → List ℕ → List ℕ → List ℕ → Feeding) → (Receiver → List ℕ → List ℕ → Outcome Answered)
+    → (Receiver → List ℕ → Answered) → (Receiver → List ℕ → Outcome Answered) → (Receiver → Failure → List ℕ → Outcome Answered)
+    → (Receiver → Supply → List ℕ → Outcome Answered) → Machine
+calling feeds allows drops dones fails supplies =
     record {
-      feeds = f;
-      allows = allowOf;
+      feeds = feeds;
+      allows = allows;
       denies = denyOf;
-      drops = dropOf;
-      dones = doneOf;
-      fails = failedOf;
+      drops = drops;
+      dones = dones;
+      fails = fails;
       unlists = unlistedOf;
-      supplies = supplyOf;
+      supplies = supplies;
     }
 
-abbrev pub answeringBy : (Receiver → List ℕ → Outcome Answered) → Machine
-answeringBy d =
-    record {
-      feeds = feedOf;
-      allows = allowOf;
-      denies = denyOf;
-      drops = dropOf;
-      dones = d;
-      fails = failedOf;
-      unlists = unlistedOf;
-      supplies = supplyOf;
-    }
+-- our calls but for one
+abbrev pub feedingBy : (Receiver → List ℕ → List ℕ → List ℕ → List ℕ → Feeding) → Machine
+feedingBy f = calling f allowOf dropOf doneOf failedOf supplyOf
+
+abbrev pub allowingBy : (Receiver → List ℕ → List ℕ → Outcome Answered) → Machine
+allowingBy f = calling feedOf f dropOf doneOf failedOf supplyOf
 
 abbrev pub droppingBy : (Receiver → List ℕ → Answered) → Machine
-droppingBy d =
-    record {
-      feeds = feedOf;
-      allows = allowOf;
-      denies = denyOf;
-      drops = d;
-      dones = doneOf;
-      fails = failedOf;
-      unlists = unlistedOf;
-      supplies = supplyOf;
-    }
+droppingBy f = calling feedOf allowOf f doneOf failedOf supplyOf
+
+abbrev pub answeringBy : (Receiver → List ℕ → Outcome Answered) → Machine
+answeringBy f = calling feedOf allowOf dropOf f failedOf supplyOf
 
 abbrev pub failingBy : (Receiver → Failure → List ℕ → Outcome Answered) → Machine
-failingBy f =
-    record {
-      feeds = feedOf;
-      allows = allowOf;
-      denies = denyOf;
-      drops = dropOf;
-      dones = doneOf;
-      fails = f;
-      unlists = unlistedOf;
-      supplies = supplyOf;
-    }
+failingBy f = calling feedOf allowOf dropOf doneOf f supplyOf
+
+abbrev pub supplyingBy : (Receiver → Supply → List ℕ → Outcome Answered) → Machine
+supplyingBy f = calling feedOf allowOf dropOf doneOf failedOf f
 
 abbrev pub withTable : Receiver → Table → Receiver
 withTable r t = record { framing = r .framing; table = t }

@@ -8,12 +8,11 @@ use Rattle.octets.specs.Outcome.{Outcome, outcome}
 use Rattle.frames.specs.Stream.{framed}
 use Rattle.protocol.specs.Table.{sessionAt, putSession, withState}
 use Rattle.protocol.specs.Receives.{named}
-use Rattle.protocol.specs.Calls.{feedOf, allowOf, denyOf, dropOf, doneOf, failedOf, unlistedOf}
 use Rattle.protocol.specs.Supplies.{Supply, supplyOf}
 use Rattle.protocol.specs.Machine.{Machine}
 use Rattle.protocol.specs.Claim.{EveryHistory}
 use Rattle.protocol.specs.Serving.{ServesWhole}
-use Rattle.protocol.specs.WrongMachines.{withTable, withFile, mistaking, statusPiece}
+use Rattle.protocol.specs.WrongMachines.{supplyingBy, withTable, withFile, mistaking, statusPiece}
 use Rattle.protocol.specs.declared.SessionState.{SessionState}
 use Rattle.protocol.specs.declared.SessionState.the-variants as SessionState
 use Rattle.protocol.specs.declared.Table.{Table}
@@ -29,20 +28,6 @@ abbrev pub finishPiece : List ℕ
 finishPiece = framed (ascii "5113;ac=finish;id=m")
 
 -- ---- wrappers
--- our calls but for those that supply something
-abbrev pub supplyingBy : (Receiver → Supply → List ℕ → Outcome Answered) → Machine
-supplyingBy f =
-    record {
-      feeds = feedOf;
-      allows = allowOf;
-      denies = denyOf;
-      drops = dropOf;
-      dones = doneOf;
-      fails = failedOf;
-      unlists = unlistedOf;
-      supplies = f;
-    }
-
 -- what is written is that of another table or of another supply; the receiver is ours
 abbrev pub writingAs : (Receiver → Receiver) → (Supply → Supply) → Machine
 writingAs f g =
