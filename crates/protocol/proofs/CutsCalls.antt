@@ -210,7 +210,7 @@ supply-answers r h u out = go (ltb (length out) frameRoom) refl
         by (alike s n b b′ e) q z = record { framing = refl; moves = one _ [] refl (λ rest. rw (q, e)); sized = z }
 
 -- drop replies nothing
-drop-silent : (t : Table) (id : List ℕ) → replyBytes (decidedOf t Decision.Drop id .reply) ≡ []
+pub drop-silent : (t : Table) (id : List ℕ) → replyBytes (decidedOf t Decision.Drop id .reply) ≡ []
 unfolding decidedOf decidedBy replyBytes
 drop-silent t id = go (findSession t id)
   where

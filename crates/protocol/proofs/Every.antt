@@ -32,7 +32,7 @@ use Rattle.protocol.proofs.ClosingReplies.{ReplyLaw}
 use Rattle.protocol.proofs.Closing.{done-is, turned, closed}
 
 -- ---- every call keeps the invariant
-step-ok : (w : World) → WorldOK w → (c : Call) → Lent w c → WorldOK (step w c)
+pub step-ok : (w : World) → WorldOK w → (c : Call) → Lent w c → WorldOK (step w c)
 unfolding marksOf allowOf denyOf dropOf doneOf failedOf unlistedOf
 step-ok w ok (Call.feed piece carry scratch reply) lent = feed-ok w ok piece carry scratch reply lent .ok
 step-ok w ok (Call.allow id reply) _ =

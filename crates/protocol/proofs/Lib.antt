@@ -16,6 +16,7 @@ pub mod Every
 pub mod Examples
 pub mod Feeds
 pub mod Invariant
+pub mod isolation
 pub mod Laws
 pub mod Frames
 pub mod Marks

@@ -34,6 +34,7 @@ pub record Means (c : PlacedCommand) (text scratch : List ℕ) (d : List Value) 
   pub part : stringIn scratch (c .payload) ≡ dataOf d
   pub long : c .payload .len ≡ length (dataOf d)
   pub quiet : c .quiet ≤ 2  -- "0, 1, 2"
+  pub values : d ≡ valuesOf c text scratch
 
 -- the code of its action
 pub acts-as : {c : PlacedCommand} {text scratch : List ℕ} {d : List Value} → Means c text scratch d → (a : Action) → c .action ≡ a
@@ -70,6 +71,7 @@ values-mean c text scratch n h quiet =
       part = string-means scratch (c .payload);
       long = sym (string-length scratch (c .payload) h) ∙ ap length (string-means scratch (c .payload));
       quiet = quiet;
+      values = refl;
     }
 
 -- ---- a text that is read

@@ -40,7 +40,7 @@ use Rattle.protocol.specs.declared.Found.{Found}
 use Rattle.protocol.specs.declared.Found.the-variants as Found
 use Rattle.protocol.proofs.Laws.{no-way}
 use Rattle.protocol.proofs.Backs.{told-step}
-use Rattle.protocol.proofs.Tellings.{AnswerTold, done-told, failed-told, unlisted-told}
+use Rattle.protocol.proofs.Tellings.{plain, AnswerTold, done-told, failed-told, unlisted-told}
 use Rattle.protocol.proofs.Frames.{written-length}
 use Rattle.protocol.proofs.SupplyWays as SupplyWays
 use Rattle.protocol.proofs.ReplyBytes.{reply-sent, not-due}
@@ -82,8 +82,8 @@ module _ (t : Table) (f : Session → Due → Change) (told : (s : Session) (d :
   answer-leaves i d = go (told (sessionAt t i) d)
     where
       go : {c : Change} → AnswerTold c → Leaves t (stepBy t i nowhere c)
-      go (AnswerTold.taken l) e = no-way (sym e ∙ l)
-      go (AnswerTold.refused z) e = rw z (refusal-leaves t i 18 refl)
+      go {c} (AnswerTold.taken l) e = no-way (sym e ∙ plain (toldBy nowhere (c .news)) l .accepted)
+      go {c} (AnswerTold.refused z) e = rw z (refusal-leaves t i 18 refl)
 
   answered-leaves : (o : Owed) → Leaves t (answeredWith t f o)
   answered-leaves Owed.Nothing = λ _. (refl, refl)

@@ -63,6 +63,8 @@ pub data Deed : Type 0 where
   dropped : List ℕ → Deed
   failed : Deed
   supply : Supply → Deed
+  -- lent no byte to reply with
+  allowShort : List ℕ → Deed
 
 abbrev pub callOf : World → Deed → Call
 callOf w (Deed.feed piece) = Call.feed piece (w .carry) scratch₀ reply₀
@@ -71,6 +73,7 @@ callOf w Deed.done = Call.done reply₀
 callOf w (Deed.dropped id) = Call.drop id
 callOf w Deed.failed = Call.failed Failure.Eio reply₀
 callOf w (Deed.supply u) = Call.supply u out₀
+callOf w (Deed.allowShort id) = Call.allow id []
 
 lent : (m : Machine) (w : World) (c : Deed) → Lent m w (callOf w c)
 lent m w (Deed.feed piece) = λ _. refl
@@ -79,6 +82,7 @@ lent m w Deed.done = tt
 lent m w (Deed.dropped id) = tt
 lent m w Deed.failed = tt
 lent m w (Deed.supply u) = tt
+lent m w (Deed.allowShort id) = tt
 
 module _ (m : Machine) where
   abbrev pub calls : World → List Deed → List Call

@@ -39,7 +39,7 @@ use Rattle.protocol.specs.declared.Reply.{Reply}
 use Rattle.protocol.specs.declared.Change.{Change}
 use Rattle.protocol.proofs.Laws.{no-way, isPast, equals-other, equals-same, unique-other}
 use Rattle.protocol.proofs.Backs.{table, same-sessions, own-cleared}
-use Rattle.protocol.proofs.Tellings.{AnswerTold, taken, refused, done-told, failed-told, unlisted-told}
+use Rattle.protocol.proofs.Tellings.{plain, AnswerTold, taken, refused, done-told, failed-told, unlisted-told}
 use Rattle.protocol.proofs.Invariant.{keyOf, fileKey, FileOK, RecordOK, commitsFor, OpenOK, SessionOK, IsFile, OpenAsked, PartAsked}
 use Rattle.protocol.proofs.Invariant.{isSupplied, writeHeard, Asking, TableOK}
 use Rattle.protocol.proofs.Marks.{none-answered, file-other, file-done, file-starts, file-answered, holds-answered, session-answered}
@@ -282,7 +282,7 @@ step-noted : (v : Bool) (ss : List Session) (i : ℕ) (d : Due) (m : List Mark) 
     → Sound (table ss (Owed.For i d)) → TableOK (table ss (Owed.For i d)) m
     → let out = stepBy (table ss (Owed.For i d)) i nowhere c in
     TableOK (out .table) (notedMarks m (Mark.answer v (lastAsk m)) out)
-step-noted v ss i d m c (taken q) keeps sound ok = rw q (keeps q (sound, ok))
+step-noted v ss i d m c (taken q) keeps sound ok = let u = plain (toldBy nowhere (c .news)) q .accepted in rw u (keeps u (sound, ok))
 step-noted v ss i d m c (refused q) keeps sound ok =
     let t = table ss (Owed.For i d) in
     let left : Change → Type 0 =

@@ -60,7 +60,7 @@ empty-sound =
     }
 
 -- ---- what is due after a step of the session at place i
-due-here : (o : Owed) (i : ℕ) (w : News) → dueOf (owedAfter o i w) i ≡ dueAfter (dueOf o i) w
+pub due-here : (o : Owed) (i : ℕ) (w : News) → dueOf (owedAfter o i w) i ≡ dueAfter (dueOf o i) w
 due-here o i (News.Tells w) = refl
 due-here Owed.Nothing i (News.Clears w) = refl
 due-here (Owed.For k d) i (News.Clears w) = go (eqb k i) refl
@@ -71,7 +71,7 @@ due-here (Owed.For k d) i (News.Clears w) = go (eqb k i) refl
 due-here o i (News.Asks d) = rw (eq-eqb i i refl)
 
 -- the other sessions keep theirs: an ask is put where nothing is owed
-due-other : (o : Owed) (i : ℕ) (w : News) (n : ℕ) → (n ≡ i → ⊥) → (asksSomething w ≡ true → o ≡ Owed.Nothing)
+pub due-other : (o : Owed) (i : ℕ) (w : News) (n : ℕ) → (n ≡ i → ⊥) → (asksSomething w ≡ true → o ≡ Owed.Nothing)
     → dueOf (owedAfter o i w) n ≡ dueOf o n
 due-other o i (News.Tells w) n h f = refl
 due-other Owed.Nothing i (News.Clears w) n h f = refl
@@ -146,7 +146,7 @@ module _ {t : Table} (ok : Sound t) where
       → (i < length (t .sessions)) × (sessionAt t i .state ≡ SessionState.Listing)
   listing-turn u i n e = let l = turn-lists t u i n e in (l .inside, listing-state (sessionAt t i .state) (l .listing))
 
-  in-turn : (u : Supply) (i : ℕ) → turnOf t u ≡ Found.At i
+  pub in-turn : (u : Supply) (i : ℕ) → turnOf t u ≡ Found.At i
       → (i < length (t .sessions)) × InTurn (sessionAt t i) (dueOf (t .owed) i) u
   in-turn (Supply.list x text contents) i e = listing-turn (Supply.list x text contents) i refl e
   in-turn (Supply.listFailed text id path code) i e = listing-turn (Supply.listFailed text id path code) i refl e

@@ -25,7 +25,7 @@ use Rattle.protocol.proofs.Refuting.{carry₀, scratch₀, reply₀, ou
 use Rattle.protocol.proofs.Refuting.{HandsBadly, hands-badly, SuppliesBadly, supplies-badly}
 
 -- what computing opens besides, where something is written
-writing : Unit {0}
+unfoldable pub writing : Unit {0}
 unfolding wordShown safeShown integerShown base64Shown shown fieldsOf canonical checkedOf writeOf framedOf valuesOf slotsOf bytesAt
     framedFor supplyOf
 writing = tt

@@ -168,13 +168,13 @@ pub record Lists (t : Table) (u : Supply) (i : ℕ) : Type 0 where
   pub id : Meaning.idOf (valuesFor (sessionAt t i) u) ≡ idOf (sessionAt t i)
 
 -- the id that the session is found by
-abbrev idFor : Supply → List ℕ
+abbrev pub idFor : Supply → List ℕ
 idFor (Supply.list e text contents) = stringIn text (e .id)
 idFor (Supply.listFailed text id path code) = stringIn text id
 idFor (Supply.home id path) = id
 idFor (Supply.part last bytes) = []
 
-values-id : (s : Session) (u : Supply) → partOf u ≡ Option.none → Meaning.idOf (valuesFor s u) ≡ idFor u
+pub values-id : (s : Session) (u : Supply) → partOf u ≡ Option.none → Meaning.idOf (valuesFor s u) ≡ idFor u
 unfolding valuesOf slotsOf
 values-id s (Supply.list e text contents) h = sym (string-means text (e .id))
 values-id s (Supply.listFailed text id path code) h = sym (string-means text id)

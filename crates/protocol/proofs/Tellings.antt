@@ -13,6 +13,7 @@ use Rattle.protocol.specs.Sessions.{stringIn}
 use Rattle.protocol.specs.History.{hearing}
 use Rattle.protocol.specs.Machine.{isUnfed, isRefused}
 use Rattle.protocol.specs.Cuts.{saying}
+use Rattle.protocol.specs.Isolation.{isAsking}
 use Rattle.protocol.specs.declared.Due.{Due}
 use Rattle.protocol.specs.declared.Due.the-variants as Due
 use Rattle.protocol.specs.declared.Session.{Session}
@@ -40,22 +41,24 @@ isPlain Told.Committed = true
 -- it is heard as no ask, refuses nothing, and says the same whatever the scratch
 pub record Plain (w : Told) : Type 0 where
   pub silent : (scratch : List ℕ) → hearing w scratch ≡ Option.none
+  pub unasking : (scratch : List ℕ) → isAsking (saying w scratch) ≡ false
   pub taken : isUnfed w ≡ false
+  pub accepted : isRefused w ≡ false
   pub same : (scratch scratch′ : List ℕ) → saying w scratch ≡ saying w scratch′
 
 pub plain : (w : Told) → isPlain w ≡ true → Plain w
-plain Told.Nothing e = record { silent = λ _. refl; taken = refl; same = λ _ _. refl }
+plain Told.Nothing e = record { silent = λ _. refl; unasking = λ _. refl; taken = refl; accepted = refl; same = λ _ _. refl }
 plain (Told.Refused n) e = no-way (sym e)
-plain Told.Ignored e = record { silent = λ _. refl; taken = refl; same = λ _ _. refl }
-plain Told.Asked e = record { silent = λ _. refl; taken = refl; same = λ _ _. refl }
-plain Told.Naming e = record { silent = λ _. refl; taken = refl; same = λ _ _. refl }
-plain Told.Path e = record { silent = λ _. refl; taken = refl; same = λ _ _. refl }
-plain Told.LastPath e = record { silent = λ _. refl; taken = refl; same = λ _ _. refl }
+plain Told.Ignored e = record { silent = λ _. refl; unasking = λ _. refl; taken = refl; accepted = refl; same = λ _ _. refl }
+plain Told.Asked e = record { silent = λ _. refl; unasking = λ _. refl; taken = refl; accepted = refl; same = λ _ _. refl }
+plain Told.Naming e = record { silent = λ _. refl; unasking = λ _. refl; taken = refl; accepted = refl; same = λ _ _. refl }
+plain Told.Path e = record { silent = λ _. refl; unasking = λ _. refl; taken = refl; accepted = refl; same = λ _ _. refl }
+plain Told.LastPath e = record { silent = λ _. refl; unasking = λ _. refl; taken = refl; accepted = refl; same = λ _ _. refl }
 plain (Told.Ask a) e = no-way (sym e)
-plain (Told.Status w) e = record { silent = λ _. refl; taken = refl; same = λ _ _. refl }
-plain Told.Withdrawn e = record { silent = λ _. refl; taken = refl; same = λ _ _. refl }
-plain Told.Discarded e = record { silent = λ _. refl; taken = refl; same = λ _ _. refl }
-plain Told.Committed e = record { silent = λ _. refl; taken = refl; same = λ _ _. refl }
+plain (Told.Status w) e = record { silent = λ _. refl; unasking = λ _. refl; taken = refl; accepted = refl; same = λ _ _. refl }
+plain Told.Withdrawn e = record { silent = λ _. refl; unasking = λ _. refl; taken = refl; accepted = refl; same = λ _ _. refl }
+plain Told.Discarded e = record { silent = λ _. refl; unasking = λ _. refl; taken = refl; accepted = refl; same = λ _ _. refl }
+plain Told.Committed e = record { silent = λ _. refl; unasking = λ _. refl; taken = refl; accepted = refl; same = λ _ _. refl }
 
 -- what a command tells, its payload standing at p
 pub data Tells (p : Place) : Told → Type 0 where
@@ -79,7 +82,7 @@ tells-same scratch scratch′ e (asks Due.Request) = refl
 
 -- an answer to what is due is refused for a request alone, and then nothing else is told
 pub data AnswerTold (c : Change) : Type 0 where
-  taken : isRefused (toldBy nowhere (c .news)) ≡ false → AnswerTold c
+  taken : isPlain (toldBy nowhere (c .news)) ≡ true → AnswerTold c
   refused : c ≡ outOfTurn → AnswerTold c
 
 pub done-told : (s : Session) (d : Due) → AnswerTold (doneBy s d)

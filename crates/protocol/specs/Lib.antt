@@ -24,4 +24,7 @@ pub mod Counts
 pub mod WrongMachines
 pub mod Serving
 pub mod WrongSupplies
+pub mod Isolation
+pub mod IsolationExamples
+pub mod LeakyMachines
 pub mod Starred

@@ -8,6 +8,9 @@ mod actions;
 ghost use mathlib.Core.Path.{_≡_};
 ghost use Rattle.protocol.specs.Claim.{EveryHistory};
 ghost use Rattle.protocol.specs.Cuts.{CutsAlike};
+ghost use Rattle.protocol.specs.Isolation.{Isolated};
+ghost use Rattle.protocol.specs.IsolationExamples.{SeesAlike};
+ghost use Rattle.protocol.specs.LeakyMachines.{Leaks};
 ghost use Rattle.protocol.specs.Machine.{ours};
 ghost use Rattle.protocol.specs.Counts.{EveryCount};
 ghost use Rattle.protocol.specs.Sound.{EverySound};
@@ -331,10 +334,11 @@ impl Reply {
 impl Receiver {
     // "A fresh receiver has no session, no file and nothing owed." What every list of calls from here
     // keeps (demand 3), that cuts do not matter, what holds of every table, a receive session computed
-    // whole, and document 01's starred cases stand here too, so that nobody can drop a theorem unseen.
+    // whole, that no session hangs on another, and document 01's starred cases stand here too, so that
+    // nobody can drop a theorem unseen.
     pub fn fresh() -> Receiver
         ensures { λ r. ⌜ (r ≡ freshReceiver) × EveryHistory ours × CutsAlike ours × EverySound ours × EveryCount ours × Teeth
-            × ServesWhole ours × SupplyTeeth × AllHold starred ⌝ }
+            × ServesWhole ours × SupplyTeeth × Isolated ours × SeesAlike ours × Leaks × AllHold starred ⌝ }
     {
         Receiver {
             framing: Framing::Plain,
