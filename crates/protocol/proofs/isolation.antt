@@ -1,5 +1,5 @@
--- `Isolated ours`, from below: the machine of one session alone; what a table has of a session, found by its id; what every call makes of it;
--- and one run at a time, so that two runs with the same acts are the same run of the machine alone.
+-- `Isolated ours`, from below: the machine of one session alone; what a table has of a session, found by its id; what every call makes of
+-- it; and one run at a time, so that two runs with the same acts are the same run of the machine alone.
 pub mod Alone
 pub mod Views
 pub mod Replies

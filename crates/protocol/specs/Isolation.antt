@@ -1,5 +1,6 @@
--- "A statement for the auditors", of a machine: what one session gets does not hang on the others. (In the field's word: noninterference.)
--- Two runs from fresh receivers with the same commands, console calls and answers for session A, in the same order, agree on all that A gets.
+-- "A statement for the auditors", of a machine: what one session gets does not hang on the others (the field says noninterference).
+-- Two runs from fresh receivers with the same commands, console calls and answers for session A, in the same order, agree on all that A
+-- gets.
 use Prim.Native.Nat.{ℕ}
 use mathlib.Core.Path.{_≡_}
 use mathlib.Core.Bool.{Bool, true, false, not, cond, _&&_, _||_}

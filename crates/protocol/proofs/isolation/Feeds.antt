@@ -112,7 +112,8 @@ module _ (A : List ℕ) {t : Table} (ok : Sound t) (sized : Sized t) (free : t .
               own (Act.command d) refl (rw (reply-sent _ reply z long .bytes) (o .seen)) (o .view)
           by false e met =
               let is : Meanings.idOf d ≡ A → ⊥ = λ q. no-way (rw (q, equals-refl A) at e) in
-              other refl (rw (reply-sent _ reply z long .bytes, obey-silent A ok free means is)) (asked-another d e (readAct t text (outcome (Answer.read c) left) .step .told) left)
+              let told = readAct t text (outcome (Answer.read c) left) .step .told in
+              other refl (rw (reply-sent _ reply z long .bytes, obey-silent A ok free means is)) (asked-another d e told left)
               (obey-other A ok free means is)
 
   report-single : (k : Report) (piece carry : List ℕ) → (k ≡ Report.ShortCarry → ⊥) → let text = textOf piece carry k in

@@ -27,7 +27,8 @@ use Rattle.protocol.specs.Isolation.{Isolated}
 use Rattle.protocol.specs.IsolationExamples.{SeesAlike}
 use Rattle.protocol.specs.LeakyMachines.{cancelOther, cancelLonger, clearing, settlingFirst, shortIds, evicting, busyAtThree}
 use Rattle.protocol.specs.LeakyMachines.{freeingTwo, allowingFirst, quietOfTheFirst, countOfTheFirst, mixingParts, losingCommands}
-use Rattle.protocol.specs.LeakyMachines.{misnaming, noise, humming, whispering, repeating, endingAll, partOfTheFirst, idle, Leaks}
+use Rattle.protocol.specs.LeakyMachines.{misnaming, noise, humming, whispering, repeating, endingAll, partOfTheFirst, idle}
+use Rattle.protocol.specs.LeakyMachines.{Leaks}
 use Rattle.protocol.specs.declared.Due.{Due}
 use Rattle.protocol.proofs.Laws.{no-way}
 use Rattle.protocol.proofs.Starred.{computing}

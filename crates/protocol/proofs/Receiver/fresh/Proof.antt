@@ -11,8 +11,20 @@ use Rattle.protocol.proofs.Receiver.fresh.Statement.{statement}
 use Rattle.protocol.proofs.Receiver.fresh.Tie as tie
 
 returns : tie.Need-returns
-returns c =
-    (refl, every-history, cuts-alike, every-sound, every-count, teeth, serves-whole, supply-teeth, isolated, sees-alike, leaks, starred-hold)
+returns c = (
+  refl,
+  every-history,
+  cuts-alike,
+  every-sound,
+  every-count,
+  teeth,
+  serves-whole,
+  supply-teeth,
+  isolated,
+  sees-alike,
+  leaks,
+  starred-hold,
+)
 
 pub fresh-spec : {M : Type 1} → statement M
 fresh-spec = tie.close (tie.spec returns)
