@@ -1,3 +1,5 @@
+-- that `Isolated` is not empty, and false of wrong machines
+pub mod Refuted
 -- `Isolated ours`, from below: the machine of one session alone; what a table has of a session, found by its id; what every call makes of
 -- it; and one run at a time, so that two runs with the same acts are the same run of the machine alone.
 pub mod Alone
@@ -10,5 +12,3 @@ pub mod Begins
 pub mod Obeys
 pub mod Feeds
 pub mod Runs
--- that it is not empty, and false of wrong machines
-pub mod Refuted
