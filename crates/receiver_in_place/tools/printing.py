@@ -1,6 +1,7 @@
-"""What the walks' proofs share: the header with the `use` lines that are needed, and the end, from the contract's parts."""
+"""What the walks' proofs share: the header with the `use` lines that are needed, the end, from the contract's parts, and where they are written."""
 import os
 import re
+import sys
 
 HERE = os.path.dirname(os.path.abspath(__file__))
 ROOT = os.path.dirname(os.path.dirname(os.path.dirname(HERE)))
@@ -123,9 +124,16 @@ def save(function, about, body, callees=(), script=None, crates={}):
     own = "".join(callee(s, m, crates.get(s)) for s, m in callees)
     own += f"use {OWN}.{function}.Key.{{name as #f}}\nuse {OWN}.{function} as f\nuse {OWN}.{function}.Statement as stated\nuse {OWN}.{function}.Code as code\n"
     text = f"-- {about}\n-- Printed by tools/{script or function}.py. Assumes nothing.\n" + needed(body, uses) + own + "\n" + body
-    path = os.path.join(ROOT, "crates", CRATE, "proofs", function)
+    write(CRATE, (function,), text)
+
+
+def write(crate, function, text):
+    """the proof of a function (its modules and its name): in the project, or, after `--to FOLDER`, below that folder, to be compared"""
+    top = sys.argv[2] if sys.argv[1:2] == ["--to"] else ROOT
+    path = os.path.join(top, "crates", crate, "proofs", *function)
     os.makedirs(path, exist_ok=True)
-    open(os.path.join(path, "Proof.antt"), "w").write(laid(text))
+    with open(os.path.join(path, "Proof.antt"), "w", encoding="utf-8") as file:
+        file.write(laid(text))
 
 
 def ending(function, slots, rows, goes, walk, callees, crates={}, tables="C Λ fm"):

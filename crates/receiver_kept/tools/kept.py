@@ -5,7 +5,7 @@ import sys
 ROOT = os.path.dirname(os.path.dirname(os.path.dirname(os.path.dirname(os.path.abspath(__file__)))))
 sys.path.insert(0, os.path.join(ROOT, "crates", "receiver_in_place", "tools"))
 import printing
-from printing import GIVEN, RUN, X, laid, needed, tup
+from printing import GIVEN, RUN, X, needed, tup
 from steps import SLICE, lawful
 from walk import NAMES, Walk, sub
 
@@ -208,9 +208,7 @@ module _ {GIVEN} (W : Given 𝓤 H A) {RUN} (κp κb : Lft) (qp qb : Share) (h :
     own = f"use {at} as under\nuse {at}.Symbol as under-def\nuse {at}.Symbol.{{name as #under}}\nuse {at}.Met as under-thm\n"
     own += f"use {OWN}.{k.function}.Key.{{name as #f}}\nuse {OWN}.{k.function} as f\nuse {OWN}.{k.function}.Statement as stated\nuse {OWN}.{k.function}.Code as code\n"
     text = f"-- `{k.function}` meets its contract: a walk of its MIR. The receiver lies in a local, which is lent to the call in place for a lifetime of its own, and is back at its end.\n-- Printed by tools/kept.py. Assumes nothing.\n" + needed(body, uses) + own + "\n" + body
-    path = os.path.join(ROOT, "crates", CRATE, "proofs", k.function)
-    os.makedirs(path, exist_ok=True)
-    open(os.path.join(path, "Proof.antt"), "w").write(laid(text))
+    printing.write(CRATE, (k.function,), text)
 
 
 printed(Kept("feed", "Fed", "FedInPlace", ("Feeding", "fed", "feedOf h (yp .now) (yc .now) (ys .now) (yy .now)", "feeding (fedIn g r) zc zs zy"), "", "pcsy", "csy", ("carry", "scratch", "reply"),

@@ -4,7 +4,7 @@ import sys
 
 ROOT = os.path.dirname(os.path.dirname(os.path.dirname(os.path.dirname(os.path.abspath(__file__)))))
 sys.path.insert(0, os.path.join(ROOT, "crates", "receiver_in_place", "tools"))
-from printing import X, laid, needed
+from printing import X, needed, write
 from steps import SLICE
 
 OWN = "Rattle.replay.proofs"
@@ -121,9 +121,7 @@ def save(function, about, body, callees, crates):
     at = f"{OWN}.console.{function}"
     own += f"use {at}.Key.{{name as #f}}\nuse {at} as f\nuse {at}.Statement as stated\nuse {at}.Code as code\n"
     text = f"-- {about}\n-- Printed by tools/{function}.py. Assumes nothing.\n" + needed(body, uses) + own + "\n" + body
-    path = os.path.join(ROOT, "crates", "replay", "proofs", "console", function)
-    os.makedirs(path, exist_ok=True)
-    open(os.path.join(path, "Proof.antt"), "w").write(laid(text))
+    write("replay", ("console", function), text)
 
 
 class Buffers:

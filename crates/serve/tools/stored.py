@@ -1,13 +1,15 @@
 #!/usr/bin/env python3
 """Writes the stored run of serve (args, stdin, stdout, data/), from the page of receive sessions and not from a run of the program.
 
-    crates/serve/tools/stored.py
+    crates/serve/tools/stored.py [--to FOLDER]          # below FOLDER, to be compared, and not in the project
 """
 
 import base64
 import pathlib
+import sys
 
-HERE = pathlib.Path(__file__).resolve().parent.parent
+TOP = pathlib.Path(sys.argv[2]) if sys.argv[1:2] == ["--to"] else pathlib.Path(__file__).resolve().parents[3]
+HERE = TOP / "crates" / "serve"
 PART = 4096
 A, B, C, D, E = (f"~/nz/{letter}" for letter in "ABCDE")
 CONTENT = {A: b"abc", B: bytes((13 * i + i // 256) % 256 for i in range(PART + 1)), D: bytes((i * i) % 251 for i in range(PART)), E: b""}
@@ -111,6 +113,7 @@ status("p", "OK")
 entry("p", "x", A, 1)
 status("p", "OK", n=b"/")
 
+HERE.mkdir(parents=True, exist_ok=True)
 (HERE / "args").write_text("".join(name + "\n" for name in (A, B, C, D, E)))
 (HERE / "stdin").write_bytes(b"".join(line))
 (HERE / "stdout").write_bytes(b"".join(answers))
