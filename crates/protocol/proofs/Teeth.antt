@@ -20,7 +20,8 @@ use Rattle.protocol.specs.Cuts.{allGiven, after, consoleCalls, CutsAlike
 use Rattle.protocol.specs.Counts.{EveryCount}
 use Rattle.protocol.specs.Serving.{homed}
 use Rattle.protocol.specs.WrongMachines.{sendPiece, filePiece, declaredPiece, directoryPiece, dataPiece, longerIdPiece, endPiece}
-use Rattle.protocol.specs.WrongMachines.{oneTooSmall, lastOnly, otherSize, skipping, twice, shorterIds, dataOpens, reopening}
+use Rattle.protocol.specs.WrongMachines.{oneTooSmall, lastOnly, countedTwice, otherSize, skipping, twice, shorterIds, dataOpens}
+use Rattle.protocol.specs.WrongMachines.{reopening}
 use Rattle.protocol.specs.WrongMachines.{cancelPiece, undeclaring, neverClosing, unasked, deaf, withOwed, keepingOwed, stuckOpening}
 use Rattle.protocol.specs.WrongMachines.{keepingNumbers, uncounting, closerLost, hungry, talking, stalling, Teeth}
 use Rattle.protocol.specs.declared.FileState.the-variants as FileState
@@ -107,6 +108,7 @@ owing = record { framing = freshReceiver .framing; table = withOwed emptyTable (
 record Computed : Type 0 where
   oneTooSmall-closes : ClosesBadly oneTooSmall ended
   lastOnly-closes : ClosesBadly lastOnly ended
+  countedTwice-closes : ClosesBadly countedTwice ended
   otherSize-closes : ClosesBadly otherSize ended
   skipping-closes : ClosesBadly skipping (started ++ (feed dataPiece ∷ feed endPiece ∷ []))
   twice-closes : ClosesBadly twice (written ++ (feed [] ∷ done ∷ feed endPiece ∷ []))
@@ -149,6 +151,7 @@ unfolding carry₀ scratch₀ reply₀ computing dropOf failedBy settleFailed fa
 computed = record {
   oneTooSmall-closes = record { count = 3; before = refl; after = refl; wrong = refl };
   lastOnly-closes = record { count = 1; before = refl; after = refl; wrong = refl };
+  countedTwice-closes = record { count = 7; before = refl; after = refl; wrong = refl };
   otherSize-closes = record { count = 4; before = refl; after = refl; wrong = refl };
   skipping-closes = record { count = 1; before = refl; after = refl; wrong = refl };
   twice-closes = record { count = 7; before = refl; after = refl; wrong = refl };
@@ -238,6 +241,7 @@ teeth =
     record {
       countOneTooSmall = closes-badly _ _ (computed .oneTooSmall-closes);
       countOfTheLastPart = closes-badly _ _ (computed .lastOnly-closes);
+      countedWhenAsked = closes-badly _ _ (computed .countedTwice-closes);
       otherSizeReplied = closes-badly _ _ (computed .otherSize-closes);
       dataSkipped = closes-badly _ _ (computed .skipping-closes);
       partTwice = closes-badly _ _ (computed .twice-closes);

@@ -15,7 +15,7 @@ use Rattle.protocol.specs.Calls.{Feeding, feeding, feedRefused, feedOf, 
 use Rattle.protocol.specs.Supplies.{supplyOf}
 use Rattle.protocol.specs.Machine.{Machine}
 use Rattle.protocol.specs.WrongMachines.{filePiece, dataPiece, cancelPiece, feedingBy, allowingBy, droppingBy, supplyingBy}
-use Rattle.protocol.specs.WrongMachines.{answeringOf, withTable, consuming, mistaking, withOwed, withFile, leaving}
+use Rattle.protocol.specs.WrongMachines.{answeringOf, withTable, consuming, leavingTable, mistaking, withOwed, withFile, leaving}
 use Rattle.protocol.specs.WrongSupplies.{writingAs}
 use Rattle.protocol.specs.Isolation.{hasRoom, Isolated}
 use Rattle.protocol.specs.IsolationExamples.{SeesAlike}
@@ -61,23 +61,6 @@ replyingWith bytes f =
       carry = f .carry;
       scratch = f .scratch;
       reply = bytes;
-    }
-
--- a feed that leaves the table as it was
-abbrev pub keepingTable : Receiver → Feeding → Feeding
-keepingTable r f =
-    record {
-      fed = record {
-        receiver = withTable (f .fed .receiver) (r .table);
-        consumed = f .fed .consumed;
-        report = f .fed .report;
-        told = f .fed .told;
-        command = f .fed .command;
-        «reply_len» = f .fed .«reply_len»;
-      };
-      carry = f .carry;
-      scratch = f .scratch;
-      reply = f .reply;
     }
 
 -- two sessions are present, in the first two places
@@ -131,7 +114,7 @@ abbrev pub busyAtThree : Machine
 busyAtThree =
     feedingBy (λ r piece carry scratch reply.
     cond (sessionUsed (sessionAt (r .table) 2))
-    (keepingTable r (feedOf (withTable r (putSession (r .table) 3 (askedSession 0 (ascii "z")))) piece carry scratch reply))
+    (leavingTable (r .table) (feedOf (withTable r (putSession (r .table) 3 (askedSession 0 (ascii "z")))) piece carry scratch reply))
     (feedOf r piece carry scratch reply))
 
 -- a cancel frees the next place too
@@ -220,7 +203,7 @@ whispering =
 abbrev pub repeating : Machine
 repeating =
     feedingBy (λ r piece carry scratch reply.
-    cond (isCrowded r && equals piece noise) (keepingTable r (consuming 1 (feedOf r dataPiece carry scratch reply)))
+    cond (isCrowded r && equals piece noise) (leavingTable (r .table) (consuming 1 (feedOf r dataPiece carry scratch reply)))
     (feedOf r piece carry scratch reply))
 
 -- ---- receive sessions

@@ -1,7 +1,7 @@
 -- Wrong receivers, made by wrapping our calls, each with one error. A claim that held of one of them would be worth nothing; `Teeth` says
 -- that the claims are false of each.
 use mathlib.Core.Bool.{cond}
-use Prim.Native.Nat.{ℕ, zero, suc}
+use Prim.Native.Nat.{ℕ, zero, suc, _+_}
 use mathlib.Core.List.{List, [], _∷_}
 use lib.ListN.{length}
 use Rattle.octets.specs.Ascii.{ascii}
@@ -117,6 +117,23 @@ consuming n f =
       reply = f .reply;
     }
 
+-- a feed that leaves another table
+abbrev pub leavingTable : Table → Feeding → Feeding
+leavingTable t f =
+    record {
+      fed = record {
+        receiver = withTable (f .fed .receiver) t;
+        consumed = f .fed .consumed;
+        report = f .fed .report;
+        told = f .fed .told;
+        command = f .fed .command;
+        «reply_len» = f .fed .«reply_len»;
+      };
+      carry = f .carry;
+      scratch = f .scratch;
+      reply = f .reply;
+    }
+
 -- a feed that says to have replied with n bytes
 abbrev pub replying : ℕ → Feeding → Feeding
 replying n f =
@@ -182,6 +199,23 @@ uncounted t (Owed.For i Due.Request) = t
 
 abbrev pub lastOnly : Machine
 lastOnly = answeringOf uncounted
+
+-- that of each part twice: when its write is asked, and when it is answered
+abbrev pub countedAhead : Table → Owed → Table
+countedAhead t Owed.Nothing = t
+countedAhead t (Owed.For i (Due.OpenFile j)) = t
+countedAhead t (Owed.For i (Due.OpenDirectory j)) = t
+countedAhead t (Owed.For i (Due.Write j n)) = let f = fileAt (sessionAt t i) j in withFile t i j (moved f (f .state) (f .count + n))
+countedAhead t (Owed.For i (Due.WriteLast j n)) = t
+countedAhead t (Owed.For i Due.Commit) = t
+countedAhead t (Owed.For i Due.Request) = t
+
+abbrev pub countedTwice : Machine
+countedTwice =
+    feedingBy (λ r piece carry scratch reply.
+    let f = feedOf r piece carry scratch reply in
+    let t = f .fed .receiver .table in
+    leavingTable (countedAhead t (t .owed)) f)
 
 -- a reply whose `sz` is one more than the record's count
 abbrev pub otherSize : Machine
@@ -314,6 +348,7 @@ stalling = feedingBy (λ r piece carry scratch reply. consuming 0 (feedOf r piec
 pub record Teeth : Type 0 where
   pub countOneTooSmall : EveryHistory oneTooSmall → ⊥
   pub countOfTheLastPart : EveryHistory lastOnly → ⊥
+  pub countedWhenAsked : EveryHistory countedTwice → ⊥
   pub otherSizeReplied : EveryHistory otherSize → ⊥
   pub dataSkipped : EveryHistory skipping → ⊥
   pub partTwice : EveryHistory twice → ⊥

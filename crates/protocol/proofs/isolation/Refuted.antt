@@ -33,7 +33,8 @@ use Rattle.protocol.specs.declared.Due.{Due}
 use Rattle.protocol.proofs.Laws.{no-way}
 use Rattle.protocol.proofs.Starred.{computing}
 use Rattle.protocol.proofs.SupplyTeeth.{writing}
-use Rattle.protocol.proofs.Refuting.{carry₀, scratch₀, reply₀, out₀, Deed, feed, allow, done, dropped, supply, allowShort, calls, all-lent}
+use Rattle.protocol.proofs.Refuting.{carry₀, scratch₀, reply₀, out₀, Deed, feed, allow, done, dropped, supply, allowShort}
+use Rattle.protocol.proofs.Refuting.{calls, all-lent}
 
 -- ---- the premise of a free place, computed
 module _ (m : Machine) (A : List ℕ) where
