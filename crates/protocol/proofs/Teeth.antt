@@ -21,7 +21,7 @@ use Rattle.protocol.specs.Counts.{EveryCount}
 use Rattle.protocol.specs.Serving.{homed}
 use Rattle.protocol.specs.WrongMachines.{sendPiece, filePiece, declaredPiece, directoryPiece, dataPiece, longerIdPiece, endPiece}
 use Rattle.protocol.specs.WrongMachines.{oneTooSmall, lastOnly, countedTwice, otherSize, skipping, twice, shorterIds, dataOpens}
-use Rattle.protocol.specs.WrongMachines.{reopening}
+use Rattle.protocol.specs.WrongMachines.{reopening, goingOn}
 use Rattle.protocol.specs.WrongMachines.{cancelPiece, undeclaring, neverClosing, unasked, deaf, withOwed, keepingOwed, stuckOpening}
 use Rattle.protocol.specs.WrongMachines.{keepingNumbers, uncounting, closerLost, hungry, talking, stalling, Teeth}
 use Rattle.protocol.specs.declared.FileState.the-variants as FileState
@@ -115,6 +115,7 @@ record Computed : Type 0 where
   shorterIds-closes : ClosesBadly shorterIds (started ++ (feed longerIdPiece ∷ done ∷ feed endPiece ∷ []))
   dataOpens-closes : ClosesBadly dataOpens (allowed ++ (feed dataPiece ∷ done ∷ feed endPiece ∷ []))
   reopening-closes : ClosesBadly reopening (started ++ (feed directoryPiece ∷ []))
+  goingOn-closes : ClosesBadly goingOn (ended ++ (done ∷ feed filePiece ∷ done ∷ feed endPiece ∷ []))
   undeclaring-closes : ClosesBadly undeclaring (startedDeclared ++ (feed dataPiece ∷ done ∷ feed endPiece ∷ []))
   neverClosing-stays : StaysOpen neverClosing ended (lastCommand neverClosing ended) (ascii "A")
   unasked-hands : HandsBadly unasked unallowed (feed dataPiece)
@@ -158,6 +159,7 @@ computed = record {
   shorterIds-closes = record { count = 4; before = refl; after = refl; wrong = refl };
   dataOpens-closes = record { count = 1; before = refl; after = refl; wrong = refl };
   reopening-closes = record { count = 0; before = refl; after = refl; wrong = refl };
+  goingOn-closes = record { count = 5; before = refl; after = refl; wrong = refl };
   undeclaring-closes = record { count = 4; before = refl; after = refl; wrong = refl };
   neverClosing-stays = record { asked = refl; taken = refl; after = refl };
   unasked-hands = λ a. no-way (sym (a .0));
@@ -248,6 +250,7 @@ teeth =
       idsUpToTheShorter = closes-badly _ _ (computed .shorterIds-closes);
       openedByData = closes-badly _ _ (computed .dataOpens-closes);
       directoryOverAStartedFile = closes-badly _ _ (computed .reopening-closes);
+      countedOnFromTheOld = closes-badly _ _ (computed .goingOn-closes);
       closedShort = closes-badly _ _ (computed .undeclaring-closes);
       neverClosed = stays-open _ _ (computed .neverClosing-stays);
       neverAllowed = hands-badly unasked unallowed (feed dataPiece) (computed .unasked-hands);

@@ -1,6 +1,6 @@
 -- Wrong receivers, made by wrapping our calls, each with one error. A claim that held of one of them would be worth nothing; `Teeth` says
 -- that the claims are false of each.
-use mathlib.Core.Bool.{cond}
+use mathlib.Core.Bool.{cond, _&&_}
 use Prim.Native.Nat.{ℕ, zero, suc, _+_}
 use mathlib.Core.List.{List, [], _∷_}
 use lib.ListN.{length}
@@ -9,7 +9,7 @@ use Rattle.octets.specs.Outcome.{Outcome, outcome}
 use Rattle.octets.specs.Slices.{equals}
 use Rattle.frames.specs.Stream.{framed}
 use Rattle.frames.specs.declared.Framing.the-variants as Framing
-use Rattle.protocol.specs.Table.{freeFile, sessionAt, fileAt, putSession, putFile, moved, withState}
+use Rattle.protocol.specs.Table.{freeFile, sessionAt, fileAt, isDone, putSession, putFile, moved, withState}
 use Rattle.protocol.specs.Calls.{Feeding, feedOf, allowOf, denyOf, dropOf, doneOf, failedOf, unlistedOf}
 use Rattle.protocol.specs.Supplies.{Supply, supplyOf}
 use Rattle.protocol.specs.Machine.{Machine, isUnfed}
@@ -116,6 +116,10 @@ consuming n f =
       scratch = f .scratch;
       reply = f .reply;
     }
+
+-- what a call answers, with another table
+abbrev pub leaving : Table → Answered → Answered
+leaving t a = record { receiver = withTable (a .receiver) t; told = a .told; «reply_len» = a .«reply_len» }
 
 -- a feed that leaves another table
 abbrev pub leavingTable : Table → Feeding → Feeding
@@ -247,6 +251,32 @@ dataOpens = mistaking dataPiece filePiece (λ r. r)
 abbrev pub reopening : Machine
 reopening = mistaking directoryPiece directoryPiece (λ r. withTable r (withFile (r .table) 0 0 freeFile))
 
+-- no EEXIST: a file command for a done file opens its record again, and its count goes on from the old one
+abbrev pub countKept : Table → Owed → Answered → Answered
+countKept t Owed.Nothing a = a
+countKept t (Owed.For i (Due.OpenFile j)) a =
+    let t′ = a .receiver .table in
+    let f = fileAt (sessionAt t′ i) j in
+    leaving (withFile t′ i j (moved f (f .state) (fileAt (sessionAt t i) j .count))) a
+countKept t (Owed.For i (Due.OpenDirectory j)) a = a
+countKept t (Owed.For i (Due.Write j n)) a = a
+countKept t (Owed.For i (Due.WriteLast j n)) a = a
+countKept t (Owed.For i Due.Commit) a = a
+countKept t (Owed.For i Due.Request) a = a
+
+abbrev pub goingOn : Machine
+goingOn =
+    calling (λ r piece carry scratch reply.
+    let old = fileAt (sessionAt (r .table) 0) 0 in
+    let again = feedOf (withTable r (withFile (r .table) 0 0 freeFile)) piece carry scratch reply in
+    let t = again .fed .receiver .table in
+    let new = fileAt (sessionAt t 0) 0 in
+    cond (equals piece filePiece && isDone (old .state)) (leavingTable (withFile t 0 0 (moved new (new .state) (old .count))) again)
+    (feedOf r piece carry scratch reply))
+    allowOf dropOf
+    (λ r reply. let o = doneOf r reply in outcome (countKept (r .table) (r .table .owed) (o .answer)) (o .buffer))
+    failedOf supplyOf
+
 -- a declared length is not kept, so that the file may close short of it
 abbrev pub undeclaring : Machine
 undeclaring = mistaking declaredPiece filePiece (λ r. r)
@@ -277,10 +307,6 @@ abbrev pub deaf : Machine
 deaf = mistaking cancelPiece statusPiece (λ r. r)
 
 -- ---- tables
--- what a call answers, with another table
-abbrev pub leaving : Table → Answered → Answered
-leaving t a = record { receiver = withTable (a .receiver) t; told = a .told; «reply_len» = a .«reply_len» }
-
 -- a drop leaves what is owed, also where the session dropped owed it
 abbrev pub keepingOwed : Machine
 keepingOwed = droppingBy (λ r id. let a = dropOf r id in leaving (withOwed (a .receiver .table) (r .table .owed)) a)
@@ -355,6 +381,7 @@ pub record Teeth : Type 0 where
   pub idsUpToTheShorter : EveryHistory shorterIds → ⊥
   pub openedByData : EveryHistory dataOpens → ⊥
   pub directoryOverAStartedFile : EveryHistory reopening → ⊥
+  pub countedOnFromTheOld : EveryHistory goingOn → ⊥
   pub closedShort : EveryHistory undeclaring → ⊥
   pub neverClosed : EveryHistory neverClosing → ⊥
   pub neverAllowed : EveryHistory unasked → ⊥
