@@ -5,14 +5,11 @@ use mathlib.Core.Bool.{Bool, true, false}
 use mathlib.Core.List.{List}
 use native.Mathlib.Omega.{arith}
 use lib.ListN.{length, take, drop, replicate, length-replicate}
-use lib.Seq.{sets, sets-eq, length-sets, take-all, take-take, take-append-le, set-out}
+use lib.Seq.{sets, sets-eq, length-sets, take-all, take-take, take-append-le}
 use lib.Dec.{leb}
 use borrow.Author.Tests.{le-leb, leb-true, leb-false}
 use Rattle.octets.specs.Slices.{copyAt}
 use Rattle.octets.proofs.Stores.{part-stored, part-kept}
-use Rattle.sending.specs.Transfers.{putFile}
-use Rattle.sending.specs.declared.SentFile.{SentFile}
-use Rattle.sending.specs.declared.Transfer.{Transfer}
 use Rattle.sender.specs.Places.{idsOf}
 
 -- an array has no more than 32 bytes
@@ -60,7 +57,3 @@ module _ (own file : List ℕ) (h : length own ≡ 32) (l : length file ≤ 32) 
       let s : take (length file) (drop 32 (idsOf own file)) ≡ file =
       rw ids-stored (part-stored file (sets zeros 0 own) 32 (omega arith)) in
       sym (take-take k (length file) (drop 32 (idsOf own file)) i) ∙ rw s
-
--- nothing is put outside the array
-pub put-outside : (t : Transfer) (j : ℕ) (f : SentFile) → length (t .files) ≤ j → t ≡ putFile t j f
-put-outside t j f h = rw (set-out (t .files) j f h)

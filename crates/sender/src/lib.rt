@@ -6,9 +6,6 @@
 mod answers;
 mod commands;
 mod files;
-mod heeds;
-mod stages;
-mod statuses;
 mod steps;
 
 ghost use mathlib.Core.Path.{_≡_};
@@ -18,12 +15,13 @@ use answers::gate;
 use answers::refused;
 use answers::wrote;
 use protocol::FileRecord;
+use sender_status::on_report;
+use sender_status::stages::is_fresh;
 use sending::Listened;
 use sending::Sender;
 use sending::Stage;
 use sending::Transfer;
 use sending::Wrote;
-use stages::is_fresh;
 
 // Begins the session with this id.
 pub fn send(sender: Sender, id: &[u8], out: &mut [u8]) -> Wrote
@@ -123,7 +121,7 @@ pub fn hear(sender: Sender, piece: &[u8], carry: &mut [u8], scratch: &mut [u8]) 
     }
     let scanned = frames::scan(framing, piece, carry);
     let report = scanned.report;
-    let heeded = heeds::report(
+    let heeded = on_report(
         transfer,
         report,
         frames::text(piece, carry, report),

@@ -19,8 +19,8 @@ scan-requires c κs = search needs
 text-requires : tie.Need-text-requires
 text-requires c κs = search needs
 
-report-requires : tie.Need-report-requires
-report-requires c κs = search needs
+on-report-requires : tie.Need-on-report-requires
+on-report-requires c κs = search needs
 
 listened-requires : tie.Need-listened-requires
 listened-requires c κs = search needs
@@ -44,7 +44,7 @@ returns-2 c =
       tested .if1 .left,
       ← scan .scan .ensures .0,
       ← text .text .ensures,
-      ← heeding .report .ensures,
+      ← heeding .on-report .ensures,
     )
 
 pub hear-spec : {M : Type 1} → statement M
@@ -56,7 +56,7 @@ hear-spec =
     returns
     scan-requires
     text-requires
-    report-requires
+    on-report-requires
     listened-requires
     same-length
     same-length-2
