@@ -1,10 +1,10 @@
 // The lines that are printed.
-use crate::script::wide;
 use command::Place;
 use decimal::Number;
+use script_parts::sum;
 use sending::FileStage;
 use sending::News;
-use sending::Sender;
+use sending::SentFile;
 use sending::Stage;
 use sending::Transfer;
 use sending::Writing;
@@ -63,28 +63,35 @@ fn place(run: Run, status: Place) -> Run {
     run.number(start).text(b":").number(status.len)
 }
 
-// The sums of the whole buffers.
-pub(crate) fn sums<'a>(run: Run, out: &'a [u8], carry: &'a [u8], scratch: &'a [u8]) -> Run {
+// What ends the line of a call: the sums of the whole buffers, and the session.
+pub(crate) fn end<'a>(
+    run: Run,
+    transfer: Transfer,
+    out: &'a [u8],
+    carry: &'a [u8],
+    scratch: &'a [u8],
+) -> Run {
+    let stage = transfer.stage;
+    let list = transfer.files;
     let two = run.text(b" ")
         .number(sum(out))
         .text(b" ")
         .number(sum(carry));
-    two.text(b" ").number(sum(scratch)).text(b" ")
+    let summed = two.text(b" ").number(sum(scratch)).text(b" ");
+    files(stage_state(summed, stage), list).text(b"\n")
 }
 
-// The session's stage, each file's with the bytes sent, and the line's end.
-pub(crate) fn state(run: Run, sender: Sender) -> Run {
-    let transfer = sender.transfer;
-    let stage = transfer.stage;
-    let mut all = stage_state(run, stage);
+// Each file's stage, with the bytes sent.
+fn files(run: Run, list: [SentFile; Transfer::FILES]) -> Run {
+    let mut all = run;
     let mut j = 0;
     while j < Transfer::FILES {
-        let file = transfer.files[j];
-        let own = file.stage;
-        all = file_state(all, own, file.sent);
+        let file = list[j];
+        let stage = file.stage;
+        all = file_state(all, stage, file.sent);
         j += 1;
     }
-    all.text(b"\n")
+    all
 }
 
 fn stage_state(run: Run, stage: Stage) -> Run {
@@ -111,24 +118,6 @@ fn file_state(run: Run, stage: FileStage, sent: u64) -> Run {
 // The text of a report.
 pub(crate) fn text(run: Run, text: &[u8]) -> Run {
     hex(run.text(b"t "), text).text(b"\n")
-}
-
-pub(crate) fn bad_script(run: Run) -> Run {
-    run.text(b"bad script\n")
-}
-
-// The sum of (i + 1) times byte i, modulo 65521: byte i counts in each of the i + 1 sums of the bytes
-// from a place on.
-fn sum(buffer: &[u8]) -> usize {
-    let mut total: usize = 0;
-    let mut rest: usize = 0;
-    let mut i = buffer.len();
-    while i > 0 {
-        i -= 1;
-        rest = (rest + wide(buffer[i])) % 65521;
-        total = (total + rest) % 65521;
-    }
-    total
 }
 
 // Bytes in lower-case hex, `-` for none.

@@ -5,11 +5,10 @@ mod office;
 mod script;
 
 use office::Office;
+use script_parts::SCRIPT_LIMIT;
+use script_parts::bad_script;
 use streams::Got;
 use streams::Run;
-
-// How many bytes a script has at most.
-const SCRIPT_LIMIT: usize = 65536;
 
 // One byte more is read, so that a longer script is seen.
 fn main() {
@@ -24,7 +23,7 @@ fn main() {
 // Makes the script's calls one after another, until something fails.
 fn play(bytes: &[u8]) -> Run {
     if bytes.len() > SCRIPT_LIMIT {
-        return line::bad_script(Run::Well);
+        return bad_script(Run::Well);
     }
     let mut out = [0xA5u8; Office::OUT];
     let mut carry = [0xA5u8; Office::CARRY];
@@ -38,7 +37,7 @@ fn play(bytes: &[u8]) -> Run {
         }
         let n = script::operation_length(bytes, at);
         if n == 0 {
-            return line::bad_script(run);
+            return bad_script(run);
         }
         state = office::perform(state, bytes, at, n, &mut out, &mut carry, &mut scratch);
         at += n;

@@ -1,31 +1,39 @@
-// The office's state between the calls of a script, and each operation.
+// The office's state between the operations of a script, and each operation.
 use crate::line;
-use crate::script::byte;
-use crate::script::long;
-use crate::script::number;
-use crate::script::wide;
-use crate::script::within;
+use crate::script::eight_bytes;
+use crate::script::id_length;
 use command::Command;
 use command_writer::framed::FRAME_ROOM;
 use frames::Framing;
 use frames::Report;
 use octets::size::least;
-use octets::size::less;
+use script_parts::byte;
+use script_parts::rest;
+use script_parts::two_bytes;
 use sending::Listened;
 use sending::Sender;
 use sending::Wrote;
 use streams::Run;
 
-// How the run stands, the sender, how much of each buffer is lent, and the latest hear: its piece's
-// place in the script and its report.
+// How the run stands, the sender, how much of each buffer is lent, and the latest hear.
 pub struct Office {
     pub run: Run,
     pub sender: Sender,
+    pub rooms: Rooms,
+    pub heard: Heard,
+}
+
+// How many bytes of each buffer are lent at most.
+pub struct Rooms {
     pub out: usize,
     pub carry: usize,
     pub scratch: usize,
-    pub piece: usize,
-    pub piece_len: usize,
+}
+
+// A hear: its operation's place in the script, and its report.
+pub struct Heard {
+    pub at: usize,
+    pub len: usize,
     pub report: Report,
 }
 
@@ -43,12 +51,16 @@ pub(crate) fn fresh(run: Run) -> Office {
     Office {
         run: run,
         sender: Sender::fresh(),
-        out: Office::OUT,
-        carry: Office::CARRY,
-        scratch: Office::SCRATCH,
-        piece: 0,
-        piece_len: 0,
-        report: Report::Nothing,
+        rooms: Rooms {
+            out: Office::OUT,
+            carry: Office::CARRY,
+            scratch: Office::SCRATCH,
+        },
+        heard: Heard {
+            at: 0,
+            len: 0,
+            report: Report::Nothing,
+        },
     }
 }
 
@@ -62,83 +74,27 @@ pub(crate) fn perform(
     carry: &mut [u8],
     scratch: &mut [u8],
 ) -> Office {
-    let letter = byte(bytes, at);
+    let operation = octets::part(bytes, at, n);
+    let letter = byte(operation, 0);
     let run = office.run;
+    let rooms = office.rooms;
+    let heard = office.heard;
     match letter {
-        b'h' => hear(office, bytes, at, n, out, carry, scratch),
-        b't' => text(office, bytes, carry),
+        b'h' => hear(office, operation, at, out, carry, scratch),
+        b't' => Office {
+            run: text(run, heard, bytes, carry, rooms.carry),
+            ..office
+        },
         b'n' => anew(run, out, carry, scratch),
-        b'b' => lend(office, letter, number(bytes, at, 1)),
-        b'c' => lend(office, letter, number(bytes, at, 1)),
-        b'w' => lend(office, letter, number(bytes, at, 1)),
-        _ => call(office, octets::part(bytes, at, n), out, carry, scratch),
+        b'b' | b'c' | b'w' => Office {
+            rooms: lend(rooms, letter, two_bytes(operation, 1)),
+            ..office
+        },
+        _ => call(office, operation, out, carry, scratch),
     }
 }
 
-// One hear of the operation's piece, once.
-fn hear(
-    office: Office,
-    bytes: &[u8],
-    at: usize,
-    n: usize,
-    out: &mut [u8],
-    carry: &mut [u8],
-    scratch: &mut [u8],
-) -> Office {
-    let sender = office.sender;
-    let run = office.run;
-    let start = within(at, 3, bytes.len());
-    let len = less(n, 3);
-    let heard = hear_lent(
-        sender,
-        octets::part(bytes, start, len),
-        carry,
-        office.carry,
-        scratch,
-        office.scratch,
-    );
-    let news = heard.news;
-    let next = heard.sender;
-    let report = heard.report;
-    let told = line::heard(run, heard.consumed, news);
-    let summed = line::sums(told, out, carry, scratch);
-    Office {
-        run: line::state(summed, next),
-        sender: next,
-        piece: start,
-        piece_len: len,
-        report: report,
-        ..office
-    }
-}
-
-// A hear that is lent the first bytes of each buffer.
-fn hear_lent(
-    sender: Sender,
-    piece: &[u8],
-    carry: &mut [u8],
-    carry_len: usize,
-    scratch: &mut [u8],
-    scratch_len: usize,
-) -> Listened {
-    let c = least(carry_len, carry.len());
-    let s = least(scratch_len, scratch.len());
-    sender::hear(sender, piece, &mut carry[..c], &mut scratch[..s])
-}
-
-// The text of the latest hear's report, given that hear's piece and the carry as lent now.
-fn text(office: Office, bytes: &[u8], carry: &mut [u8]) -> Office {
-    let run = office.run;
-    let report = office.report;
-    let c = least(office.carry, carry.len());
-    let piece = octets::part(bytes, office.piece, office.piece_len);
-    let text = frames::text(piece, octets::part(carry, 0, c), report);
-    Office {
-        run: line::text(run, text),
-        ..office
-    }
-}
-
+// ---- What prints nothing.
 // Starts anew: a fresh sender, and the buffers as at first.
 fn anew(run: Run, out: &mut [u8], carry: &mut [u8], scratch: &mut [u8]) -> Office {
     fill(out);
@@ -156,28 +112,70 @@ fn fill(buffer: &mut [u8]) {
 }
 
 // From now on only the first n bytes of a buffer are lent.
-fn lend(office: Office, letter: u8, n: usize) -> Office {
+fn lend(rooms: Rooms, letter: u8, n: usize) -> Rooms {
+    match letter {
+        b'b' => Rooms { out: n, ..rooms },
+        b'c' => Rooms { carry: n, ..rooms },
+        _ => Rooms {
+            scratch: n,
+            ..rooms
+        },
+    }
+}
+
+// ---- Hears.
+// One hear of the operation's piece, once.
+fn hear(
+    office: Office,
+    operation: &[u8],
+    at: usize,
+    out: &mut [u8],
+    carry: &mut [u8],
+    scratch: &mut [u8],
+) -> Office {
+    let sender = office.sender;
+    let rooms = office.rooms;
+    let run = office.run;
+    let listened = hear_lent(sender, rest(operation, 3), rooms, carry, scratch);
+    let news = listened.news;
+    let next = listened.sender;
+    let report = listened.report;
+    let told = line::heard(run, listened.consumed, news);
+    let transfer = next.transfer;
     Office {
-        out: if letter == b'b' {
-            least(n, Office::OUT)
-        } else {
-            office.out
-        },
-        carry: if letter == b'c' {
-            least(n, Office::CARRY)
-        } else {
-            office.carry
-        },
-        scratch: if letter == b'w' {
-            least(n, Office::SCRATCH)
-        } else {
-            office.scratch
+        run: line::end(told, transfer, out, carry, scratch),
+        sender: next,
+        heard: Heard {
+            at: at,
+            len: operation.len(),
+            report: report,
         },
         ..office
     }
 }
 
-// A call that writes.
+// A hear that is lent the first bytes of each buffer.
+fn hear_lent(
+    sender: Sender,
+    piece: &[u8],
+    rooms: Rooms,
+    carry: &mut [u8],
+    scratch: &mut [u8],
+) -> Listened {
+    let c = least(rooms.carry, carry.len());
+    let s = least(rooms.scratch, scratch.len());
+    sender::hear(sender, piece, &mut carry[..c], &mut scratch[..s])
+}
+
+// The text of a hear's report, given that hear's piece and so many bytes of the carry as it is now.
+fn text<'a>(run: Run, heard: Heard, bytes: &'a [u8], carry: &'a [u8], room: usize) -> Run {
+    let report = heard.report;
+    let piece = rest(octets::part(bytes, heard.at, heard.len), 3);
+    let lent = octets::part(carry, 0, least(room, carry.len()));
+    line::text(run, frames::text(piece, lent, report))
+}
+
+// ---- Calls that write.
 fn call<'a>(
     office: Office,
     operation: &[u8],
@@ -186,45 +184,39 @@ fn call<'a>(
     scratch: &'a [u8],
 ) -> Office {
     let sender = office.sender;
+    let rooms = office.rooms;
     let run = office.run;
-    let letter = byte(operation, 0);
-    let b = least(office.out, out.len());
-    let wrote = call_lent(sender, letter, operation, &mut out[..b]);
+    let b = least(rooms.out, out.len());
+    let wrote = call_lent(sender, operation, &mut out[..b]);
     let writing = wrote.writing;
     let next = wrote.sender;
-    let told = line::wrote(run, letter, writing, out);
-    let summed = line::sums(told, out, carry, scratch);
+    let told = line::wrote(run, byte(operation, 0), writing, out);
+    let transfer = next.transfer;
     Office {
-        run: line::state(summed, next),
+        run: line::end(told, transfer, out, carry, scratch),
         sender: next,
         ..office
     }
 }
 
-fn call_lent(sender: Sender, letter: u8, operation: &[u8], out: &mut [u8]) -> Wrote {
-    let contents = octets::part(operation, 3, less(operation.len(), 3));
-    match letter {
-        b's' => sender::send(
-            sender,
-            octets::part(operation, 2, less(operation.len(), 2)),
-            out,
-        ),
-        b'f' => file(sender, operation, wide(byte(operation, 1)), out),
-        b'p' => sender::piece(sender, contents, false, out),
-        b'l' => sender::piece(sender, contents, true, out),
+fn call_lent(sender: Sender, operation: &[u8], out: &mut [u8]) -> Wrote {
+    match byte(operation, 0) {
+        b's' => sender::send(sender, rest(operation, 2), out),
+        b'f' => file(sender, operation, out),
+        b'p' => sender::piece(sender, rest(operation, 3), false, out),
+        b'l' => sender::piece(sender, rest(operation, 3), true, out),
         _ => sender::finish(sender, out),
     }
 }
 
-// A file operation whose id has so many bytes.
-fn file(sender: Sender, operation: &[u8], id: usize, out: &mut [u8]) -> Wrote {
-    let name = within(2, id, operation.len());
-    let n = number(operation, name, 0);
-    let size = long(operation, within(name, n, operation.len()), 2);
+fn file(sender: Sender, operation: &[u8], out: &mut [u8]) -> Wrote {
+    let id = id_length(operation);
+    let n = two_bytes(operation, 2 + id);
+    let size = eight_bytes(operation, 4 + id + n);
     sender::file(
         sender,
         octets::part(operation, 2, id),
-        octets::part(operation, within(name, 2, operation.len()), n),
+        octets::part(operation, 4 + id, n),
         size,
         out,
     )

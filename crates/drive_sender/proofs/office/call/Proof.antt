@@ -5,9 +5,6 @@ use borrow.Author.Needs.{needs}
 use Rattle.drive_sender.proofs.office.call.Statement.{statement}
 use Rattle.drive_sender.proofs.office.call.Tie as tie
 
-byte-requires : tie.Need-byte-requires
-byte-requires c κs = search needs
-
 least-requires : tie.Need-least-requires
 least-requires c κs = search needs
 
@@ -23,14 +20,14 @@ slice-aggregate-call-lent c =
 call-lent-requires : tie.Need-call-lent-requires
 call-lent-requires c κs = search needs
 
+byte-requires : tie.Need-byte-requires
+byte-requires c κs = search needs
+
 wrote-requires : tie.Need-wrote-requires
 wrote-requires c κs = search needs
 
-sums-requires : tie.Need-sums-requires
-sums-requires c κs = search needs
-
-state-requires : tie.Need-state-requires
-state-requires c κs = search needs
+end-requires : tie.Need-end-requires
+end-requires c κs = search needs
 
 same-length : tie.Need-same-length
 same-length c = search needs
@@ -42,13 +39,12 @@ pub call-spec : {M : Type 1} → statement M
 call-spec =
     tie.close
     (tie.spec
-    byte-requires
     least-requires
     slice-relend-prefix-call-lent
     slice-aggregate-call-lent
     call-lent-requires
+    byte-requires
     wrote-requires
-    sums-requires
-    state-requires
+    end-requires
     same-length
     returns)
