@@ -5,9 +5,10 @@ use mathlib.Core.List.{List, [], _∷_, map}
 use lib.ListN.{length, replicate, length-map}
 use Rattle.protocol.specs.Stretches.{Key}
 use Rattle.recordings.specs.Pieces.{mendedOf}
-use Rattle.windows.specs.Hearing.{Happening}
+use Rattle.hearing.specs.Hearing.{Happening}
 use Rattle.windows.specs.Compare.{sameKey, Start, contentsOf, startsOf, Verdict, partner, without, against, onlySeconds, compared}
-use Rattle.windows.specs.Laws.{verdicts, SameAlone, Hearer, nowhere, bare, MendedAlike, MendedSame}
+use Rattle.hearing.specs.Laws.{Hearer, nowhere, bare, MendedAlike}
+use Rattle.windows.specs.Laws.{verdicts, SameAlone, MendedSame}
 use Rattle.windows.proofs.KeyLaws.{by-test, key-refl}
 use Rattle.windows.proofs.OffsetLaws.{diff-refl}
 

@@ -24,7 +24,7 @@ use Rattle.protocol.specs.Receives.{pathChecked, pathOf}
 use Rattle.protocol.specs.Rule.{obeyedBy, doneBy, decidedBy}
 use Rattle.protocol.specs.Sessions.{obeyOf, settleDone, decidedOf}
 use Rattle.recordings.specs.Pieces.{completed, cut, joined, piecesOf}
-use Rattle.windows.specs.Hearing.{sightingsFrom, heardFrom}
+use Rattle.hearing.specs.Hearing.{sightingsFrom, heardFrom}
 use Rattle.windows.specs.Compare.{contentsOf, startsOf, firstDiff, partner, without, onlySeconds, compared, listed}
 
 unfoldable pub meaning : Unit {0}

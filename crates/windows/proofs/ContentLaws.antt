@@ -14,7 +14,7 @@ use Rattle.octets.specs.declared.Stored.{Stored}
 use Rattle.octets.proofs.Stores.{sets-append, part-stored}
 use Rattle.protocol.specs.Stretches.{Key}
 use Rattle.windows.specs.Compare.{sameKey, contentsOf}
-use Rattle.windows.specs.Rows.{happeningsIn, Apart}
+use Rattle.hearing.specs.Rows.{happeningsIn, Apart}
 use Rattle.windows.specs.Steps.{Side, keyAt}
 use Rattle.windows.proofs.RowsLeft.{no-row, contents-at, apart-less, apart-within, apart-at}
 

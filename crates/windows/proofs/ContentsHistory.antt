@@ -6,9 +6,10 @@ use mathlib.Core.Option.{Option}
 use mathlib.Core.List.{List, [], _∷_, _++_, append-assoc, append-nil}
 use Rattle.protocol.specs.History.{Command, Heard, Question, Mark}
 use Rattle.protocol.specs.Stretches.{Key, isFor, isFile, isRegular, partFor, Stretch, startAt, onward, startOr, since, parts}
-use Rattle.windows.specs.Hearing.{Place, Happening}
+use Rattle.hearing.specs.Hearing.{Place, Happening}
 use Rattle.windows.specs.Compare.{sameKey, contentsOf, startsOf}
-use Rattle.windows.specs.Laws.{startsAmong, EachStart, ofKey, contentsFor, SettledContents, nowhere, keyIn, happenedBy, happenedIn}
+use Rattle.hearing.specs.Laws.{nowhere, keyIn, happenedBy, happenedIn}
+use Rattle.windows.specs.Laws.{startsAmong, EachStart, ofKey, contentsFor, SettledContents}
 use Rattle.windows.specs.Laws.{lastOf, claimedParts, ClaimedContents}
 use Rattle.windows.proofs.KeyLaws.{by-test, key-refl, key-sound}
 

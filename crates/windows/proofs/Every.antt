@@ -1,5 +1,5 @@
 -- All laws hold of ours.
-use Rattle.windows.specs.Hearing.{heardIn}
+use Rattle.hearing.specs.Hearing.{heardIn}
 use Rattle.windows.specs.Compare.{startsOf, firstDiff, compared}
 use Rattle.windows.specs.Laws.{CompareLaws}
 use Rattle.windows.proofs.OffsetLaws.{first-offset}
@@ -7,10 +7,10 @@ use Rattle.windows.proofs.MatchLaws.{matched-in-order, mirrored}
 use Rattle.windows.proofs.ListLaws.{lists-once}
 use Rattle.windows.proofs.AlikeLaws.{same-alone, mended-same}
 use Rattle.windows.proofs.ContentsHistory.{each-start, settled-contents, claimed-contents}
-use Rattle.windows.proofs.Named.{names-pairs}
-use Rattle.windows.proofs.Mended.{mended-alike}
-use Rattle.windows.proofs.Replaying.{replay-hears}
-use Rattle.windows.proofs.Wholly.{hears-alike}
+use Rattle.hearing.proofs.Named.{names-pairs}
+use Rattle.hearing.proofs.Mended.{mended-alike}
+use Rattle.hearing.proofs.Replaying.{replay-hears}
+use Rattle.hearing.proofs.Wholly.{hears-alike}
 
 pub compare-laws : CompareLaws compared firstDiff heardIn startsOf
 compare-laws =

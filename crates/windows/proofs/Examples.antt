@@ -1,6 +1,6 @@
 -- The examples hold: each by computing the definitions.
 use mathlib.Core.Path.{refl}
-use Rattle.windows.specs.Hearing.{heardIn}
+use Rattle.hearing.specs.Hearing.{heardIn}
 use Rattle.windows.specs.Compare.{startsOf}
 use Rattle.windows.specs.Examples.{ExamplesOf, CompareExamples}
 use Rattle.windows.proofs.Computing.{examining}

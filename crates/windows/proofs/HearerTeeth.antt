@@ -5,8 +5,9 @@ use mathlib.Core.List.{List, [], _∷_, _++_, map}
 use native.Mathlib.Omega.{arith}
 use lib.ListN.{length, getD}
 use Rattle.recordings.specs.Pieces.{keptBytes}
-use Rattle.windows.specs.Hearing.{Happening, heardIn}
-use Rattle.windows.specs.Laws.{Hearer, bare, NamesPairs, MendedAlike, MendedSame, ReplayHears}
+use Rattle.hearing.specs.Hearing.{Happening, heardIn}
+use Rattle.hearing.specs.Laws.{Hearer, bare, NamesPairs, MendedAlike, ReplayHears}
+use Rattle.windows.specs.Laws.{MendedSame}
 use Rattle.windows.specs.Compare.{compared}
 use Rattle.octets.specs.Ascii.{ascii}
 use Rattle.frames.specs.Stream.{framed}
@@ -14,7 +15,7 @@ use Rattle.windows.specs.Examples.{send, sent, file, directory, part}
 use Rattle.windows.specs.WrongHearers.{hearingBy, everyOpen, filesRead, dataRead, deaf, noiseToo, placesInText, upToRefused}
 use Rattle.windows.specs.WrongHearers.{HearerTeeth}
 use Rattle.windows.proofs.Computing.{examining}
-use Rattle.windows.proofs.Wholly.{hears-alike}
+use Rattle.hearing.proofs.Wholly.{hears-alike}
 
 -- a recording in which it hears more or less than ours
 refuted : (h : Hearer) (xs : List ℕ) → (length (map bare (h xs)) ≡ length (map bare (heardIn xs)) → ⊥) → ReplayHears h → ⊥

@@ -6,17 +6,6 @@ mod MatchLaws
 mod ListLaws
 mod AlikeLaws
 mod ContentsHistory
-mod Places
-mod Texts
-mod Mended
-mod Named
-mod Asking
-mod Reporting
-mod Replaying
-mod Wholly
-mod RowLaws
-mod NotedLaws
-mod HearLaws
 mod RowsLeft
 mod SearchLaws
 mod ContentLaws
@@ -28,3 +17,4 @@ mod Examples
 mod Every
 mod Teeth
 mod HearerTeeth
+mod Answers

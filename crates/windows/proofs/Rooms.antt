@@ -8,7 +8,7 @@ use borrow.Author.Tests.{lt-ltb, le-ltb, le-leb}
 use Rattle.octets.specs.Outcome.{Outcome, outcome}
 use Rattle.frames.specs.Stream.{Mode, readByte}
 use Rattle.recordings.specs.Pieces.{outsideFirst, completed, cut, joined, piecesOf}
-use Rattle.windows.specs.Hearing.{sightingsFrom, heardFrom}
+use Rattle.hearing.specs.Hearing.{sightingsFrom, heardFrom}
 use Rattle.windows.specs.Compare.{startsOf, onlySeconds, compared, listed, compareOf}
 use Rattle.windows.specs.declared.Compared.{Compared}
 use Rattle.windows.specs.declared.Compared.the-variants as Compared

@@ -11,10 +11,10 @@ use lib.Seq.{drop-cons, length-take-le}
 use lib.Dec.{eqb}
 use Rattle.octets.specs.Slices.{partOf}
 use Rattle.protocol.specs.Stretches.{Key}
-use Rattle.windows.specs.Hearing.{Place, Happening}
+use Rattle.hearing.specs.Hearing.{Place, Happening}
 use Rattle.windows.specs.Compare.{sameKey, Start, contentsOf, startsOf}
 use Rattle.windows.specs.Ranks.{countOf, nth}
-use Rattle.windows.specs.Rows.{happeningOf, happeningsIn, Apart}
+use Rattle.hearing.specs.Rows.{happeningOf, happeningsIn, Apart}
 use Rattle.windows.specs.Steps.{Side, keyAt, placeAt, startsAt, startsFrom, startsIn, startAt, RowPlace}
 
 -- ---- the seven numbers of a row

@@ -11,9 +11,10 @@ use Rattle.octets.specs.Ascii.{ascii}
 use Rattle.command.specs.Values.{Value, count}
 use Rattle.protocol.specs.History.{Command, Heard, Question, Mark}
 use Rattle.recordings.specs.Pieces.{keptBytes}
-use Rattle.windows.specs.Hearing.{Happening}
+use Rattle.hearing.specs.Hearing.{Happening}
 use Rattle.windows.specs.Compare.{Start, Verdict, verdictNumber, offsetOf}
-use Rattle.windows.specs.Laws.{startsAmong, ofKey, linesFor, zipped, nowhere}
+use Rattle.hearing.specs.Laws.{nowhere}
+use Rattle.windows.specs.Laws.{startsAmong, ofKey, linesFor, zipped}
 use Rattle.windows.specs.Examples.{Shown, file}
 use Rattle.windows.specs.WrongComparers.{CompareTeeth}
 use Rattle.windows.proofs.Computing.{examining}

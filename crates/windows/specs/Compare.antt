@@ -10,7 +10,7 @@ use Rattle.octets.specs.Outcome.{Outcome, outcome}
 use Rattle.octets.specs.Slices.{equals}
 use Rattle.protocol.specs.Stretches.{Key}
 use Rattle.recordings.specs.Mend.{recordingLimit}
-use Rattle.windows.specs.Hearing.{Place, Happening, heardIn}
+use Rattle.hearing.specs.Hearing.{Place, Happening, heardIn}
 use Rattle.windows.specs.declared.Compared.{Compared}
 use Rattle.windows.specs.declared.Compared.the-variants as Compared
 

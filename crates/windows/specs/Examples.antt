@@ -8,7 +8,7 @@ use Rattle.octets.specs.Ascii.{ascii}
 use Rattle.octets.specs.Outcome.{Outcome, outcome}
 use Rattle.base64.specs.Encode.{textOf}
 use Rattle.frames.specs.Stream.{framed}
-use Rattle.windows.specs.Hearing.{heardIn}
+use Rattle.hearing.specs.Hearing.{heardIn}
 use Rattle.windows.specs.Compare.{Start, startsOf, Verdict, Line, compared, listed, compareOf}
 use Rattle.windows.specs.declared.Compared.{Compared}
 use Rattle.windows.specs.declared.Compared.the-variants as Compared

@@ -1,18 +1,15 @@
 -- The laws of comparing, each of any comparer, starter or hearer, so that it can be refuted of a wrong one.
 use Prim.Native.Nat.{ℕ, _≤_}
 use mathlib.Core.Path.{_≡_}
-use mathlib.Core.Bool.{true, false, cond, _&&_}
+use mathlib.Core.Bool.{cond}
 use mathlib.Core.Option.{Option}
 use mathlib.Core.List.{List, [], _∷_, _++_, map}
 use lib.ListN.{length, take, drop, replicate}
-use Rattle.octets.specs.Slices.{partOf}
-use Rattle.command.specs.Meaning.{idOf, fileIdOf}
-use Rattle.protocol.specs.History.{Command, Heard, Question, Mark, bytesOf, marksOf}
-use Rattle.protocol.specs.Stretches.{Key, isFile, isRegular, Stretch, since, parts}
-use Rattle.protocol.specs.Machine.{start}
+use Rattle.protocol.specs.History.{Mark}
+use Rattle.protocol.specs.Stretches.{Key, Stretch, since, parts}
 use Rattle.recordings.specs.Pieces.{mendedOf}
-use Rattle.protocol.specs.Replay.{Turn, replayed, Answerable}
-use Rattle.windows.specs.Hearing.{Place, Happening}
+use Rattle.hearing.specs.Hearing.{Place, Happening}
+use Rattle.hearing.specs.Laws.{Hearer, NamesPairs, MendedAlike, happenedIn, ReplayHears, OneHearer}
 use Rattle.windows.specs.Compare.{sameKey, Start, startsOf, Verdict, firstDiff, Line}
 
 -- ---- comparing lists of starts
@@ -119,68 +116,12 @@ SettledContents s = (hs ms : List Happening) (k : Key) (p : Place)
     → contentsFor k (s (hs ++ Happening.starts k p ∷ ms))
     ≡ contentsFor k (s hs) ++ contentsFor k (s (Happening.starts k p ∷ ms))
 
--- ---- hearing a recording
-abbrev pub Hearer : Type 0
-Hearer = List ℕ → List Happening
-
--- places apart
-abbrev pub nowhere : Place
-nowhere = record { id = 0; idLen = 0; file = 0; fileLen = 0 }
-
-abbrev pub bare : Happening → Happening
-bare (Happening.starts k p) = Happening.starts k nowhere
-bare (Happening.hands k b) = Happening.hands k b
-
--- "So a row names its pair by bytes that the caller already has"
-abbrev pub Named : List ℕ → Happening → Type 0
-Named xs (Happening.starts k p) = (partOf xs (p .id) (p .idLen) ≡ k .id) × (partOf xs (p .file) (p .fileLen) ≡ k .file)
-Named xs (Happening.hands k b) = Unit {0}
-
-abbrev pub AllNamed : List ℕ → List Happening → Type 0
-AllNamed xs [] = Unit {0}
-AllNamed xs (h ∷ hs) = Named xs h × AllNamed xs hs
-
-abbrev pub NamesPairs : Hearer → Type 0
-NamesPairs h = (xs : List ℕ) → AllNamed xs (h xs)
-
--- noise does not show: a recording and its mended form are heard alike, so that every verdict is same
-abbrev pub MendedAlike : Hearer → Type 0
-MendedAlike h = (xs : List ℕ) → map bare (h (mendedOf xs)) ≡ map bare (h xs)
-
+-- ---- hearing a recording: noise does not show, so that every verdict of a recording and its mended form is same
 abbrev pub MendedSame : Comparer → Hearer → Type 0
 MendedSame c h =
     (xs : List ℕ) → let ss = startsOf (h xs) in verdicts (c ss (startsOf (h (mendedOf xs)))) ≡ replicate (length ss) Verdict.same
 
 -- ---- what is compared is what demand 3's history has
-abbrev pub keyIn : Command → Key
-keyIn c = record { id = idOf c; file = fileIdOf c }
-
--- an ask that was answered done: "A regular file starts when the open for its file command is answered done"
-abbrev pub happenedBy : Question → List Happening
-happenedBy Question.none = []
-happenedBy (Question.asks c Heard.opens) = cond (isFile c && isRegular c) (Happening.starts (keyIn c) nowhere ∷ []) []
-happenedBy (Question.asks c (Heard.writes p)) = Happening.hands (keyIn c) p ∷ []
-happenedBy (Question.asks c (Heard.writesLast p)) = Happening.hands (keyIn c) p ∷ []
-happenedBy (Question.asks c Heard.commits) = []
-happenedBy (Question.asks c Heard.requests) = []
-
--- the marks are newest first
-abbrev pub happenedIn : List Mark → List Happening
-happenedIn [] = []
-happenedIn (Mark.read c ∷ m) = happenedIn m
-happenedIn (Mark.asked a ∷ m) = happenedIn m
-happenedIn (Mark.allow i ∷ m) = happenedIn m
-happenedIn (Mark.drop i ∷ m) = happenedIn m
-happenedIn (Mark.answer false q ∷ m) = happenedIn m
-happenedIn (Mark.answer true q ∷ m) = happenedIn m ++ happenedBy q
-happenedIn (Mark.wrote p bs ∷ m) = happenedIn m
-
--- "with the console answers as the replay program gives them": from a fresh receiver and any first carry, whatever pieces and buffers
--- the replay has
-abbrev pub ReplayHears : Hearer → Type 0
-ReplayHears h = (carry : List ℕ) (turns : List Turn) → Answerable turns → let history = replayed (start carry) turns .history in
-    happenedIn (marksOf history) ≡ map bare (h (bytesOf history))
-
 -- the contents of the latest start
 abbrev pub lastOf : List (List ℕ) → Option (List ℕ)
 lastOf [] = Option.none
@@ -196,10 +137,6 @@ claimedParts k (Option.some t) = Option.some (parts k (t .marks))
 -- latest start
 abbrev pub ClaimedContents : Starter → Type 0
 ClaimedContents s = (marks : List Mark) (k : Key) → lastOf (contentsFor k (s (happenedIn marks))) ≡ claimedParts k (since k marks)
-
--- and no other hearer, places apart, is heard so
-abbrev pub OneHearer : Hearer → Type 0
-OneHearer h = (g : Hearer) → ReplayHears g → (xs : List ℕ) → map bare (g xs) ≡ map bare (h xs)
 
 -- ---- all of them
 pub record CompareLaws (c : Comparer) (d : Differ) (h : Hearer) (s : Starter) : Type 0 where

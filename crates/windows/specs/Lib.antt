@@ -1,8 +1,5 @@
-pub mod Hearing
 pub mod Compare
 pub mod Ranks
-pub mod Rows
-pub mod HearingSteps
 pub mod Steps
 pub mod Laws
 pub mod Examples

@@ -11,11 +11,11 @@ use Rattle.octets.specs.Outcome.{Outcome, outcome}
 use Rattle.octets.specs.Slices.{partOf}
 use Rattle.protocol.specs.Stretches.{Key}
 use Rattle.recordings.specs.Mend.{recordingLimit}
-use Rattle.windows.specs.Hearing.{Place}
+use Rattle.hearing.specs.Hearing.{Place, heardIn}
 use Rattle.windows.specs.Compare.{contentsOf, startsOf, sameKey, Start, Verdict, against}
-use Rattle.windows.specs.Compare.{Line, verdictNumber, offsetOf, numbersOf, listed}
+use Rattle.windows.specs.Compare.{Line, compared, verdictNumber, offsetOf, numbersOf, listed}
 use Rattle.windows.specs.Ranks.{countOf, nth, firstLines, secondLines}
-use Rattle.windows.specs.Rows.{happeningsIn, Apart}
+use Rattle.hearing.specs.Rows.{happeningsIn, Apart}
 use Rattle.windows.specs.declared.Compared.{Compared}
 use Rattle.windows.specs.declared.Compared.the-variants as Compared
 use Rattle.windows.specs.declared.verdicts.Judgement.{Judgement}
@@ -142,3 +142,9 @@ unfoldable pub listedIn : List Line → (list : List ℕ) → Outcome Compared
 listedIn lines list =
     cond (ltb (length list) (length (listed lines))) (outcome (Compared.Refused 9) list)
     (outcome (Compared.Rows (length lines)) (sets list 0 (listed lines)))
+
+-- the second's refusal, or the lines of both, once the first was heard
+unfoldable pub besideOf : (first : Side) (second list : List ℕ) → Outcome Compared
+besideOf first ys list =
+    cond (ltb recordingLimit (length ys)) (outcome (Compared.Refused 17) list)
+    (listedIn (compared (startsIn first) (startsOf (heardIn ys))) list)

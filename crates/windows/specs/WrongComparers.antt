@@ -11,7 +11,7 @@ use Rattle.octets.specs.Outcome.{outcome}
 use Rattle.octets.specs.Slices.{equals}
 use Rattle.protocol.specs.Stretches.{Key}
 use Rattle.recordings.specs.Mend.{recordingLimit}
-use Rattle.windows.specs.Hearing.{Happening, heardIn}
+use Rattle.hearing.specs.Hearing.{Happening, heardIn}
 use Rattle.windows.specs.Compare.{sameKey, Start, startsOf, Verdict, later, firstDiff, partner, against, Line, onlySeconds, compared}
 use Rattle.windows.specs.Compare.{linesOf, listed}
 use Rattle.windows.specs.declared.Compared.the-variants as Compared

@@ -10,9 +10,10 @@ use Rattle.protocol.specs.Sessions.{stringIn}
 use Rattle.protocol.specs.Calls.{Acted}
 use Rattle.protocol.specs.History.{Heard, hearing}
 use Rattle.protocol.specs.declared.Table.{Table}
-use Rattle.windows.specs.Hearing.{Sighting, sightingsFrom, sightingsIn, Happening, keyOf, placeOf, isRegular}
-use Rattle.windows.specs.Hearing.{actOf, heardBy, tableAfter}
-use Rattle.windows.specs.Laws.{Hearer, NamesPairs, MendedAlike, MendedSame, ReplayHears}
+use Rattle.hearing.specs.Hearing.{Sighting, sightingsFrom, sightingsIn, Happening, keyOf, placeOf, isRegular}
+use Rattle.hearing.specs.Hearing.{actOf, heardBy, tableAfter}
+use Rattle.hearing.specs.Laws.{Hearer, NamesPairs, MendedAlike, ReplayHears}
+use Rattle.windows.specs.Laws.{MendedSame}
 use Rattle.windows.specs.Compare.{compared}
 use Rattle.recordings.specs.Pieces.{Piece, piecesOf}
 

@@ -3,9 +3,10 @@ ghost use mathlib.Core.Path.{_≡_};
 ghost use Prim.Native.Nat.{_+_, _≤_};
 ghost use lib.ListN.{length, take, drop};
 ghost use Rattle.windows.specs.Compare.{contentsOf};
-ghost use Rattle.windows.specs.Rows.{happeningsIn, Apart};
+ghost use Rattle.hearing.specs.Rows.{happeningsIn, Apart};
 ghost use Rattle.windows.specs.Steps.{side, Laid, keyWith, startAt, RowPlace};
 use crate::rows;
+use hearing::Notes;
 
 // The contents of the start at a row, stored from the start of `into`, and how many bytes they have.
 // They fit: the parts lie one after another in the bytes, so that what was joined before a part is no
@@ -24,7 +25,7 @@ pub(crate) fn gather<'a>(
 {
     let id = rows::id_at(recording, events, row);
     let file = rows::file_at(recording, events, row);
-    gather_from(recording, bytes, events, row + rows::ROW, id, file, into)
+    gather_from(recording, bytes, events, row + Notes::ROW, id, file, into)
 }
 
 // What is handed over for a pair from a row on, up to its next start.
@@ -45,18 +46,18 @@ fn gather_from<'a>(
 {
     let mut at = from;
     let mut n = 0;
-    while events.len() - at >= rows::ROW {
+    while events.len() - at >= Notes::ROW {
         if !rows::of_pair(recording, events, at, id, file) {
-            at += rows::ROW;
+            at += Notes::ROW;
             continue;
         }
-        if events[at] != rows::PART {
+        if events[at] != Notes::PART {
             return n;
         }
         let part = rows::part_at(bytes, events, at);
         octets::copy_at(part, into, n);
         n += part.len();
-        at += rows::ROW;
+        at += Notes::ROW;
     }
     n
 }

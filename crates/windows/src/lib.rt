@@ -1,30 +1,26 @@
 // Compares two recordings of one window: for each start of a session id and a file id in either, whether
 // it is only in the first, only in the second, the same, or different.
 //
-// Each recording is heard as the console of `replay` hears it (`hearing`, `noting`), which leaves rows of
+// Each recording is heard as the console of `replay` hears it (the crate `hearing`), which leaves rows of
 // what happened (`rows`); these are matched (`matching`), their contents gathered (`contents`) and
 // compared (`verdicts`), and the lines listed (`lines`).
 mod contents;
-mod hearing;
 mod lines;
 mod matching;
-mod noting;
 mod rows;
 mod verdicts;
 
 ghost use mathlib.Core.Path.{_≡_};
-ghost use Prim.Native.Nat.{_≤_};
-ghost use lib.ListN.{length};
 ghost use Rattle.octets.specs.Outcome.{outcome};
 ghost use Rattle.recordings.specs.Mend.{recordingLimit};
-ghost use Rattle.windows.specs.Hearing.{heardIn};
-ghost use Rattle.windows.specs.Compare.{startsOf, firstDiff, compared, linesOf, compareOf};
+ghost use Rattle.hearing.specs.Hearing.{heardIn};
+ghost use Rattle.windows.specs.Compare.{startsOf, firstDiff, compared, compareOf};
 ghost use Rattle.windows.specs.Laws.{CompareLaws};
 ghost use Rattle.windows.specs.Examples.{CompareExamples};
 ghost use Rattle.windows.specs.WrongComparers.{CompareTeeth};
 ghost use Rattle.windows.specs.WrongHearers.{HearerTeeth};
-ghost use Rattle.windows.specs.Steps.{side, Laid, linesBetween, listedIn};
-use recordings::Mended;
+ghost use Rattle.windows.specs.Steps.{side, Laid, linesBetween, besideOf, listedIn};
+use hearing::Notes;
 
 // How many rows the list has; or why nothing was done: 17 for a recording over the limit, 9 for no room.
 pub enum Compared {
@@ -34,7 +30,7 @@ pub enum Compared {
 
 impl Compared {
     // How many bytes a recording has at most.
-    pub const LIMIT: usize = Mended::LIMIT;
+    pub const LIMIT: usize = Notes::LIMIT;
 
     // How many numbers are room for the list of any two recordings: 3,854 rows.
     pub const LIST_ROOM: usize = 23124;
@@ -60,36 +56,43 @@ pub fn compare<'a>(first: &'a [u8], second: &'a [u8], list: &mut [usize]) -> Com
     ensures { λ r. ⌜ outcome r (now (list .exit)) ≡ compareOf (now (first .entry)) (now (second .entry)) (now (list .entry)) ⌝ }
     ensures { λ _. ⌜ CompareLaws compared firstDiff heardIn startsOf × CompareTeeth × HearerTeeth × CompareExamples ⌝ }
 {
-    if first.len() > Compared::LIMIT {
-        return Compared::Refused(17);
+    let mut events = [0usize; Compared::LIMIT];
+    let mut bytes = [0u8; Compared::LIMIT];
+    match hearing::hear(first, &mut events, &mut bytes) {
+        Notes::Numbers(n) => beside(first, &bytes, &events[..n], second, list),
+        Notes::Refused(why) => Compared::Refused(why),
     }
-    if second.len() > Compared::LIMIT {
-        return Compared::Refused(17);
-    }
-    heard(first, second, list)
 }
 
-// The same of recordings within the limit: each is heard once.
-fn heard<'a>(first: &'a [u8], second: &'a [u8], list: &mut [usize]) -> Compared
-    requires { ⌜ (length (now first) ≤ recordingLimit) × (length (now second) ≤ recordingLimit) ⌝ }
+// The same once the first was heard: the second is heard too.
+fn beside<'a>(
+    first: &'a [u8],
+    first_bytes: &'a [u8],
+    first_events: &'a [usize],
+    second: &'a [u8],
+    list: &mut [usize],
+) -> Compared
+    requires { ⌜ Laid (side (now first) (now «first_bytes») (now «first_events»)) recordingLimit ⌝ }
     ensures { λ r. ⌜ outcome r (now (list .exit))
-        ≡ listedIn (linesOf (now (first .entry)) (now (second .entry))) (now (list .entry)) ⌝ }
+        ≡ besideOf (side (now (first .entry)) (now («first_bytes» .entry)) (now («first_events» .entry)))
+        (now (second .entry)) (now (list .entry)) ⌝ }
 {
-    let mut first_events = [0usize; Compared::LIMIT];
-    let mut first_bytes = [0u8; Compared::LIMIT];
-    let mut second_events = [0usize; Compared::LIMIT];
-    let mut second_bytes = [0u8; Compared::LIMIT];
-    let n = hearing::hear(first, &mut first_events, &mut first_bytes);
-    let m = hearing::hear(second, &mut second_events, &mut second_bytes);
-    fitted(
-        first,
-        &first_bytes,
-        &first_events[..n],
-        second,
-        &second_bytes,
-        &second_events[..m],
-        list,
-    )
+    let mut events = [0usize; Compared::LIMIT];
+    let mut bytes = [0u8; Compared::LIMIT];
+    match hearing::hear(second, &mut events, &mut bytes) {
+        Notes::Numbers(n) => {
+            fitted(
+                first,
+                first_bytes,
+                first_events,
+                second,
+                &bytes,
+                &events[..n],
+                list,
+            )
+        }
+        Notes::Refused(why) => Compared::Refused(why),
+    }
 }
 
 // Lists the lines, where there is room for all of them.

@@ -12,9 +12,9 @@ ghost use Rattle.windows.specs.Steps as Steps;
 ghost use Rattle.windows.specs.Steps.{side, Laid, Writes, startsIn, linesBetween, rowNumbers};
 use crate::Compared;
 use crate::matching;
-use crate::rows;
 use crate::verdicts;
 use crate::verdicts::Judgement;
+use hearing::Notes;
 
 // All lines: the first's starts in order, then those only the second has, in order.
 pub(crate) fn list<'a>(
@@ -79,7 +79,7 @@ fn firsts<'a>(
 {
     let mut at = 0;
     let mut row = 0;
-    while first_events.len() - at >= rows::ROW {
+    while first_events.len() - at >= Notes::ROW {
         row = first_row(
             first,
             first_bytes,
@@ -93,7 +93,7 @@ fn firsts<'a>(
             list,
             row,
         );
-        at += rows::ROW;
+        at += Notes::ROW;
     }
     row
 }
@@ -120,7 +120,7 @@ fn first_row<'a>(
         (side (now (first .entry)) (now («first_bytes» .entry)) (now («first_events» .entry)))
         (side (now (second .entry)) (now («second_bytes» .entry)) (now («second_events» .entry))) at (now (list .entry)) row ⌝ }
 {
-    if first_events[at] == rows::PART {
+    if first_events[at] == Notes::PART {
         return row;
     }
     let place = row * Compared::ROW;
@@ -161,7 +161,7 @@ fn seconds<'a>(
 {
     let mut at = 0;
     let mut row = from;
-    while second_events.len() - at >= rows::ROW {
+    while second_events.len() - at >= Notes::ROW {
         row = second_row(
             first,
             first_bytes,
@@ -173,7 +173,7 @@ fn seconds<'a>(
             list,
             row,
         );
-        at += rows::ROW;
+        at += Notes::ROW;
     }
     row
 }
@@ -195,7 +195,7 @@ fn second_row<'a>(
         (side (now (first .entry)) (now («first_bytes» .entry)) (now («first_events» .entry)))
         (side (now (second .entry)) (now («second_bytes» .entry)) (now («second_events» .entry))) at (now (list .entry)) row ⌝ }
 {
-    if second_events[at] == rows::PART {
+    if second_events[at] == Notes::PART {
         return row;
     }
     if !matching::is_left(first, first_events, second, second_events, at) {

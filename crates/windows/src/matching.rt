@@ -6,9 +6,10 @@ ghost use Prim.Native.Nat.{ℕ, _+_, _≤_};
 ghost use lib.ListN.{length};
 ghost use Rattle.windows.specs.Compare.{startsOf};
 ghost use Rattle.windows.specs.Ranks.{countOf, nth};
-ghost use Rattle.windows.specs.Rows.{happeningsIn};
+ghost use Rattle.hearing.specs.Rows.{happeningsIn};
 ghost use Rattle.windows.specs.Steps.{side, keyWith, rankAt, partnerOf, isLeft, foundAt, RowPlace};
 use crate::rows;
+use hearing::Notes;
 
 // How many starts of a pair there are.
 fn count<'a>(recording: &'a [u8], events: &'a [usize], id: &'a [u8], file: &'a [u8]) -> usize
@@ -17,13 +18,13 @@ fn count<'a>(recording: &'a [u8], events: &'a [usize], id: &'a [u8], file: &'a [
 {
     let mut at = 0;
     let mut n = 0;
-    while events.len() - at >= rows::ROW {
+    while events.len() - at >= Notes::ROW {
         if !rows::starts_pair(recording, events, at, id, file) {
-            at += rows::ROW;
+            at += Notes::ROW;
             continue;
         }
         n += 1;
-        at += rows::ROW;
+        at += Notes::ROW;
     }
     n
 }
@@ -43,16 +44,16 @@ fn nth_start<'a>(
 {
     let mut at = 0;
     let mut left = rank;
-    while events.len() - at >= rows::ROW {
+    while events.len() - at >= Notes::ROW {
         if !rows::starts_pair(recording, events, at, id, file) {
-            at += rows::ROW;
+            at += Notes::ROW;
             continue;
         }
         if left == 0 {
             return at;
         }
         left -= 1;
-        at += rows::ROW;
+        at += Notes::ROW;
     }
     at
 }

@@ -7,14 +7,7 @@ ghost use lib.ListN.{length, getD};
 ghost use Rattle.octets.specs.Slices.{partOf};
 ghost use Rattle.windows.specs.Compare.{sameKey};
 ghost use Rattle.windows.specs.Steps.{keyWith, idAt, fileAt, keyAt, startsAt};
-
-// How many numbers a row has.
-pub(crate) const ROW: usize = 7;
-
-// What the first of them is.
-pub(crate) const PART: usize = 0;
-
-pub(crate) const START: usize = 1;
+use hearing::Notes;
 
 // The session's id.
 pub(crate) fn id_at<'a>(recording: &'a [u8], events: &'a [usize], at: usize) -> &'a [u8]
@@ -69,7 +62,7 @@ pub(crate) fn starts_pair<'a>(
     requires { ⌜ at + 7 ≤ length (now events) ⌝ }
     ensures { λ r. ⌜ r ≡ startsAt (now (recording .entry)) (now (events .entry)) at (keyWith (now (id .entry)) (now (file .entry))) ⌝ }
 {
-    if events[at] == PART {
+    if events[at] == Notes::PART {
         return false;
     }
     of_pair(recording, events, at, id, file)

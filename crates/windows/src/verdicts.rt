@@ -7,7 +7,7 @@ ghost use Rattle.windows.specs.Steps.{side, Laid, startAt, partnerOf, ju
 use crate::Compared;
 use crate::contents;
 use crate::matching;
-use crate::rows;
+use hearing::Notes;
 
 // A verdict's number, and the offset: 0 unless contents differ.
 pub struct Judgement {
@@ -107,7 +107,7 @@ pub(crate) fn judge<'a>(
         (side (now (second .entry)) (now («second_bytes» .entry)) (now («second_events» .entry))) at)) ⌝ }
 {
     let partner = matching::partner(first, first_events, at, second, second_events);
-    if !octets::fits(partner, rows::ROW, second_events.len()) {
+    if !octets::fits(partner, Notes::ROW, second_events.len()) {
         return Judgement::FIRST;
     }
     compared(
