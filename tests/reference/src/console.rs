@@ -9,6 +9,7 @@ pub(crate) const BAD: &[u8] = b"bad script\n";
 pub(crate) const FILL: u8 = 0xa5;
 
 /// A buffer of which the first bytes are lent.
+#[derive(Clone)]
 pub(crate) struct Buffer<const N: usize> {
     pub bytes: [u8; N],
     lent: usize,
@@ -43,6 +44,7 @@ impl<const N: usize> Buffer<N> {
 }
 
 /// A receiver with its buffers, and the latest feed.
+#[derive(Clone)]
 pub struct Console {
     receiver: Receiver,
     carry: Buffer<8256>,
@@ -141,6 +143,16 @@ impl Console {
     /// The numbers of a session that is present.
     pub fn numbers(&self, id: &[u8]) -> Option<Numbers> {
         self.receiver.numbers(id)
+    }
+
+    /// The receiver, for a look.
+    pub fn receiver(&self) -> &Receiver {
+        &self.receiver
+    }
+
+    /// The scratch, whole, and its sum.
+    pub fn scratch(&self) -> (&[u8], u64) {
+        (&self.scratch.bytes, self.scratch.sum())
     }
 
     /// The carry, whole.

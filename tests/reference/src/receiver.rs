@@ -16,7 +16,7 @@ mod supplies;
 mod utf8;
 
 pub use reply::Status;
-pub use session::{Id, Numbers};
+pub use session::{Id, Numbers, SESSIONS};
 pub use supplies::Entry;
 
 use frames::{Found, Frames};
@@ -193,7 +193,7 @@ impl Owed {
 }
 
 /// A receiver.
-#[derive(Debug)]
+#[derive(Clone, Debug)]
 pub struct Receiver {
     frames: Frames,
     sessions: Table,
@@ -321,6 +321,17 @@ impl Receiver {
     /// The numbers of a session that is present. No call of the papers: it refuses nothing and changes nothing.
     pub fn numbers(&self, id: &[u8]) -> Option<Numbers> {
         self.sessions.numbers(&Id::new(id)?)
+    }
+
+    /// The ids of the sessions that are present, each with its place; as little a call as `numbers`.
+    pub fn present(&self) -> Vec<(usize, Id)> {
+        self.sessions.present()
+    }
+
+    /// The id of the session that an answer is owed for, likewise.
+    pub fn owes(&self) -> Option<Id> {
+        let place = self.owed?.session();
+        self.present().into_iter().find_map(|(at, id)| (at == place).then_some(id))
     }
 
     fn place(&self, id: &[u8]) -> Option<usize> {

@@ -37,7 +37,7 @@ pub enum Found {
 }
 
 /// The scanner. Between calls, the text so far stands in the carry.
-#[derive(Debug)]
+#[derive(Clone, Debug)]
 pub struct Frames {
     state: State,
     /// Length of the text so far from earlier pieces; the carry holds its first 8,192 bytes.

@@ -82,7 +82,7 @@ pub struct Numbers {
     pub done_bytes: u64,
 }
 
-#[derive(Debug, Default)]
+#[derive(Clone, Debug, Default)]
 pub struct Session {
     pub state: SessionState,
     pub quiet: u8,
@@ -156,7 +156,7 @@ impl Session {
 }
 
 /// The four sessions.
-#[derive(Debug, Default)]
+#[derive(Clone, Debug, Default)]
 pub struct Table([Session; SESSIONS]);
 
 impl Table {
@@ -168,6 +168,12 @@ impl Table {
 
     pub fn free(&self) -> Option<usize> {
         self.0.iter().position(|s| s.state == SessionState::Absent)
+    }
+
+    /// The ids of the sessions that are present, each with its place.
+    pub fn present(&self) -> Vec<(usize, Id)> {
+        let present = self.0.iter().enumerate().filter(|(_, s)| s.state != SessionState::Absent);
+        present.map(|(place, session)| (place, session.id)).collect()
     }
 
     pub fn numbers(&self, id: &Id) -> Option<Numbers> {

@@ -31,18 +31,23 @@ pub struct Shape {
 pub fn stream(rng: &mut Rng, shape: &Shape) -> Stream {
     let count = rng.weighted(&[0, 30, 30, 15, 10, 5, 10]).max(1);
     let ids = cast(rng, count);
-    let chunks = match rng.weighted(&[32, 14, 13, 7, 7, 9, 9, 5, 16]) {
-        0 => window(rng, shape, &ids),
-        1 => soup(rng, shape, &ids),
-        2 => faulty(rng, shape, &ids),
-        3 => torn(rng, shape, &ids),
-        4 => named(rng, shape, &ids),
-        5 => limits(rng, shape, &ids),
-        6 => sizes::sizes(rng, shape, &ids),
-        7 => rows(rng, shape, &ids),
-        _ => receives::receives(rng, shape, &ids),
-    };
+    let chunks = stream_of(rng, shape, &ids);
     Stream { chunks, ids }
+}
+
+/// The same for sessions with these ids.
+pub fn stream_of(rng: &mut Rng, shape: &Shape, ids: &[Vec<u8>]) -> Vec<Vec<u8>> {
+    match rng.weighted(&[32, 14, 13, 7, 7, 9, 9, 5, 16]) {
+        0 => window(rng, shape, ids),
+        1 => soup(rng, shape, ids),
+        2 => faulty(rng, shape, ids),
+        3 => torn(rng, shape, ids),
+        4 => named(rng, shape, ids),
+        5 => limits(rng, shape, ids),
+        6 => sizes::sizes(rng, shape, ids),
+        7 => rows(rng, shape, ids),
+        _ => receives::receives(rng, shape, ids),
+    }
 }
 
 /// A command's text as chunks: in a good frame or a damaged one, with noise or without.
