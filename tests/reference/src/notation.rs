@@ -119,6 +119,29 @@ fn call(text: &str) -> Op {
     }
 }
 
+/// The frame of an item of order 14's page: `send ID`, `finish ID`, `cancel ID`, `file ID FID` with the name `/nz`, `data ID FID BYTES` and
+/// `end ID FID BYTES`; with a word more of fields; `receive ID` for one path, `path ID FID` for it and for a request; anything else
+/// stands for its bytes.
+pub fn session_item(item: &str) -> Vec<u8> {
+    let words: Vec<&str> = item.split(' ').collect();
+    let encoded = |text: &str| {
+        let mut out = vec![0; text.len().div_ceil(3) * 4];
+        base64::encode(text.as_bytes(), &mut out);
+        String::from_utf8(out).unwrap()
+    };
+    let fields = match words[..] {
+        [action @ ("send" | "finish" | "cancel"), id] => format!("ac={action};id={id}"),
+        [action @ "send", id, more] => format!("ac={action};id={id};{more}"),
+        ["receive", id] => format!("ac=receive;id={id};sz=1"),
+        ["file" | "path", id, fid] => format!("ac=file;id={id};fid={fid};n={}", encoded("/nz")),
+        ["data", id, fid, data] => format!("ac=data;id={id};fid={fid};d={}", encoded(data)),
+        ["end", id, fid] => format!("ac=end_data;id={id};fid={fid}"),
+        ["end", id, fid, data] => format!("ac=end_data;id={id};fid={fid};d={}", encoded(data)),
+        _ => return bytes(item),
+    };
+    format!("\x1b]5113;{fields}\x1b\\").into_bytes()
+}
+
 /// The recording of order 11's short form: items parted by a comma and a blank. `junk` stands for noise, `refused frame` for a frame
 /// that is refused. Panics at what is no item.
 pub fn window(items: &str) -> Vec<u8> {
