@@ -157,7 +157,7 @@ pub fn listed<K: std::fmt::Display>(counts: &BTreeMap<K, u64>) -> String {
     items.join(", ")
 }
 
-fn unhex(text: &[u8]) -> Vec<u8> {
+pub fn unhex(text: &[u8]) -> Vec<u8> {
     let digit = |b: u8| (b as char).to_digit(16).unwrap_or(0) as u8;
     text.chunks_exact(2).map(|pair| digit(pair[0]) << 4 | digit(pair[1])).collect()
 }

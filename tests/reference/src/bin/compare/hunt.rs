@@ -21,7 +21,7 @@ struct Ground {
     programs: &'static [&'static str],
 }
 
-const GROUNDS: [Ground; 5] = [
+const GROUNDS: [Ground; 6] = [
     Ground { whose: Whose::Receivers, trials: trials::quick, programs: &["drive", "replay"] },
     Ground { whose: Whose::Senders, trials: trials::senders, programs: &["drive_sender"] },
     Ground { whose: Whose::Menders, trials: trials::menders, programs: &["mend", "mend_script"] },
@@ -31,6 +31,7 @@ const GROUNDS: [Ground; 5] = [
         programs: &["compare_windows", "windows_script"],
     },
     Ground { whose: Whose::Deltas, trials: trials::deltas, programs: &["delta_script", "patch"] },
+    Ground { whose: Whose::Isolation, trials: trials::isolation, programs: &["drive"] },
 ];
 
 /// Tries the faults whose names have the given words in them. Answers whether each was found.
@@ -71,8 +72,14 @@ impl Ground {
 
     /// Looks for the first difference that a fault makes, says it, and answers whether there is one.
     fn hunt(&self, patch: &Patch, trials: &[Trial]) -> bool {
-        let search =
-            |programs: PathBuf| trials.iter().find_map(|trial| trial.difference(&programs));
+        let search = |programs: PathBuf| {
+            let difference = trials.iter().find_map(|trial| trial.difference(&programs))?;
+            if self.whose != Whose::Isolation {
+                return Some(difference);
+            }
+            let leak = trials.iter().find_map(|trial| trial.leak(&programs))?;
+            Some(format!("{difference}; as a pair: {leak}"))
+        };
         let difference = build(self.programs, Some(patch)).map(search);
         match &difference {
             Ok(Some(difference)) => println!("found      {}: {difference}", patch.name),

@@ -2,6 +2,7 @@
 
 use crate::coverage::Coverage;
 use crate::delta_coverage::DeltaCoverage;
+use crate::isolation_coverage::IsolationCoverage;
 use crate::mend_coverage::MendCoverage;
 use crate::programs::{self, Outcome, DRIVE_SENDER, REPLAY};
 use crate::sender_coverage::SenderCoverage;
@@ -104,6 +105,7 @@ pub struct Tally {
     pub menders: MendCoverage,
     pub windows: WindowCoverage,
     pub deltas: DeltaCoverage,
+    pub isolation: IsolationCoverage,
     pub scripts: u64,
     pub recordings: u64,
     pub runs: u64,
@@ -132,10 +134,15 @@ pub fn batches(cases: Vec<Case>) -> Vec<Vec<Case>> {
 impl Tally {
     /// Judges scripts, each of which starts anew. Only the last one may be no proper script.
     pub fn scripts(&mut self, program: &Scripted, cases: Vec<Case>) {
-        batches(cases).iter().for_each(|batch| self.batch(program, batch));
+        self.outputs(program, cases);
     }
 
-    fn batch(&mut self, program: &Scripted, batch: &[Case]) {
+    /// The same; gives what the program wrote for each.
+    pub fn outputs(&mut self, program: &Scripted, cases: Vec<Case>) -> Vec<Vec<u8>> {
+        batches(cases).iter().flat_map(|batch| self.batch(program, batch)).collect()
+    }
+
+    fn batch(&mut self, program: &Scripted, batch: &[Case]) -> Vec<Vec<u8>> {
         let input: Vec<u8> = batch.iter().flat_map(|case| case.input.iter().copied()).collect();
         let outputs: Vec<Vec<u8>> =
             batch.iter().map(|case| program.expected(&case.input)).collect();
@@ -146,33 +153,34 @@ impl Tally {
         let actual = program.outcome(&input);
         (program.count)(self, &actual.output);
         if actual.agrees(&expected) {
-            return;
+            return outputs;
         }
         let before = self.differ;
-        for (case, expected) in batch.iter().zip(&outputs) {
-            self.alone(program, case, expected);
-        }
+        let alone = batch.iter().zip(&outputs);
+        let alone = alone.map(|(case, expected)| self.alone(program, case, expected)).collect();
         if self.differ == before {
             // Each agrees alone: the fault lies in how they stand together.
             self.differ += 1;
             keep(&format!("{}-batch", batch[0].name), &input, &expected, &actual);
         }
+        alone
     }
 
-    fn alone(&mut self, program: &Scripted, case: &Case, expected: &[u8]) {
+    fn alone(&mut self, program: &Scripted, case: &Case, expected: &[u8]) -> Vec<u8> {
         let actual = program.outcome(&case.input);
         if actual.agrees(expected) {
-            return;
+            return actual.output;
         }
         self.differ += 1;
         if !keep(&case.name, &case.input, expected, &actual) {
-            return;
+            return actual.output;
         }
         if let Some(ops) = (program.cut)(&case.input) {
             let small = shrink(ops, |ops| program.differs(&ops.concat())).concat();
             let actual = program.outcome(&small);
             write(&format!("{}-small", case.name), &small, &program.expected(&small), &actual);
         }
+        actual.output
     }
 
     /// Judges a recording, written to the program in pieces of `step` bytes. Gives what the program wrote.
@@ -204,6 +212,7 @@ impl Tally {
         self.menders.join(other.menders);
         self.windows.join(other.windows);
         self.deltas.join(other.deltas);
+        self.isolation.join(other.isolation);
         self.scripts += other.scripts;
         self.recordings += other.recordings;
         self.runs += other.runs;
@@ -220,6 +229,13 @@ fn keep(name: &str, input: &[u8], expected: &[u8], actual: &Outcome) -> bool {
     }
     write(name, input, expected, actual);
     true
+}
+
+/// Keeps a script whose output agrees, but not with that of another one.
+pub fn keep_output(name: &str, input: &[u8], output: &[u8]) {
+    if KEPT.fetch_add(1, Ordering::Relaxed) < MOST_KEPT {
+        write(name, input, output, &Outcome { output: output.into(), faults: Vec::new() });
+    }
 }
 
 fn write(name: &str, input: &[u8], expected: &[u8], actual: &Outcome) {

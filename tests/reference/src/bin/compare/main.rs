@@ -15,6 +15,14 @@ mod fields;
 mod files;
 mod framing;
 mod hunt;
+mod isolation_acts;
+mod isolation_between;
+mod isolation_cases;
+mod isolation_coverage;
+mod isolation_pairs;
+mod isolation_plans;
+mod isolation_seen;
+mod isolation_special;
 mod judge;
 mod mend_cases;
 mod mend_coverage;
@@ -54,9 +62,10 @@ use std::process::ExitCode;
 use std::time::{Duration, Instant};
 use std::{env, fs};
 
-const USAGE: &str = "compare [in-place] quick | long | fuzz SECONDS [SEED] | one KIND SEED
+const USAGE: &str = "compare [in-place] quick | long | isolation [N] | fuzz SECONDS [SEED] | one KIND SEED
 compare senders [N] | menders [N] | windows [N] | deltas [N] | patches [N] | faults [WORD..]
-KIND: script, recording, sender, mender, mend, window, compare-windows, alike, delta, patch, fuzz-script, fuzz-raw, fuzz-recording";
+KIND: script, recording, sender, mender, mend, window, compare-windows, alike, delta, patch, fuzz-script, fuzz-raw, fuzz-recording,
+isolation-first, isolation-second";
 
 /// What came up, and whether what never did is a fault.
 enum Cover {
@@ -67,6 +76,7 @@ enum Cover {
     Windows,
     Deltas,
     Patches,
+    Isolation,
 }
 
 fn main() -> ExitCode {
@@ -99,6 +109,7 @@ fn wanted(args: &[&str]) -> Vec<&'static str> {
         }
         ["deltas", ..] | ["one", "delta", _] => vec![programs::DELTA_SCRIPT],
         ["patches", ..] | ["one", "patch", _] => vec![programs::PATCH],
+        ["isolation", ..] => vec![programs::player()],
         _ => vec![programs::player(), programs::REPLAY],
     }
 }
@@ -122,6 +133,7 @@ fn run(args: &[&str]) -> Option<ExitCode> {
         ["windows", given @ ..] => (windows(count(given, work::WINDOWS)?), Cover::Windows),
         ["deltas", given @ ..] => (deltas(count(given, work::DELTAS_TRIED)?), Cover::Deltas),
         ["patches", given @ ..] => (patched(count(given, work::DELTAS_TRIED)?), Cover::Patches),
+        ["isolation", given @ ..] => (isolation(count(given, work::ISOLATION)?), Cover::Isolation),
         ["one", kind, seed] => return one::one(kind, number(seed)?),
         _ => return None,
     };
@@ -172,6 +184,13 @@ fn patched(count: u64) -> Tally {
     let mut tally = Tally::default();
     delta_special::judge_patches(&mut tally);
     tally.join(work::patches(count));
+    tally
+}
+
+fn isolation(count: u64) -> Tally {
+    let mut tally = Tally::default();
+    isolation_special::judge(&mut tally);
+    tally.join(work::isolation(count));
     tally
 }
 
@@ -251,6 +270,10 @@ fn missing(tally: &Tally, cover: Cover) -> Vec<String> {
         Cover::Patches => {
             tally.deltas.print_patches();
             tally.deltas.missing_in_patches()
+        }
+        Cover::Isolation => {
+            tally.isolation.print();
+            tally.isolation.missing()
         }
         Cover::Must => {
             tally.coverage.print();

@@ -1,6 +1,7 @@
 //! One input by its kind and seed, written out with what both sides make of it.
 
 use crate::delta_cases::{self, DELTAS};
+use crate::isolation_cases;
 use crate::judge::{Case, Scripted, Taker, RECEIVER, REPLAYER, SENDER};
 use crate::mend_cases::{self, MENDER, MEND_TOOL};
 use crate::patch_cases::{self, PATCHER};
@@ -55,6 +56,8 @@ fn case(kind: &str, seed: u64) -> Option<Case> {
         "alike" => windows_cases::alike_case(seed),
         "delta" => delta_cases::case(seed),
         "patch" => patch_cases::case(seed),
+        "isolation-first" => isolation_cases::script_case(seed, 0)?,
+        "isolation-second" => isolation_cases::script_case(seed, 1)?,
         "fuzz-script" => work::mutated_script_case(seed, &stored()),
         "fuzz-raw" => work::raw_script_case(seed, &stored()),
         "fuzz-recording" => work::mutated_recording_case(seed, &stored()),

@@ -23,6 +23,7 @@ pub enum Whose {
     Menders,
     Windows,
     Deltas,
+    Isolation,
 }
 
 /// Every fault of every list in the folder, in the order of the lists' names.
@@ -76,6 +77,7 @@ impl Patch {
             name if name.starts_with("mend") => Whose::Menders,
             name if name.starts_with("windows") => Whose::Windows,
             name if name.starts_with("delta") => Whose::Deltas,
+            name if name.starts_with("isolation") => Whose::Isolation,
             _ => Whose::Receivers,
         }
     }

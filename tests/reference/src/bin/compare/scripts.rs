@@ -2,6 +2,7 @@
 //!
 //! The reference runs along, so that most calls fit what was told.
 
+use crate::isolation_acts::Watch;
 use crate::rng::Rng;
 use crate::streams::{stream, Shape, Stream};
 use reference::console::Console;
@@ -13,9 +14,10 @@ const MOST_OPS: usize = 220;
 const MOST_BYTES: usize = 24_000;
 
 /// How a stream is cut into pieces.
-#[derive(Clone, Copy)]
+#[derive(Clone, Copy, Default)]
 pub enum Cut {
     /// As the stream was made.
+    #[default]
     Chunks,
     /// At most so many bytes.
     Within(usize),
@@ -25,9 +27,9 @@ pub enum Cut {
 
 pub struct Maker<'r> {
     pub rng: &'r mut Rng,
-    console: Console,
-    ops: Vec<Op>,
-    bytes: usize,
+    pub console: Console,
+    pub ops: Vec<Op>,
+    pub bytes: usize,
     ids: Vec<Vec<u8>>,
     /// Calls that do not fit, in a hundred.
     pub wrong: usize,
@@ -48,6 +50,35 @@ pub struct Maker<'r> {
     pub prompt: usize,
     /// Operands of a supply about as long as they may be, in a hundred.
     pub long: usize,
+    /// A session that is left to others: none of its acts is made here.
+    pub spared: Option<Watch>,
+    /// Whether the latest operation was one, made for it.
+    pub acted: bool,
+}
+
+/// A stream that is fed piece by piece.
+#[derive(Default)]
+pub struct Line {
+    stream: Vec<u8>,
+    /// The places where chunks end.
+    ends: Vec<usize>,
+    at: usize,
+    cut: Cut,
+}
+
+impl Line {
+    pub fn new(chunks: &[Vec<u8>], cut: Cut) -> Line {
+        Line { stream: chunks.concat(), ends: ends(chunks), at: 0, cut }
+    }
+
+    pub fn rest(&self) -> &[u8] {
+        &self.stream[self.at..]
+    }
+
+    /// Whether it stands between two chunks.
+    pub fn between(&self) -> bool {
+        self.at == 0 || self.ends.contains(&self.at)
+    }
 }
 
 /// The script of a seed.
@@ -68,27 +99,8 @@ pub fn script(seed: u64) -> Vec<Op> {
 /// Feeds the chunks to a fresh receiver, with the console's calls.
 pub fn perform(rng: &mut Rng, chunks: &[Vec<u8>], ids: Vec<Vec<u8>>) -> Vec<Op> {
     let cut = cut(rng);
-    let (wrong, failures) = (*rng.pick(&[0, 2, 10, 30]), *rng.pick(&[0, 5, 25]));
-    let (hesitates, looks) = (*rng.pick(&[0, 5, 50]), *rng.pick(&[0, 20, 80]));
-    let (prompt, long) = (*rng.pick(&[50, 95, 95, 95]), *rng.pick(&[0, 0, 3, 15]));
-    let mut maker = Maker {
-        rng,
-        console: Console::default(),
-        ops: Vec::new(),
-        bytes: 0,
-        ids,
-        wrong,
-        failures,
-        hesitates,
-        looks,
-        waiting: Vec::new(),
-        named: Vec::new(),
-        listing: Vec::new(),
-        requested: false,
-        prompt,
-        long,
-    };
-    maker.perform(chunks, cut);
+    let mut maker = Maker::new(rng, ids);
+    maker.perform(Line::new(chunks, cut));
     maker.ops
 }
 
@@ -133,37 +145,81 @@ fn took_nothing(refusal: Option<Refusal>) -> bool {
 }
 
 impl Maker<'_> {
-    fn perform(&mut self, chunks: &[Vec<u8>], cut: Cut) {
-        let stream = chunks.concat();
-        let ends = ends(chunks);
-        let mut at = 0;
-        while at < stream.len() && self.ops.len() < MOST_OPS && self.bytes < MOST_BYTES {
-            if self.rng.chance(self.wrong) {
-                self.stray();
-            }
-            self.list_some();
-            let chunk = ends.iter().find(|&&end| end > at).map_or(0, |end| end - at);
-            let len = piece_len(self.rng, cut, &stream[at..], chunk);
-            let Some(answer) = self.add(Op::Feed(stream[at..at + len].to_vec())) else {
+    /// A console of some manner, with a fresh receiver.
+    pub fn new(rng: &mut Rng, ids: Vec<Vec<u8>>) -> Maker<'_> {
+        let (wrong, failures) = (*rng.pick(&[0, 2, 10, 30]), *rng.pick(&[0, 5, 25]));
+        let (hesitates, looks) = (*rng.pick(&[0, 5, 50]), *rng.pick(&[0, 20, 80]));
+        let (prompt, long) = (*rng.pick(&[50, 95, 95, 95]), *rng.pick(&[0, 0, 3, 15]));
+        Maker {
+            rng,
+            console: Console::default(),
+            ops: Vec::new(),
+            bytes: 0,
+            ids,
+            wrong,
+            failures,
+            hesitates,
+            looks,
+            waiting: Vec::new(),
+            named: Vec::new(),
+            listing: Vec::new(),
+            requested: false,
+            prompt,
+            long,
+            spared: None,
+            acted: false,
+        }
+    }
+
+    fn perform(&mut self, mut line: Line) {
+        while !line.rest().is_empty() && self.ops.len() < MOST_OPS && self.bytes < MOST_BYTES {
+            if !self.go_on(&mut line) {
                 return;
-            };
-            // What was not consumed is fed again, but not always.
-            let again = took_nothing(answer.refusal) || self.rng.chance(98);
-            at += if again { answer.consumed } else { len };
-            self.look(&answer);
-            if self.rng.chance(30) {
-                self.text(&answer);
             }
-            self.react(&answer);
-            self.look(&answer);
         }
         for _ in 0..self.rng.weighted(&[60, 20, 20]) {
             self.stray();
         }
     }
 
+    /// Feeds the next piece, with the calls before and after it. Answers whether it was fed.
+    pub fn go_on(&mut self, line: &mut Line) -> bool {
+        if self.rng.chance(self.wrong) {
+            self.stray();
+        }
+        self.list_some();
+        let chunk = line.ends.iter().find(|&&end| end > line.at).map_or(0, |end| end - line.at);
+        let len = piece_len(self.rng, line.cut, line.rest(), chunk);
+        let Some(answer) = self.add(Op::Feed(line.rest()[..len].to_vec())) else {
+            return false;
+        };
+        // What was not consumed is fed again, but not always.
+        let again = took_nothing(answer.refusal) || self.rng.chance(98);
+        line.at += if again { answer.consumed } else { len };
+        self.look(&answer);
+        if self.rng.chance(30) {
+            self.text(&answer);
+        }
+        self.react(&answer);
+        self.look(&answer);
+        true
+    }
+
+    /// Makes an operation, unless it would be an act of the session that is spared.
     pub fn add(&mut self, op: Op) -> Option<Answer> {
+        let acts = |spared: &Watch| spared.clone().act_of(&op, &mut self.console.clone()).is_some();
+        if self.spared.as_ref().is_some_and(acts) {
+            return None;
+        }
+        self.make(op)
+    }
+
+    /// Makes an operation.
+    pub fn make(&mut self, op: Op) -> Option<Answer> {
         let answer = self.console.apply(&op);
+        if let (Some(spared), Some(answer)) = (&mut self.spared, &answer) {
+            self.acted = spared.act(&op, answer).is_some();
+        }
         self.bytes += encode(std::slice::from_ref(&op)).len();
         self.ops.push(op);
         answer
@@ -222,7 +278,7 @@ impl Maker<'_> {
     }
 
     /// What a console does after a report.
-    fn react(&mut self, answer: &Answer) {
+    pub fn react(&mut self, answer: &Answer) {
         match answer.told {
             Told::Asked(id) => self.asked(id.bytes().to_vec()),
             Told::LastPath { id, .. } => {
@@ -253,7 +309,7 @@ impl Maker<'_> {
     }
 
     /// Answers the ask; sometimes first with a reply buffer that is too short, which leaves it owed.
-    fn settle(&mut self) {
+    pub fn settle(&mut self) {
         if self.requested {
             return self.serve();
         }

@@ -1,12 +1,16 @@
 //! The quick run's inputs with what the reference makes of them, made once to try many programs on.
 
 use crate::delta_cases::{self, DELTAS};
+use crate::isolation_cases::parted;
+use crate::isolation_pairs::{self, Pair};
 use crate::judge::{batches, Case, Scripted, Taker, RECEIVER, REPLAYER, SENDER};
 use crate::mend_cases::{self, MENDER, MEND_TOOL};
 use crate::patch_cases::{self, PATCHER};
 use crate::programs::{self, Outcome};
 use crate::windows_cases::{self, WINDOWS, WINDOWS_TOOL};
-use crate::{delta_special, mend_special, sender_special, special, windows_special, work};
+use crate::{
+    delta_special, isolation_special, mend_special, sender_special, special, windows_special, work,
+};
 use reference::console::LONGEST_SCRIPT;
 use std::path::Path;
 
@@ -17,6 +21,8 @@ pub struct Trial {
     /// The size of the pieces in which the input is written.
     step: usize,
     cases: Vec<(Case, Vec<u8>)>,
+    /// The pairs that the cases are, where one session does the same in two.
+    pairs: Vec<Pair>,
 }
 
 /// The inputs of the seeds, scripts and recordings in turn so that each kind comes early, then the special ones.
@@ -84,18 +90,41 @@ pub fn deltas() -> Vec<Trial> {
     scripts.map(|cases| scripts_together(&DELTAS, cases)).chain(files.map(file)).collect()
 }
 
+/// Those of pairs of scripts in which one session does the same: as many in a run as go.
+pub fn isolation() -> Vec<Trial> {
+    let pairs = (0..work::ISOLATION_TRIED).filter_map(isolation_pairs::pair);
+    let mut all: Vec<Trial> = Vec::new();
+    let mut room = 0;
+    for pair in pairs.chain(isolation_special::pairs()) {
+        let cases = pair.cases();
+        let len = cases.iter().map(|case| case.input.len()).sum();
+        if len > room {
+            all.push(scripts_together(&RECEIVER, Vec::new()));
+            room = LONGEST_SCRIPT;
+        }
+        room = room.saturating_sub(len);
+        if let Some(trial) = all.last_mut() {
+            trial.cases.extend(scripts_together(&RECEIVER, cases.into()).cases);
+            trial.pairs.push(pair);
+        }
+    }
+    all
+}
+
 fn scripts_together(program: &Scripted, cases: Vec<Case>) -> Trial {
     let judged = |case: Case| {
         let expected = program.expected(&case.input);
         (case, expected)
     };
     let cases = cases.into_iter().map(judged).collect();
-    Trial { program: program.name, run: programs::run, step: LONGEST_SCRIPT, cases }
+    let (run, step) = (programs::run, LONGEST_SCRIPT);
+    Trial { program: program.name, run, step, cases, pairs: Vec::new() }
 }
 
 fn a_recording(program: &Taker, case: Case, step: usize) -> Trial {
     let expected = (program.expected)(&case.input);
-    Trial { program: program.name, run: program.run, step, cases: vec![(case, expected)] }
+    let cases = vec![(case, expected)];
+    Trial { program: program.name, run: program.run, step, cases, pairs: Vec::new() }
 }
 
 impl Trial {
@@ -115,6 +144,17 @@ impl Trial {
         };
         let together = || format!("{} and those after it together, {why}", self.cases[0].0.name);
         Some(self.cases.iter().find_map(alone).unwrap_or_else(together))
+    }
+
+    /// The first pair in which the programs of this folder let a session see what others do: their outputs are compared with each other
+    /// alone.
+    pub fn leak(&self, folder: &Path) -> Option<String> {
+        let input: Vec<u8> = self.cases.iter().flat_map(|(case, _)| case.input.clone()).collect();
+        let output = (self.run)(&folder.join(self.program), &input, self.step).output;
+        let scripts: Vec<_> = self.pairs.iter().flat_map(|pair| &pair.scripts).collect();
+        let outputs = parted(&scripts, &output);
+        let mut pairs = self.pairs.iter().zip(outputs.chunks(2));
+        pairs.find_map(|(pair, outputs)| pair.leak([outputs[0], outputs[1]]))
     }
 
     /// How a run differs, if it does.

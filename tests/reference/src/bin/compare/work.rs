@@ -1,6 +1,7 @@
 //! Shares the cases out to two threads.
 
 use crate::delta_cases::{self, DELTAS};
+use crate::isolation_cases;
 use crate::judge::{Case, Tally, RECEIVER, REPLAYER, SENDER};
 use crate::mend_cases;
 use crate::mutate::{mutated_recording, mutated_script, raw_script, Stored};
@@ -26,6 +27,9 @@ pub const MENDERS: u64 = 2_000;
 pub const WINDOWS: u64 = 2_000;
 /// The same for deltas, in scripts and as files.
 pub const DELTAS_TRIED: u64 = 2_000;
+/// The same for pairs of scripts of one session, and those that faults are tried on.
+pub const ISOLATION: u64 = 2_000;
+pub const ISOLATION_TRIED: u64 = 500;
 
 const THREADS: usize = 2;
 /// Cases taken at a time.
@@ -129,6 +133,16 @@ pub fn patches(count: u64) -> Tally {
     share(|tally| {
         let seeds = seeds(&next, count, SCRIPTS);
         seeds.clone().for_each(|seed| patch_cases::judge(tally, seed));
+        !seeds.is_empty()
+    })
+}
+
+/// The pairs of scripts of the first seeds, in each of which one session does the same.
+pub fn isolation(count: u64) -> Tally {
+    let next = AtomicU64::new(0);
+    share(|tally| {
+        let seeds = seeds(&next, count, SCRIPTS);
+        isolation_cases::judge(tally, seeds.clone());
         !seeds.is_empty()
     })
 }
