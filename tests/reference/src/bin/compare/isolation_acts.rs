@@ -3,7 +3,7 @@
 
 use reference::console::Console;
 use reference::receiver::command::{self, Action, FileType, Transmission};
-use reference::receiver::{Answer, Id, Told, SCRATCH, SESSIONS};
+use reference::receiver::{Answer, Id, Place, Told, SCRATCH, SESSIONS};
 use reference::script::Op;
 
 const ESCAPE: u8 = 0x1b;
@@ -148,8 +148,18 @@ impl Watch {
         (self.is_own(op) && answer.refusal.is_none()).then(|| Act::Call(op.clone()))
     }
 
+    /// Whether a call is the session's but for its refusal: by its id, as an answer, or as a feed of a whole command.
+    pub fn refused(&self, op: &Op, answer: &Answer) -> bool {
+        let own = |text: &Vec<u8>| values(text).is_some_and(|of| of.id == self.id);
+        let feeds = |piece: &[u8]| Listener::default().hear(piece).iter().any(own);
+        match op {
+            Op::Feed(piece) => answer.refusal.is_some() && answer.consumed == 0 && feeds(piece),
+            _ => answer.refusal.is_some() && self.is_own(op),
+        }
+    }
+
     /// Whether a call is the session's, if it is not refused.
-    pub fn is_own(&self, op: &Op) -> bool {
+    fn is_own(&self, op: &Op) -> bool {
         match op {
             Op::Allow(id) | Op::Deny(id) | Op::Drop(id) => *id == self.id,
             Op::ListFailed { id, .. } | Op::Home { id, .. } => *id == self.id,
@@ -179,6 +189,12 @@ impl Moment {
         self.present.iter().find_map(|(place, of)| (of.bytes() == id).then_some(*place))
     }
 
+    /// Whether it is a feed that found something to report.
+    pub fn reports(&self) -> bool {
+        let found = |answer: Answer| answer.text != Place::Nowhere || answer.refusal.is_some();
+        self.answer.is_some_and(|answer| answer.consumed > 0 && found(answer))
+    }
+
     /// The premise: a send or receive that finds its session absent finds a free place.
     fn met(&self, id: &[u8]) -> bool {
         let begins = self.act.as_ref().is_some_and(Act::begins);
@@ -204,8 +220,8 @@ pub fn moments(id: &[u8], ops: &[Op]) -> Vec<Moment> {
     let (mut console, mut watch) = (Console::default(), Watch::new(id));
     let moment = |op: &Op| {
         let present = console.receiver().present();
-        let could = watch.is_own(op);
         let answer = console.apply(op);
+        let own_refused = answer.is_some_and(|answer| watch.refused(op, &answer));
         let act = answer.as_ref().and_then(|answer| watch.act(op, answer));
         if *op == Op::Anew {
             watch = Watch::new(id);
@@ -215,7 +231,7 @@ pub fn moments(id: &[u8], ops: &[Op]) -> Vec<Moment> {
             let (bytes, sum) = console.scratch();
             (bytes.to_vec(), sum)
         });
-        Moment { own_refused: could && act.is_none(), act, answer, present, scratch }
+        Moment { own_refused, act, answer, present, scratch }
     };
     ops.iter().map(moment).collect()
 }
@@ -224,6 +240,7 @@ pub fn moments(id: &[u8], ops: &[Op]) -> Vec<Moment> {
 mod tests {
     use super::*;
     use crate::framing::framed;
+    use crate::scripts::script;
 
     #[test]
     fn commands_are_found_across_pieces() {
@@ -234,6 +251,28 @@ mod tests {
                 bytes.chunks(step).flat_map(|piece| listener.hear(piece)).collect();
             assert_eq!(found, [&b"5113;ac=send;id=b"[..], b"5113;ac=finish;id=c"]);
         }
+    }
+
+    /// The two look for frames in their own ways.
+    #[test]
+    fn the_listener_finds_what_the_receiver_reports() {
+        let mut found = 0;
+        for seed in 0..100 {
+            let (mut console, mut listener) = (Console::default(), Listener::default());
+            for op in script(seed) {
+                let answer = console.apply(&op);
+                if let (Op::Feed(piece), Some(answer)) = (&op, answer) {
+                    let text = console.text().to_vec();
+                    let reported: Vec<Vec<u8>> =
+                        [text].into_iter().filter(|text| values(text).is_some()).collect();
+                    let refused = answer.refusal.is_some();
+                    let heard = listener.hear(&piece[..answer.consumed]);
+                    assert_eq!(heard, if refused { vec![] } else { reported }, "{seed}");
+                    found += heard.len();
+                }
+            }
+        }
+        assert!(found > 500, "{found}");
     }
 
     #[test]

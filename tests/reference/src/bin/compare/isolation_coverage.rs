@@ -5,7 +5,7 @@ use crate::isolation_acts::{values, Act, Moment};
 use crate::isolation_pairs::Pair;
 use crate::isolation_plans::is_like;
 use crate::isolation_seen::{difference, Script};
-use reference::receiver::{Refusal, SESSIONS};
+use reference::receiver::SESSIONS;
 use reference::script::Op;
 use std::collections::BTreeMap;
 
@@ -107,43 +107,30 @@ impl IsolationCoverage {
         }
         let mut pieces = 0;
         for (op, moment) in script.ops.iter().zip(&script.moments) {
-            let fed = matches!(op, Op::Feed(_)) && moment.answer.is_some_and(|of| of.consumed > 0);
-            pieces += usize::from(fed);
+            // Feeds that consumed something, since the latest one that reported something.
+            pieces += usize::from(moment.answer.is_some_and(|answer| answer.consumed > 0));
             match &moment.act {
-                Some(act) => {
-                    self.act(id, act, moment);
-                    if fed {
-                        count(
-                            &mut self.pieces,
-                            if pieces > 2 { "more" } else { ["", "1", "2"][pieces] },
-                        );
-                    }
-                    pieces = 0;
-                }
-                None => {
-                    let told =
-                        |answer: reference::receiver::Answer| answer.told != Default::default();
-                    if moment.answer.is_some_and(told) || !fed {
-                        pieces = 0;
-                    }
-                    self.other(op, moment);
-                }
+                Some(act) => self.act(id, act, pieces, moment),
+                None => self.other(op, moment),
+            }
+            if moment.reports() {
+                pieces = 0;
             }
         }
     }
 
-    fn act(&mut self, id: &[u8], act: &Act, moment: &Moment) {
+    fn act(&mut self, id: &[u8], act: &Act, pieces: usize, moment: &Moment) {
         match act {
             Act::Command(text) => {
                 let action = values(text).and_then(|values| values.action);
                 count(&mut self.acts, action.map_or(String::new(), |action| format!("{action:?}")));
+                count(&mut self.pieces, ["1", "2", "more"][pieces.clamp(1, 3) - 1]);
             }
             Act::Call(op) => count(&mut self.acts, (op.letter() as char).to_string()),
         }
         let others = moment.present.iter().filter(|(_, other)| other.bytes() != id);
-        let full = moment.present.len() == SESSIONS;
         count(&mut self.others, others.clone().count().to_string());
-        if full {
+        if moment.present.len() == SESSIONS {
             count(&mut self.others, "full");
         }
         if others.clone().any(|(_, other)| is_like(other.bytes(), id)) {
@@ -155,19 +142,14 @@ impl IsolationCoverage {
         let Some(answer) = moment.answer else {
             return;
         };
-        match answer.refusal {
-            None => count(&mut self.between, (op.letter() as char).to_string()),
+        let (counts, key) = match answer.refusal {
+            None => (&mut self.between, (op.letter() as char).to_string()),
             Some(refusal) if moment.own_refused => {
-                count(&mut self.own_refusals, (refusal as u8).to_string());
+                (&mut self.own_refusals, (refusal as u8).to_string())
             }
-            Some(refusal) => {
-                count(&mut self.refusals, (refusal as u8).to_string());
-                let taken = matches!(refusal, Refusal::ShortBuffer | Refusal::AnswerOwed);
-                if matches!(op, Op::Feed(_)) && taken {
-                    count(&mut self.own_refusals, (refusal as u8).to_string());
-                }
-            }
-        }
+            Some(refusal) => (&mut self.refusals, (refusal as u8).to_string()),
+        };
+        count(counts, key);
     }
 
     pub fn join(&mut self, other: IsolationCoverage) {
@@ -213,7 +195,10 @@ impl IsolationCoverage {
         println!("replies and frames of it: {}", listed(&self.replies));
         println!("taken between: {}", listed(&self.between));
         println!("refused between: {}", listed(&self.refusals));
-        println!("its own calls, and feeds, refused: {}", listed(&self.own_refusals));
+        println!(
+            "its own calls, and feeds of its commands, refused: {}",
+            listed(&self.own_refusals)
+        );
         println!("other sessions at an act: {}", listed(&self.others));
         println!("ids that are like its own at an act: {}", listed(&self.likes));
         println!("pieces of its commands: {}", listed(&self.pieces));
@@ -227,9 +212,9 @@ fn places(script: &Script, id: &[u8]) -> Vec<Option<usize>> {
 
 /// The texts of its commands.
 fn texts(script: &Script) -> Vec<&[u8]> {
-    let text = |act| match act {
-        &Act::Command(ref text) => Some(&text[..]),
+    let texts = script.acts().filter_map(|(_, act)| match act {
+        Act::Command(text) => Some(&text[..]),
         Act::Call(_) => None,
-    };
-    script.acts().filter_map(|(_, act)| text(act)).collect()
+    });
+    texts.collect()
 }

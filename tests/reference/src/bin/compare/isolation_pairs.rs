@@ -171,7 +171,8 @@ impl Weaver<'_> {
         let cut = if plain { Cut::Chunks } else { cut(rng) };
         let mut at = 0;
         while at < bytes.len() {
-            let answer = self.piece(&bytes[at..], cut)?;
+            // Noise may have closed what another session began, so that an answer is owed.
+            let answer = self.piece(&bytes[at..], cut).filter(|answer| answer.consumed > 0)?;
             at += answer.consumed.min(bytes.len() - at);
             if self.maker.acted {
                 self.own.push(self.maker.ops.len() - 1);
