@@ -1,9 +1,14 @@
 //! Order 14: judges pairs of scripts. Both outputs must be those of the reference, and what the session sees must be the same in both.
 
+use crate::isolation_acts::all_met;
 use crate::isolation_pairs::{pair, Pair};
 use crate::isolation_seen::{difference, Script};
-use crate::judge::{keep_output, Case, Tally, RECEIVER};
+use crate::judge::{keep_outputs, Case, Tally, RECEIVER};
+use crate::programs;
+use crate::shrink::shrink;
+use reference::console::LONGEST_SCRIPT;
 use reference::script::encode;
+use std::path::Path;
 
 /// The kinds of the two scripts, as `one` and kept files call them.
 pub const KINDS: [&str; 2] = ["isolation-first", "isolation-second"];
@@ -49,10 +54,57 @@ pub fn judge_pairs(tally: &mut Tally, pairs: &[Pair]) {
         if let Some(leak) = pair.leak(outputs) {
             tally.differ += 1;
             println!("differs: {leak}");
-            for (case, output) in pair.cases().iter().zip(outputs) {
-                keep_output(&case.name, &case.input, output);
-            }
+            keep(pair);
         }
+    }
+}
+
+/// What the program writes for both scripts.
+fn played(pair: &Pair) -> [Vec<u8>; 2] {
+    let program = Path::new((RECEIVER.path)());
+    pair.cases().map(|case| programs::run(program, &case.input, LONGEST_SCRIPT).output)
+}
+
+/// Keeps a pair that leaks, also with what does not matter taken out.
+fn keep(pair: &Pair) {
+    let leaks = |pair: &Pair| {
+        let [one, other] = played(pair);
+        pair.leak([&one, &other]).is_some()
+    };
+    if !keep_outputs(&pair.cases(), &played(pair)) {
+        return;
+    }
+    let small = pair.smaller(leaks);
+    keep_outputs(&small.cases(), &played(&small));
+}
+
+impl Pair {
+    /// The pair without what is not the session's, as long as `leaks` holds of what is left.
+    fn smaller(&self, leaks: impl Fn(&Pair) -> bool) -> Pair {
+        let places = [0, 1].map(|i| (0..self.scripts[i].ops.len()).map(move |at| (i, at)));
+        let others = places.into_iter().flatten().filter(|(i, at)| !self.scripts[*i].is_own(*at));
+        let kept = shrink(others.collect(), |kept: &[(usize, usize)]| {
+            let pair = self.with(kept);
+            pair.met && self.has_acts_of(&pair) && leaks(&pair)
+        });
+        self.with(&kept)
+    }
+
+    /// The pair with what is the session's and these operations, each by its script and its place there.
+    fn with(&self, kept: &[(usize, usize)]) -> Pair {
+        let scripts = [0, 1].map(|i| {
+            let ops = self.scripts[i].ops.iter().enumerate();
+            let ops = ops.filter(|(at, _)| self.scripts[i].is_own(*at) || kept.contains(&(i, *at)));
+            Script::new(&self.id, ops.map(|(_, op)| op.clone()).collect())
+        });
+        let met = scripts.iter().all(|script| all_met(&script.moments, &self.id));
+        Pair { name: format!("{}-small", self.name), id: self.id.clone(), scripts, met }
+    }
+
+    /// Whether the other pair has the same acts as this one.
+    fn has_acts_of(&self, other: &Pair) -> bool {
+        let acts = || self.scripts[0].acts().map(|(_, act)| act);
+        other.scripts.iter().all(|script| script.acts().map(|(_, act)| act).eq(acts()))
     }
 }
 
@@ -80,6 +132,8 @@ pub fn parted<'o>(scripts: &[&Script], output: &'o [u8]) -> Vec<&'o [u8]> {
 #[cfg(test)]
 mod tests {
     use super::*;
+    use crate::isolation_special;
+    use reference::script::Op;
 
     /// The reference keeps sessions apart, and both kinds of pairs come.
     #[test]
@@ -93,6 +147,19 @@ mod tests {
             unmet += usize::from(!pair.met);
         }
         assert!((1..15).contains(&unmet), "{unmet}");
+    }
+
+    /// A drop that others make stands for what leaks.
+    #[test]
+    fn only_what_matters_is_left_of_a_pair() {
+        let pair = isolation_special::pairs().remove(16);
+        let drops = |pair: &Pair| pair.scripts[0].ops.contains(&Op::Drop(b"c".to_vec()));
+        assert!(drops(&pair));
+        let small = pair.smaller(drops);
+        assert!(drops(&small) && pair.has_acts_of(&small) && small.met);
+        // The acts, a look behind each, and what drops; the session that it drops is not needed here.
+        let own = 2 * small.scripts[0].own.len();
+        assert_eq!(small.scripts.each_ref().map(|script| script.ops.len()), [own + 1, own]);
     }
 
     #[test]

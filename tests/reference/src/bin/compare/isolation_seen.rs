@@ -1,7 +1,7 @@
 //! Order 14: what one session sees in an output. Places in the scratch, sums and bytes consumed are not part of it.
 
 use crate::coverage::unhex;
-use crate::isolation_acts::{values, Listener, Moment};
+use crate::isolation_acts::{moments, values, Listener, Moment};
 use reference::script::Op;
 
 /// A script, the places of the session's own operations in it, and what the reference makes of it.
@@ -17,6 +17,20 @@ fn prints(op: &Op) -> bool {
 }
 
 impl Script {
+    /// A script of which every act is the session's own.
+    pub fn new(id: &[u8], ops: Vec<Op>) -> Script {
+        let moments = moments(id, &ops);
+        let own = (0..ops.len()).filter(|&at| moments[at].act.is_some()).collect();
+        Script { ops, own, moments }
+    }
+
+    /// Whether an operation is the session's own, or the look at it behind one.
+    pub fn is_own(&self, at: usize) -> bool {
+        let looks =
+            matches!(self.ops[at], Op::Numbers(_)) && at > 0 && self.own.contains(&(at - 1));
+        looks || self.own.contains(&at)
+    }
+
     /// How many lines it prints.
     pub fn lines(&self) -> usize {
         self.ops.iter().filter(|op| prints(op)).count()
@@ -28,14 +42,10 @@ impl Script {
         let text = String::from_utf8_lossy(output);
         let mut lines = text.lines();
         let mut seen = Vec::new();
-        for (at, op) in self.ops.iter().enumerate().filter(|(_, op)| prints(op)) {
+        for (at, _) in self.ops.iter().enumerate().filter(|(_, op)| prints(op)) {
             let line = lines.next().unwrap_or("(no line)");
-            let own = self.own.contains(&at);
-            let looks = at > 0 && self.own.contains(&(at - 1)) && *op == Op::Numbers(id.into());
-            if own || names(line, id) {
+            if self.is_own(at) || names(line, id) {
                 seen.push(shown(line, &self.moments[at]));
-            } else if looks {
-                seen.push(line.into());
             }
         }
         seen
@@ -94,7 +104,6 @@ fn short(line: &str) -> String {
 mod tests {
     use super::*;
     use crate::framing::framed;
-    use crate::isolation_acts::moments;
     use reference::console;
     use reference::script::encode;
 
@@ -103,9 +112,7 @@ mod tests {
         let mut ops: Vec<Op> = texts.iter().map(feed).collect();
         ops.insert(1, Op::Allow(b"m".to_vec()));
         ops.insert(3, Op::Done);
-        let moments = moments(b"m", &ops);
-        let own = (0..ops.len()).filter(|&at| moments[at].act.is_some()).collect();
-        Script { ops, own, moments }
+        Script::new(b"m", ops)
     }
 
     fn output(script: &Script) -> Vec<u8> {

@@ -94,9 +94,7 @@ fn script(list: &str, whole: bool) -> Script {
             all.push(Op::Numbers(ID.into()));
         }
     }
-    let moments = moments(ID, &all);
-    let own = (0..all.len()).filter(|&at| moments[at].act.is_some()).collect();
-    Script { ops: all, own, moments }
+    Script::new(ID, all)
 }
 
 #[cfg(test)]

@@ -231,11 +231,16 @@ fn keep(name: &str, input: &[u8], expected: &[u8], actual: &Outcome) -> bool {
     true
 }
 
-/// Keeps a script whose output agrees, but not with that of another one.
-pub fn keep_output(name: &str, input: &[u8], output: &[u8]) {
-    if KEPT.fetch_add(1, Ordering::Relaxed) < MOST_KEPT {
-        write(name, input, output, &Outcome { output: output.into(), faults: Vec::new() });
+/// Keeps scripts whose outputs do not agree with each other, unless enough are kept; answers whether it did.
+pub fn keep_outputs(cases: &[Case], outputs: &[Vec<u8>]) -> bool {
+    if KEPT.fetch_add(1, Ordering::Relaxed) >= MOST_KEPT {
+        return false;
     }
+    for (case, output) in cases.iter().zip(outputs) {
+        let actual = Outcome { output: output.clone(), faults: Vec::new() };
+        write(&case.name, &case.input, output, &actual);
+    }
+    true
 }
 
 fn write(name: &str, input: &[u8], expected: &[u8], actual: &Outcome) {
