@@ -14,7 +14,8 @@ const ID: &[u8] = b"m";
 #[rustfmt::skip]
 const LISTS: [&str; 33] = [
     // The first two runs of the page, the second one's feed that is refused with 10 and its drop that is with 12 among them.
-    "(send k) | ([allow k]) | send m | (finish k) | [allow m] | ([done]) | file m a | (file m a) | ([drop z]) | [done] | end m a abc | [done]",
+    "(send k) | ([allow k]) | send m | (finish k) | [allow m] | ([done]) | file m a | (file m a) | ([drop z]) | [done] | \
+     end m a abc | [done]",
     // Its table, row by row.
     "(send k) | send m | [allow m] | finish m | ([drop k]) | [done]",
     "(send k) | ([allow k]) | send m | [allow m] | finish m | [done]",
@@ -25,29 +26,39 @@ const LISTS: [&str; 33] = [
     "(send k) | send m | [allow m] | file m a | [done]",
     "(send k q=2) | send m | [allow m]",
     "(send k) | send m | ([allow k]) | [allow m]",
-    "(send k) | ([allow k]) | (file k a) | ([done]) | (data k a abc) | ([done]) | send m | [allow m] | file m a | [done] | data m a abc | [done]",
+    "(send k) | ([allow k]) | (file k a) | ([done]) | (data k a abc) | ([done]) | send m | [allow m] | file m a | \
+     [done] | data m a abc | [done]",
     "(send k) | send m | [allow m] | file m a | [done] | data m a abc | [done]",
     "(send k) | send m | [allow m] | file m a | [done]",
-    "(receive k) | receive m | (path k a) | path m a | ([allow k]) | [allow m] | ([home k /k]) | [list m a 7 /nz] | [home m /h] | path m b | [last z]",
+    "(receive k) | receive m | (path k a) | path m a | ([allow k]) | [allow m] | ([home k /k]) | [list m a 7 /nz] | \
+     [home m /h] | path m b | [last z]",
     "(send k) | receive m | path m a | [allow m] | [home m /h] | path m 1 | [part xy] | [last z]",
     // A full table of each kind, more than full, and its places used again.
     "(receive b) | (receive c) | (receive d) | send m | (send e) | (receive f) | [allow m] | file m a | [done]",
-    "send m | [allow m] | (receive b) | (receive c) | (receive d) | (send e) | file m a | ([drop c]) | [done] | (send e) | end m a x | [done]",
+    "send m | [allow m] | (receive b) | (receive c) | (receive d) | (send e) | file m a | ([drop c]) | [done] | \
+     (send e) | end m a x | [done]",
     "(send k q=2) | ([allow k]) | (file k a) | ([done]) | (cancel k) | send m | [allow m] | file m a | [done]",
     "(receive k) | (path k a) | ([drop k]) | receive m | path m a | [allow m]",
     // Other ids that are the start of the session's, or begin with it.
     "send m | (send mm) | ([allow mm]) | [allow m] | (finish mm) | ([done]) | finish m | [done]",
     "(send M) | (cancel M) | send m | (send M) | ([deny M]) | [allow m]",
     // What is refused is nobody's, the session's own calls too.
-    "send m | ([short allow m]) | ([home m /h]) | ([done]) | ([last x]) | [allow m] | ([allow m]) | ([deny m]) | finish m | ([unlisted]) | ([short done]) | [failed EIO]",
-    "receive m | ([allow m]) | ([list m a 7 /nz]) | path m a | ([home m /h]) | [allow m] | ([short home m /h]) | ([list m a! 7 /x]) | [nolist m a ENOENT] | [home m /h] | ([home m /h]) | path m 1 | ([done]) | ([part {x*4097}]) | [part x] | [unlisted]",
-    "send m | (^[]5113;ac=cancel;id=m;q=3^[\\) | (^[]5113;ac=cancel;id=m;id=m^[\\) | (^[]5113;ac=cancel;id=m^[x) | (^[]0;ac=cancel;id=m^[\\) | [allow m]",
+    "send m | ([short allow m]) | ([home m /h]) | ([done]) | ([last x]) | [allow m] | ([allow m]) | ([deny m]) | \
+     finish m | ([unlisted]) | ([short done]) | [failed EIO]",
+    "receive m | ([allow m]) | ([list m a 7 /nz]) | path m a | ([home m /h]) | [allow m] | ([short home m /h]) | \
+     ([list m a! 7 /x]) | [nolist m a ENOENT] | [home m /h] | ([home m /h]) | path m 1 | ([done]) | ([part {x*4097}]) | \
+     [part x] | [unlisted]",
+    "send m | (^[]5113;ac=cancel;id=m;q=3^[\\) | (^[]5113;ac=cancel;id=m;id=m^[\\) | (^[]5113;ac=cancel;id=m^[x) | \
+     (^[]0;ac=cancel;id=m^[\\) | [allow m]",
     // Others are answered, listed and dropped while the session is asked for, owes or lists.
-    "(send k) | (receive l) | (path l a) | send m | [allow m] | file m a | ([allow k]) | ([allow l]) | ([list l a 7 /nz]) | ([home l /h]) | [done] | ([drop l]) | end m a | ([drop k]) | [done]",
-    "(send k) | ([allow k]) | receive m | path m a | (finish k) | [allow m] | [list m a 7 /nz] | [home m /h] | ([done]) | path m 1 | [last z]",
+    "(send k) | (receive l) | (path l a) | send m | [allow m] | file m a | ([allow k]) | ([allow l]) | \
+     ([list l a 7 /nz]) | ([home l /h]) | [done] | ([drop l]) | end m a | ([drop k]) | [done]",
+    "(send k) | ([allow k]) | receive m | path m a | (finish k) | [allow m] | [list m a 7 /nz] | [home m /h] | ([done]) | \
+     path m 1 | [last z]",
     "(send k) | ([allow k]) | (file k a) | ([done]) | send m | [allow m] | finish m | [done]",
     "(send k q=2) | receive m | path m a | [allow m] | [home m /h] | path m 1 | [unlisted]",
-    "(send k q=2) | (cancel k) | receive m | path m a | [allow m] | [nolist m a EIO] | [home m /h] | path m 1 | [part xy] | [failed EIO]",
+    "(send k q=2) | (cancel k) | receive m | path m a | [allow m] | [nolist m a EIO] | [home m /h] | path m 1 | \
+     [part xy] | [failed EIO]",
     // The session ends and begins again, in another place.
     "(send b) | send m | ([drop b]) | (send c) | cancel m | (send b) | send m | [allow m] | file m a | [done]",
     "(send b) | send m | [deny m] | (send c) | (send d) | receive m | path m a | [allow m] | [drop m] | send m",
