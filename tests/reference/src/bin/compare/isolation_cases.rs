@@ -98,7 +98,7 @@ impl Pair {
             Script::new(&self.id, ops.map(|(_, op)| op.clone()).collect())
         });
         let met = scripts.iter().all(|script| all_met(&script.moments, &self.id));
-        Pair { name: format!("{}-small", self.name), id: self.id.clone(), scripts, met }
+        Pair { name: format!("{}-pair", self.name), id: self.id.clone(), scripts, met }
     }
 
     /// Whether the other pair has the same acts as this one.

@@ -21,6 +21,8 @@ pub const KEEP_IN: &str = "target/reference/differ";
 const MOST_KEPT: usize = 8;
 
 static KEPT: AtomicUsize = AtomicUsize::new(0);
+/// The same for pairs that do not agree with each other.
+static KEPT_PAIRS: AtomicUsize = AtomicUsize::new(0);
 
 /// A script or recording with a name that says how it was made.
 pub struct Case {
@@ -233,7 +235,7 @@ fn keep(name: &str, input: &[u8], expected: &[u8], actual: &Outcome) -> bool {
 
 /// Keeps scripts whose outputs do not agree with each other, unless enough are kept; answers whether it did.
 pub fn keep_outputs(cases: &[Case], outputs: &[Vec<u8>]) -> bool {
-    if KEPT.fetch_add(1, Ordering::Relaxed) >= MOST_KEPT {
+    if KEPT_PAIRS.fetch_add(1, Ordering::Relaxed) >= MOST_KEPT {
         return false;
     }
     for (case, output) in cases.iter().zip(outputs) {
