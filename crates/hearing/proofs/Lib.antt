@@ -8,4 +8,5 @@ pub mod Replaying
 pub mod Wholly
 mod RowLaws
 mod NotedLaws
+mod ToldLaws
 mod HearLaws

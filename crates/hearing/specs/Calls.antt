@@ -20,13 +20,18 @@ abbrev pub readBack : Notes → (recording events bytes : List ℕ) → Account
 readBack (Notes.Numbers n) recording events bytes = Account.heard (happeningsIn recording bytes (take n events))
 readBack (Notes.Refused n) recording events bytes = Account.refused n
 
--- "A recording over 65,536 bytes: 17"; then 9 for less room than such a recording may need
-unfoldable pub hearOf : (recording events bytes : List ℕ) → Account
-hearOf xs events bytes =
+-- "A recording over 65,536 bytes: 17"; then 9 for less room, in numbers or bytes, than such a recording may need
+unfoldable pub hearOf : (recording : List ℕ) (numbers bytes : ℕ) → Account
+hearOf xs numbers bytes =
     cond (ltb recordingLimit (length xs)) (Account.refused 17)
-    (cond (ltb (length events) recordingLimit || ltb (length bytes) recordingLimit) (Account.refused 9) (Account.heard (heardIn xs)))
+    (cond (ltb numbers recordingLimit || ltb bytes recordingLimit) (Account.refused 9) (Account.heard (heardIn xs)))
 
--- the numbers are within the buffer and the parts lie apart in the bytes; "nothing written" where something is refused
-abbrev pub Kept : Notes → (events₀ bytes₀ events bytes : List ℕ) → Type 0
-Kept (Notes.Numbers n) events₀ bytes₀ events bytes = (n ≤ length events) × Apart 0 (length bytes) (take n events)
-Kept (Notes.Refused n) events₀ bytes₀ events bytes = (events ≡ events₀) × (bytes ≡ bytes₀)
+-- the numbers are within the buffer, and the parts lie apart in the bytes
+abbrev pub Within : Notes → (events bytes : List ℕ) → Type 0
+Within (Notes.Numbers n) events bytes = (n ≤ length events) × Apart 0 (length bytes) (take n events)
+Within (Notes.Refused n) events bytes = Unit {0}
+
+-- "nothing written" where something is refused
+abbrev pub Unwritten : Notes → (events₀ bytes₀ events bytes : List ℕ) → Type 0
+Unwritten (Notes.Numbers n) events₀ bytes₀ events bytes = Unit {0}
+Unwritten (Notes.Refused n) events₀ bytes₀ events bytes = (events ≡ events₀) × (bytes ≡ bytes₀)

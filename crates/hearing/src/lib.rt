@@ -7,7 +7,8 @@ mod noting;
 mod turns;
 
 ghost use mathlib.Core.Path.{_≡_};
-ghost use Rattle.hearing.specs.Calls.{readBack, hearOf, Kept};
+ghost use lib.ListN.{length};
+ghost use Rattle.hearing.specs.Calls.{readBack, hearOf, Within, Unwritten};
 use recordings::Mended;
 
 // How many numbers the rows take; or why nothing was done: 17 for a recording over the limit, 9 for
@@ -35,8 +36,9 @@ impl Notes {
 // which files start and which parts are handed over.
 pub fn hear(recording: &[u8], events: &mut [usize], bytes: &mut [u8]) -> Notes
     ensures { λ r. ⌜ readBack r (now (recording .entry)) (now (events .exit)) (now (bytes .exit))
-        ≡ hearOf (now (recording .entry)) (now (events .entry)) (now (bytes .entry)) ⌝ }
-    ensures { λ r. ⌜ Kept r (now (events .entry)) (now (bytes .entry)) (now (events .exit)) (now (bytes .exit)) ⌝ }
+        ≡ hearOf (now (recording .entry)) (length (now (events .exit))) (length (now (bytes .exit))) ⌝ }
+    ensures { λ r. ⌜ Within r (now (events .exit)) (now (bytes .exit))
+        × Unwritten r (now (events .entry)) (now (bytes .entry)) (now (events .exit)) (now (bytes .exit)) ⌝ }
 {
     if recording.len() > Notes::LIMIT {
         return Notes::Refused(17);

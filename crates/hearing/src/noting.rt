@@ -27,18 +27,8 @@ pub(crate) fn told(
         ≡ Steps.toldNoted told command from (now (scratch .entry)) rows (now (events .entry)) (now (bytes .entry)) ⌝ }
 {
     match told {
-        Told::Nothing => rows,
-        Told::Refused(_) => rows,
-        Told::Ignored => rows,
-        Told::Asked => rows,
-        Told::Naming => rows,
-        Told::Path => rows,
-        Told::LastPath => rows,
         Told::Ask(ask) => asked(ask, command, from, scratch, rows, events, bytes),
-        Told::Status(_) => rows,
-        Told::Withdrawn => rows,
-        Told::Discarded => rows,
-        Told::Committed => rows,
+        _ => rows,
     }
 }
 

@@ -137,18 +137,10 @@ fn answered(table: Table, told: Told, id: &[u8]) -> Table
     ensures { λ r. ⌜ r ≡ answeredBy table (now (id .entry)) told ⌝ }
 {
     match told {
-        Told::Nothing => table,
-        Told::Refused(_) => table,
-        Told::Ignored => table,
         Told::Asked => allowed(table, id),
-        Told::Naming => table,
-        Told::Path => table,
         Told::LastPath => allowed(table, id),
         Told::Ask(_) => sessions::next::put(table, sessions::done(table)),
-        Told::Status(_) => table,
-        Told::Withdrawn => table,
-        Told::Discarded => table,
-        Told::Committed => table,
+        _ => table,
     }
 }
 

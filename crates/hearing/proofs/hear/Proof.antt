@@ -1,4 +1,5 @@
 use mathlib.Core.Path.{refl, ap}
+use native.Mathlib.Omega.{arith}
 use lib.ListN.{length}
 use borrow.Author.Tests.{lt-ltb, le-ltb}
 use Rattle.recordings.specs.Mend.{recordingLimit}
@@ -11,7 +12,7 @@ returns : tie.Need-returns
 unfolding hearOf
 returns c =
     let s = c .before .before .before .before .args in
-    (rw (lt-ltb recordingLimit (length (s .recording .now)) (c .if1 .taken)), (refl, refl))
+    (rw (lt-ltb recordingLimit (length (s .recording .now)) (c .if1 .taken)), (tt, (refl, refl)))
 
 returns-2 : tie.Need-returns-2
 unfolding hearOf
@@ -21,7 +22,7 @@ returns-2 c =
         le-ltb recordingLimit (length (s .recording .now)) (c .before .if1 .left),
         lt-ltb (length (s .events .now)) recordingLimit (c .if2 .taken),
       ),
-      (refl, refl),
+      (tt, (refl, refl)),
     )
 
 returns-3 : tie.Need-returns-3
@@ -33,7 +34,7 @@ returns-3 c =
         le-ltb (length (s .events .now)) recordingLimit (c .before .if2 .left),
         lt-ltb (length (s .bytes .now)) recordingLimit (c .if3 .taken),
       ),
-      (refl, refl),
+      (tt, (refl, refl)),
     )
 
 all-requires : tie.Need-all-requires
@@ -48,17 +49,18 @@ same-length-2 c = search needs
 returns-4 : tie.Need-returns-4
 unfolding hearOf
 returns-4 c =
-    let a = c .before .before .before .before in
-    let room = a .before .before .before in
+    let after = c .before .before .before .before in
+    let room = after .before .before .before in
     let s = room .before .before .before .before .before .before .args in
-    let h = a .all .ensures in (
+    let h = after .all .ensures in
+    let k = after .all .last in (
       rw (
         le-ltb recordingLimit (length (s .recording .now)) (room .before .before .if1 .left),
-        le-ltb (length (s .events .now)) recordingLimit (room .before .if2 .left),
-        le-ltb (length (s .bytes .now)) recordingLimit (room .if3 .left),
+        le-ltb (length (k .1 .0)) recordingLimit (omega (arith, room .before .if2 .left, c .before .before .before .events .given)),
+        le-ltb (length (k .1 .1 .0)) recordingLimit (omega (arith, room .if3 .left, c .before .bytes .given)),
       )
           (ap Account.heard (h .heard)),
-      (h .within, h .apart),
+      ((h .within, h .apart), tt),
     )
 
 pub hear-spec : {M : Type 1} → statement M

@@ -1,5 +1,4 @@
 use mathlib.Core.Path.{sym, _∙_}
-use native.Mathlib.Omega.{arith}
 use lib.Seq.{length-take-le}
 use Rattle.hearing.specs.Hearing.{heardIn}
 use Rattle.windows.specs.Compare.{startsOf, firstDiff, compared}
@@ -15,10 +14,27 @@ use Rattle.windows.proofs.Examples.{examples-hold}
 use borrow.Author.Needs.{needs}
 use Rattle.windows.proofs.compare.Statement.{statement}
 use Rattle.windows.proofs.compare.Tie as tie
+use Rattle.windows.proofs.compare.Reads as reads
+use Rattle.windows.proofs.compare.Lts as lts
+use Rattle.hearing.proofs.hear.Reads as hear-reads
+use Rattle.windows.proofs.beside.Reads as beside-reads
 
 -- what the contract says of all recordings
 claims : CompareLaws compared firstDiff heardIn startsOf × CompareTeeth × HearerTeeth × CompareExamples
 claims = (compare-laws, teeth, hearer-teeth, examples-hold)
+
+-- what was heard, once the numbers are known
+noted : (c : lts.After-n (hear-reads.Asked, hear-reads.Learnt, beside-reads.Asked, beside-reads.Learnt) reads.Pre reads.Post)
+    → let h = c .before .before .before .before in
+    let s = h .before .before .before .before .before .before .args in
+    Noted (s .first .now) (c .n .given .0 .0) (h .hear .last .1 .0) (h .hear .last .1 .1 .0)
+noted c =
+    let bytes = c .before .before in
+    let events = bytes .before in
+    let h = events .before in
+    let s = h .before .before .before .before .before .before .args in
+    was-noted (s .first .now) (c .n .given .0 .0) (h .hear .last .1 .0) (h .hear .last .1 .1 .0)
+    (events .events2 .given) (bytes .bytes2 .given) (h .hear .result) (h .hear .ensures .0) (h .hear .ensures .1 .0) (c .n .given .1)
 
 slice-aggregate-hear : tie.Need-slice-aggregate-hear
 slice-aggregate-hear c = search needs
@@ -36,34 +52,14 @@ slice-aggregate-beside : tie.Need-slice-aggregate-beside
 slice-aggregate-beside c = search needs
 
 array-share-prefix-events : tie.Need-array-share-prefix-events
-array-share-prefix-events c =
-    let n = c .before .before in
-    let h = n .before .before .before .before in
-    let s = h .before .before .before .before .before .before .args in
-    was-noted (s .first .now) (n .n .given .0 .0) (h .hear .last .1 .0) (h .hear .last .1 .1 .0) (h .hear .result)
-    (h .hear .ensures .0) (h .hear .ensures .1) (n .n .given .1) .within
+array-share-prefix-events c = noted (c .before .before) .within
 
 slice-aggregate-beside-2 : tie.Need-slice-aggregate-beside-2
-slice-aggregate-beside-2 c =
-    let n = c .before .before .before in
-    let h = n .before .before .before .before in
-    let s = h .before .before .before .before .before .before .args in
-    sym
-    (length-take-le (n .n .given .0 .0) (h .hear .last .1 .0)
-    (was-noted (s .first .now) (n .n .given .0 .0) (h .hear .last .1 .0) (h .hear .last .1 .1 .0) (h .hear .result)
-    (h .hear .ensures .0) (h .hear .ensures .1) (n .n .given .1) .within))
+slice-aggregate-beside-2 c = sym (length-take-le _ _ (noted (c .before .before .before) .within))
 
 beside-requires : tie.Need-beside-requires
 beside-requires c κs =
-    let n = c .before .before .before .before in
-    let h = n .before .before .before .before in
-    let entry = h .before .before .before .before .before .before in
-    let s = entry .args in
-    let k = was-noted (s .first .now) (n .n .given .0 .0) (h .hear .last .1 .0) (h .hear .last .1 .1 .0) (h .hear .result)
-    (h .hear .ensures .0) (h .hear .ensures .1) (n .n .given .1) in
-    let h1 = n .before .before in
-    let h2 = h1 .before in
-    k .laid (omega (arith, h2 .events2 .given)) (omega (arith, h1 .bytes2 .given))
+    noted (c .before .before .before .before) .laid
 
 enum-known-why : tie.Need-enum-known-why
 enum-known-why c = search needs
@@ -75,20 +71,19 @@ returns : tie.Need-returns
 returns c =
     let d = c .before .before in
     let n = d .before .before .before .before .before in
-    let h = n .before .before .before .before in
-    let s = h .before .before .before .before .before .before .args in
-    let k = was-noted (s .first .now) (n .n .given .0 .0) (h .hear .last .1 .0) (h .hear .last .1 .1 .0) (h .hear .result)
-    (h .hear .ensures .0) (h .hear .ensures .1) (n .n .given .1) in
-    (d .beside .ensures ∙ first-noted (s .first .now) (s .second .now) (s .list .now) (n .n .given .0 .0) _ _ k, claims)
+    let s = n .before .before .before .before .before .before .before .before .before .before .args in
+    (d .beside .ensures ∙ first-noted (s .first .now) (s .second .now) (s .list .now) _ _ _ (noted n), claims)
 
 returns-2 : tie.Need-returns-2
 returns-2 c =
-    let n = c .before in
-    let h = n .before .before .before .before in
+    let why = c .before .why in
+    let bytes = c .before .before .before in
+    let events = bytes .before in
+    let h = events .before in
     let s = h .before .before .before .before .before .before .args in
-    let o = was-refused (s .first .now) (n .why .given .0 .0) (h .hear .last .1 .0) (h .hear .last .1 .1 .0) (h .hear .result)
-    (h .hear .ensures .0) (n .why .given .1) in
-    (first-over (s .first .now) (s .second .now) (s .list .now) (n .why .given .0 .0) o, claims)
+    let o = was-refused (s .first .now) (why .given .0 .0) (h .hear .last .1 .0) (h .hear .last .1 .1 .0)
+    (events .events2 .given) (bytes .bytes2 .given) (h .hear .result) (h .hear .ensures .0) (why .given .1) in
+    (first-over (s .first .now) (s .second .now) (s .list .now) _ o, claims)
 
 pub compare-spec : {M : Type 1} → statement M
 compare-spec =

@@ -1,28 +1,8 @@
 use Rattle.hearing.specs.Steps.{toldNoted}
+use Rattle.hearing.proofs.ToldLaws.{rows-stay}
 use borrow.Author.Needs.{needs}
 use Rattle.hearing.proofs.noting.told.Statement.{statement}
 use Rattle.hearing.proofs.noting.told.Tie as tie
-
-enum-told : tie.Need-enum-told
-enum-told c = search needs
-
-enum-told-2 : tie.Need-enum-told-2
-enum-told-2 c = search needs
-
-enum-told-3 : tie.Need-enum-told-3
-enum-told-3 c = search needs
-
-enum-told-4 : tie.Need-enum-told-4
-enum-told-4 c = search needs
-
-enum-told-5 : tie.Need-enum-told-5
-enum-told-5 c = search needs
-
-enum-told-6 : tie.Need-enum-told-6
-enum-told-6 c = search needs
-
-enum-told-7 : tie.Need-enum-told-7
-enum-told-7 c = search needs
 
 enum-known-told : tie.Need-enum-known-told
 enum-known-told c = search needs
@@ -30,102 +10,22 @@ enum-known-told c = search needs
 asked-requires : tie.Need-asked-requires
 asked-requires c κs = search needs
 
-enum-told-8 : tie.Need-enum-told-8
-enum-told-8 c = search needs
-
-enum-told-9 : tie.Need-enum-told-9
-enum-told-9 c = search needs
-
-enum-told-10 : tie.Need-enum-told-10
-enum-told-10 c = search needs
-
-enum-told-11 : tie.Need-enum-told-11
-enum-told-11 c = search needs
-
-returns : tie.Need-returns
-unfolding toldNoted
-returns c = rw (c .enum-told .given .1)
-
-returns-2 : tie.Need-returns-2
-unfolding toldNoted
-returns-2 c = rw (c .enum-told2 .given .1)
-
-returns-3 : tie.Need-returns-3
-unfolding toldNoted
-returns-3 c = rw (c .enum-told3 .given .1)
-
-returns-4 : tie.Need-returns-4
-unfolding toldNoted
-returns-4 c = rw (c .enum-told4 .given .1)
-
-returns-5 : tie.Need-returns-5
-unfolding toldNoted
-returns-5 c = rw (c .enum-told5 .given .1)
-
-returns-6 : tie.Need-returns-6
-unfolding toldNoted
-returns-6 c = rw (c .enum-told6 .given .1)
-
-returns-7 : tie.Need-returns-7
-unfolding toldNoted
-returns-7 c = rw (c .enum-told7 .given .1)
-
 same-length : tie.Need-same-length
 same-length c = search needs
 
 same-length-2 : tie.Need-same-length-2
 same-length-2 c = search needs
 
-returns-8 : tie.Need-returns-8
+returns : tie.Need-returns
 unfolding toldNoted
-returns-8 c =
+returns c =
     let asked = c .before .before .before .before in
     rw (asked .before .before .before .before .told .given .1, ← asked .asked .ensures)
 
-returns-9 : tie.Need-returns-9
-unfolding toldNoted
-returns-9 c = rw (c .enum-told8 .given .1)
-
-returns-10 : tie.Need-returns-10
-unfolding toldNoted
-returns-10 c = rw (c .enum-told9 .given .1)
-
-returns-11 : tie.Need-returns-11
-unfolding toldNoted
-returns-11 c = rw (c .enum-told10 .given .1)
-
-returns-12 : tie.Need-returns-12
-unfolding toldNoted
-returns-12 c = rw (c .enum-told11 .given .1)
+returns-2 : tie.Need-returns-2
+returns-2 c =
+    let a = c .before .before .before .before .args in
+    rows-stay (a .command) (a .from) (a .rows) (a .scratch .now) (a .events .now) (a .bytes .now) (a .told) (c .match .keys2)
 
 pub told-spec : {M : Type 1} → statement M
-told-spec =
-    tie.close
-    (tie.spec
-    enum-told
-    enum-told-2
-    enum-told-3
-    enum-told-4
-    enum-told-5
-    enum-told-6
-    enum-told-7
-    enum-known-told
-    asked-requires
-    enum-told-8
-    enum-told-9
-    enum-told-10
-    enum-told-11
-    returns
-    returns-2
-    returns-3
-    returns-4
-    returns-5
-    returns-6
-    returns-7
-    same-length
-    same-length-2
-    returns-8
-    returns-9
-    returns-10
-    returns-11
-    returns-12)
+told-spec = tie.close (tie.spec enum-known-told asked-requires same-length same-length-2 returns returns-2)
