@@ -3,6 +3,7 @@
 use crate::arguments;
 use crate::course;
 use crate::course::Course;
+use crate::notes;
 use crate::report;
 use command::Command;
 use command_writer::framed::FRAME_ROOM;
@@ -19,21 +20,7 @@ pub(crate) fn send() -> Course {
     let n = arguments::read(0, arguments::SESSION, &mut id);
     let mut out = [0u8; FRAME_ROOM];
     let wrote = sender::send(Sender::fresh(), octets::part(&id, 0, n), &mut out);
-    let course = Course {
-        sender: Sender::fresh(),
-        files: [0; Transfer::FILES],
-        is_said: [false; Transfer::FILES],
-        is_whole: [false; Transfer::FILES],
-        current: 0,
-        size: 0,
-        piece: 0,
-        at: 0,
-        end: 0,
-        is_answered: true,
-        is_going: true,
-        tried: 0,
-    };
-    put(course, wrote, &out, report::NO_FILE, true)
+    after(course::fresh(), wrote, &out, report::NO_FILE, true)
 }
 
 // The file of number k among the arguments, its first piece of so many bytes. Its id is the number of file
@@ -41,6 +28,7 @@ pub(crate) fn send() -> Course {
 pub(crate) fn file(course: Course, k: usize, size: u64, piece: usize) -> Course {
     let sender = course.sender;
     let transfer = sender.transfer;
+    let notes = course.notes;
     let place = least(transfer.count, Transfer::FILES);
     let mut id = [0u8; 20];
     let digits = io::decimal(1 + place as u64, &mut id);
@@ -58,19 +46,18 @@ pub(crate) fn file(course: Course, k: usize, size: u64, piece: usize) -> Course 
     next.current = place;
     next.size = size;
     next.piece = piece;
-    if place < Transfer::FILES {
-        next.files[place] = k;
-    }
-    put(next, wrote, &out, k, false)
+    next.notes = notes::begun(notes, place, k);
+    after(next, wrote, &out, k, false)
 }
 
 // The next piece of the current file.
 pub(crate) fn piece(course: Course, bytes: &[u8], is_last: bool) -> Course {
     let sender = course.sender;
+    let notes = course.notes;
     let mut out = [0u8; FRAME_ROOM];
     let wrote = sender::piece(sender, bytes, is_last, &mut out);
-    let k = course::number_at(course, course.current);
-    put(course, wrote, &out, k, true)
+    let k = notes::number_at(notes, course.current);
+    after(course, wrote, &out, k, true)
 }
 
 // The session ends, if it goes on.
@@ -81,31 +68,45 @@ pub(crate) fn finish(course: Course) -> Course {
     let sender = course.sender;
     let mut out = [0u8; FRAME_ROOM];
     let wrote = sender::finish(sender, &mut out);
-    put(course, wrote, &out, report::NO_FILE, true)
+    after(course, wrote, &out, report::NO_FILE, true)
 }
 
-// What a call answered: its frame, at the start of out, is written; or its refusal is said, of a file or
-// the session, and may end the session.
-fn put(course: Course, wrote: Wrote, out: &[u8], file: usize, is_end: bool) -> Course {
+// After a call, of a file or the session: what it answered is put out, and a refusal waits for no answer.
+fn after(course: Course, wrote: Wrote, out: &[u8], file: usize, is_end: bool) -> Course {
     let sender = wrote.sender;
     let writing = wrote.writing;
     let mut next = course;
+    next.sender = sender;
+    next.is_answered = is_refused(writing);
+    next.is_going = put(writing, out, file, is_end);
+    next
+}
+
+fn is_refused(writing: Writing) -> bool {
+    match writing {
+        Writing::Refused(_) => true,
+        Writing::Written(_) => false,
+    }
+}
+
+// Writes the frame at the start of out, or says the refusal, which may end the session. Answers whether
+// the session goes on.
+fn put(writing: Writing, out: &[u8], file: usize, is_end: bool) -> bool {
     match writing {
         Writing::Refused(n) => {
             report::counted(b"refused ", n as u64, file);
-            next.is_answered = true;
-            next.is_going = !is_end;
-            next
+            !is_end
         }
-        Writing::Written(n) => {
-            next.sender = sender;
-            next.is_answered = false;
-            let run = Run::Well.text(octets::part(out, 0, n));
-            if run.is_well() {
-                next
-            } else {
-                course::ended(next, run)
-            }
-        }
+        Writing::Written(n) => write(octets::part(out, 0, n)),
     }
+}
+
+// Whether the bytes were written; where not, that is said.
+fn write(bytes: &[u8]) -> bool {
+    let run = Run::Well.text(bytes);
+    if run.is_well() {
+        return true;
+    }
+    report::ended(run);
+    false
 }

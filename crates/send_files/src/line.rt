@@ -1,11 +1,12 @@
 // The replies, from standard input.
 use crate::course;
 use crate::course::Course;
+use crate::news;
+use crate::notes;
 use crate::report;
 use command::Command;
-use command::Place;
-use decimal::Number;
 use octets::size::less;
+use sender_status::files::file_at;
 use sending::News;
 use streams::Got;
 use streams::Run;
@@ -31,16 +32,24 @@ fn turn(course: Course, input: &mut [u8], carry: &mut [u8]) -> Course {
     if course.at < course.end {
         return hear(course, input, carry);
     }
-    let Got::Bytes(n) = streams::read(input) else {
-        return course::ended(course, Run::NotRead);
-    };
-    if n == 0 {
-        return course::ended(course, Run::Well);
-    }
+    let n = read(input);
     let mut next = course;
     next.at = 0;
     next.end = n;
+    next.is_going = n > 0;
     next
+}
+
+// How many bytes were read, and 0 where the line ended, which is said.
+fn read(input: &mut [u8]) -> usize {
+    let Got::Bytes(n) = streams::read(input) else {
+        report::ended(Run::NotRead);
+        return 0;
+    };
+    if n == 0 {
+        report::ended(Run::Well);
+    }
+    n
 }
 
 // What of a piece is not consumed stands at its end.
@@ -50,54 +59,32 @@ fn hear(course: Course, input: &[u8], carry: &mut [u8]) -> Course {
     let piece = octets::part(input, at, less(course.end, at));
     let mut scratch = [0u8; Command::SCRATCH_ROOM];
     let heard = sender::hear(sender, piece, carry, &mut scratch);
-    if heard.consumed == 0 {
-        return course::ended(course, Run::Stuck);
-    }
     let after = heard.sender;
     let news = heard.news;
     let mut next = course;
+    if heard.consumed == 0 {
+        report::ended(Run::Stuck);
+        next.is_going = false;
+        return next;
+    }
     next.sender = after;
     next.at = less(course.end, less(piece.len(), heard.consumed));
     heed(next, news, &scratch)
 }
 
-// What is told is said, where it is bad news. Only a status of the session answers a command.
+// What is told is said, where it is bad news, and noted.
 fn heed(course: Course, news: News, scratch: &[u8]) -> Course {
-    match news {
-        News::Nothing => course,
-        News::Refused(_) => course,
-        News::Ignored => course,
-        News::Noted => answered(course),
-        News::Allowed => answered(course),
-        News::Differs(i, size) => differs(course, i, size),
-        News::FileStopped(i, place) => file_stopped(course, i, place, scratch),
-        News::SessionStopped(place) => session_stopped(course, place, scratch),
+    let sender = course.sender;
+    let transfer = sender.transfer;
+    let notes = course.notes;
+    let i = news::place(news);
+    let file = file_at(transfer, i);
+    news::tell(news, file.sent, notes::number_at(notes, i), scratch);
+    let mut next = course;
+    next.notes = notes::said(notes, i, false);
+    if news::is_answer(news) {
+        next.is_answered = true;
     }
-}
-
-fn answered(course: Course) -> Course {
-    let mut next = course;
-    next.is_answered = true;
-    next
-}
-
-fn differs(course: Course, i: usize, size: Number) -> Course {
-    let file = course::file_at(course, i);
-    report::differs(file.sent, size, course::number_at(course, i));
-    answered(course::said(course, i, false))
-}
-
-// The status stands in the scratch.
-fn file_stopped(course: Course, i: usize, place: Place, scratch: &[u8]) -> Course {
-    let status = octets::part(scratch, place.start, place.len);
-    report::stopped(status, course::number_at(course, i));
-    answered(course::said(course, i, false))
-}
-
-fn session_stopped(course: Course, place: Place, scratch: &[u8]) -> Course {
-    let status = octets::part(scratch, place.start, place.len);
-    report::stopped(status, report::NO_FILE);
-    let mut next = course;
-    next.is_going = false;
+    next.is_going = !news::is_stop(news);
     next
 }

@@ -6,6 +6,8 @@ mod arguments;
 mod commands;
 mod course;
 mod line;
+mod news;
+mod notes;
 mod office;
 mod report;
 mod source;

@@ -6,6 +6,7 @@ use command::letters;
 use command::letters::Class;
 use decimal::Number;
 use libc::STDERR_FILENO;
+use streams::Run;
 
 // In the place of a file's number: a line of the session.
 pub(crate) const NO_FILE: usize = 18446744073709551615;
@@ -53,6 +54,12 @@ pub(crate) fn last(whole: usize, files: usize) {
     io::print_decimal(STDERR_FILENO, files as u64);
     io::write_all(STDERR_FILENO, b" files whole");
     end(NO_FILE, true);
+}
+
+// The line ended, or a read or a write of it failed: nothing more is written.
+pub(crate) fn ended(run: Run) {
+    run.end(b"send_files");
+    plain(b"line ended", NO_FILE);
 }
 
 // The line that is written over, on a terminal alone. A size of 0 is one that is not known.

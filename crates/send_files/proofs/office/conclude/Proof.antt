@@ -6,13 +6,10 @@ use Rattle.send_files.proofs.office.conclude.Statement.{statement}
 use Rattle.send_files.proofs.office.conclude.Tie as tie
 
 abbrev Inv-loop : tie.InvT-loop
-Inv-loop course files whole k₀ t5 t6 t7 k = (6 ≡ length t5) × (79 ≡ length t6) × (18 ≡ length t7)
+Inv-loop whole tried files finished k₀ t5 t6 t7 k = (6 ≡ length t5) × (79 ≡ length t6) × (18 ≡ length t7)
 
 abbrev μ-loop : tie.MeasureT-loop
-μ-loop course files whole k₀ t5 t6 t7 k = files - k
-
-settle-all-requires : tie.Need-settle-all-requires Inv-loop μ-loop
-settle-all-requires c κs = search needs
+μ-loop whole tried files finished k₀ t5 t6 t7 k = files - k
 
 loop-holds : tie.Need-loop-holds Inv-loop μ-loop
 loop-holds c = search needs
@@ -56,7 +53,6 @@ conclude-spec =
     (tie.spec
     Inv-loop
     μ-loop
-    settle-all-requires
     loop-holds
     slice-aggregate-plain
     plain-requires

@@ -1,16 +1,22 @@
 use Prim.Native.Nat.{_-_, _≤_}
 use borrow.Author.Needs.{needs}
-use Rattle.send_files.proofs.course.settle_all.Statement.{statement}
-use Rattle.send_files.proofs.course.settle_all.Tie as tie
+use Rattle.send_files.proofs.notes.settle_all.Statement.{statement}
+use Rattle.send_files.proofs.notes.settle_all.Tie as tie
 
 abbrev Inv-loop : tie.InvT-loop
-Inv-loop next₀ whole₀ i₀ next whole i = whole ≤ i
+Inv-loop files next₀ whole₀ i₀ next whole i = whole ≤ i
 
 abbrev μ-loop : tie.MeasureT-loop
-μ-loop next₀ whole₀ i₀ next whole i = 32 - i
+μ-loop files next₀ whole₀ i₀ next whole i = 32 - i
 
 loop-holds : tie.Need-loop-holds Inv-loop μ-loop
 loop-holds c = search needs
+
+mul-settle : tie.Need-mul-settle Inv-loop μ-loop
+mul-settle c = search needs
+
+array-copy-out-settle : tie.Need-array-copy-out-settle Inv-loop μ-loop
+array-copy-out-settle c = search needs
 
 settle-requires : tie.Need-settle-requires Inv-loop μ-loop
 settle-requires c κs = search needs
@@ -43,6 +49,8 @@ settle-all-spec =
     Inv-loop
     μ-loop
     loop-holds
+    mul-settle
+    array-copy-out-settle
     settle-requires
     element-copy-out-one-if
     one-if-requires
