@@ -1,192 +1,215 @@
-// The console's state between the calls of a script, and each operation.
+// The console's state between the operations of a script, and each operation.
 use crate::Calls;
+use crate::lending;
 use crate::line;
-use crate::script;
+use crate::script::after;
 use crate::supplies;
 use command::Command;
+use command::Place;
 use command_writer::framed::FRAME_ROOM;
 use frames::Framing;
 use frames::Report;
 use octets::size::least;
 use octets::size::less;
-use protocol::Answered;
-use protocol::Failure;
-use protocol::Fed;
 use protocol::Found;
 use protocol::Receiver;
 use protocol::Reply;
-use receiver_in_place::Call;
+use protocol::Session;
+use protocol::Table;
+use protocol::Told;
+use script_parts::byte;
+use script_parts::two_bytes;
 use sessions::find::find_session;
 use sessions::places::session_at;
 use streams::Run;
 
-// How the run stands, which calls are made, the receiver, how much of each buffer is lent, and the latest
-// feed: its piece's place in the script and its report.
-pub struct Console {
-    pub run: Run,
-    pub calls: Calls,
-    pub receiver: Receiver,
+// Each buffer is longer than a call needs.
+pub(crate) const CARRY: usize = Framing::TEXT_LIMIT + 64;
+
+pub(crate) const SCRATCH: usize = Command::SCRATCH_ROOM + 64;
+
+pub(crate) const REPLY: usize = Reply::ROOM + 68;
+
+pub(crate) const OUT: usize = FRAME_ROOM + 60;
+
+// The buffers go from hand to hand by value and are lent where a call is made: each function on the way
+// that lends four slices further would cost the prover more than all that it does.
+pub struct Buffers {
+    pub carry: [u8; CARRY],
+    pub scratch: [u8; SCRATCH],
+    pub reply: [u8; REPLY],
+    pub out: [u8; OUT],
+}
+
+// How many bytes of each buffer are lent, from its start.
+pub struct Lent {
     pub carry: usize,
     pub scratch: usize,
     pub reply: usize,
     pub out: usize,
-    pub piece: usize,
-    pub piece_len: usize,
+}
+
+// The latest feed: its piece's place in the script, and its report.
+pub struct Latest {
+    pub piece: Place,
     pub report: Report,
 }
 
-impl Console {
-    // Each buffer is longer than a call needs.
-    pub const CARRY: usize = Framing::TEXT_LIMIT + 64;
-
-    pub const SCRATCH: usize = Command::SCRATCH_ROOM + 64;
-
-    pub const REPLY: usize = Reply::ROOM + 68;
-
-    pub const OUT: usize = FRAME_ROOM + 60;
+// How the run stands, which calls are made, and what the calls so far have left.
+pub struct Console {
+    pub run: Run,
+    pub calls: Calls,
+    pub receiver: Receiver,
+    pub buffers: Buffers,
+    pub lent: Lent,
+    pub latest: Latest,
 }
 
-// A fresh receiver, every buffer lent whole, no feed made yet.
+// What a call answers: the bytes consumed, what is told, the place of the command's name, the report, and
+// how many bytes were written. Only a feed consumes, reads a command and reports.
+pub struct Answer {
+    pub consumed: usize,
+    pub told: Told,
+    pub name: Place,
+    pub report: Report,
+    pub written: usize,
+}
+
+// What a call leaves.
+pub struct Called {
+    pub receiver: Receiver,
+    pub buffers: Buffers,
+    pub answer: Answer,
+}
+
+// A fresh receiver, every buffer as at first and lent whole, no feed made yet.
 pub(crate) fn fresh(run: Run, calls: Calls) -> Console {
     Console {
         run: run,
         calls: calls,
         receiver: Receiver::fresh(),
-        carry: Console::CARRY,
-        scratch: Console::SCRATCH,
-        reply: Console::REPLY,
-        out: Console::OUT,
-        piece: 0,
-        piece_len: 0,
-        report: Report::Nothing,
+        buffers: Buffers {
+            carry: [0xA5; CARRY],
+            scratch: [0xA5; SCRATCH],
+            reply: [0xA5; REPLY],
+            out: [0xA5; OUT],
+        },
+        lent: Lent {
+            carry: CARRY,
+            scratch: SCRATCH,
+            reply: REPLY,
+            out: OUT,
+        },
+        latest: Latest {
+            piece: Place::NOWHERE,
+            report: Report::Nothing,
+        },
     }
 }
 
 // The operation of n bytes at a place of the script.
-pub(crate) fn perform(
-    console: Console,
-    bytes: &[u8],
-    at: usize,
-    n: usize,
-    carry: &mut [u8],
-    scratch: &mut [u8],
-    reply: &mut [u8],
-    out: &mut [u8],
-) -> Console {
-    let letter = script::byte(bytes, at);
+pub(crate) fn perform(console: Console, bytes: &[u8], at: usize, n: usize) -> Console {
+    let operation = octets::part(bytes, at, n);
+    let letter = byte(operation, 0);
     let run = console.run;
     let calls = console.calls;
     match letter {
-        b'n' => anew(run, calls, carry, scratch, reply, out),
-        b'l' | b'g' | b'h' | b'p' | b'z' => supplies::supply(
-            console,
-            bytes,
-            at,
-            carry,
-            scratch,
-            reply,
-            out,
-        ),
-        _ => perform_other(console, bytes, at, n, carry, scratch, reply),
+        b'n' => fresh(run, calls),
+        b'c' | b's' | b'r' | b'o' => lend(console, letter, two_bytes(operation, 1)),
+        b't' | b'y' => print(console, letter, bytes, operation),
+        b'f' => feed(console, bytes, after(at, 3), less(n, 3)),
+        b'l' | b'g' | b'h' | b'p' | b'z' => supply(console, letter, operation),
+        _ => call(console, letter, operation),
     }
 }
 
-// An operation that does not touch the buffer out.
-fn perform_other(
-    console: Console,
-    bytes: &[u8],
-    at: usize,
-    n: usize,
-    carry: &mut [u8],
-    scratch: &mut [u8],
-    reply: &mut [u8],
-) -> Console {
-    let letter = script::byte(bytes, at);
-    match letter {
-        b'f' => feed(console, bytes, at, n, carry, scratch, reply),
-        b't' => text(console, bytes, carry),
-        b'y' => numbers(console, octets::part(bytes, at, n)),
-        b'c' | b's' | b'r' | b'o' => lend(console, letter, script::number(bytes, at, 1)),
-        _ => call(console, octets::part(bytes, at, n), carry, scratch, reply),
-    }
-}
-
-// One feed of the operation's piece, once.
-fn feed(
-    console: Console,
-    bytes: &[u8],
-    at: usize,
-    n: usize,
-    carry: &mut [u8],
-    scratch: &mut [u8],
-    reply: &mut [u8],
-) -> Console {
+// ---- Calls.
+// One feed of the script's piece at a place.
+fn feed(console: Console, bytes: &[u8], start: usize, len: usize) -> Console {
     let run = console.run;
-    let start = within(at, 3, bytes.len());
-    let len = less(n, 3);
-    let piece = octets::part(bytes, start, len);
-    let fed = feed_lent(console, piece, carry, scratch, reply);
-    let told = fed.told;
-    let command = fed.command;
-    let name = command.name;
-    let sent = octets::part(reply, 0, fed.reply_len);
-    let called = line::feed(run, fed.consumed, told, name, sent);
-    let next = fed.receiver;
-    let report = fed.report;
-    Console {
-        run: line::end(line::sums(called, carry, scratch, reply)),
-        receiver: next,
-        piece: start,
-        piece_len: len,
-        report: report,
-        ..console
-    }
-}
-
-// A feed that is lent the first bytes of each buffer.
-fn feed_lent(
-    console: Console,
-    piece: &[u8],
-    carry: &mut [u8],
-    scratch: &mut [u8],
-    reply: &mut [u8],
-) -> Fed {
     let calls = console.calls;
     let receiver = console.receiver;
-    let c = least(console.carry, carry.len());
-    let s = least(console.scratch, scratch.len());
-    let r = least(console.reply, reply.len());
-    calls.feed(
-        receiver,
-        piece,
-        &mut carry[..c],
-        &mut scratch[..s],
-        &mut reply[..r],
+    let buffers = console.buffers;
+    let lent = console.lent;
+    let piece = octets::part(bytes, start, len);
+    let called = lending::feed(calls, receiver, buffers, lent, piece);
+    let answer = called.answer;
+    let after = called.buffers;
+    let report = answer.report;
+    let latest = Latest {
+        piece: Place {
+            start: start,
+            len: len,
+        },
+        report: report,
+    };
+    next(
+        console,
+        called,
+        latest,
+        line::replied(run, b'f', answer, after),
     )
 }
 
-// The text of the latest feed's report, given that feed's piece and the carry as lent now.
-fn text(console: Console, bytes: &[u8], carry: &mut [u8]) -> Console {
+// Allow, deny, drop, done, failed or unlisted, which print alike.
+fn call(console: Console, letter: u8, operation: &[u8]) -> Console {
     let run = console.run;
-    let report = console.report;
-    let c = least(console.carry, carry.len());
-    let piece = octets::part(bytes, console.piece, console.piece_len);
-    let text = frames::text(piece, octets::part(carry, 0, c), report);
+    let calls = console.calls;
+    let receiver = console.receiver;
+    let buffers = console.buffers;
+    let lent = console.lent;
+    let latest = console.latest;
+    let called = lending::answer(calls, receiver, buffers, lent.reply, operation);
+    let answer = called.answer;
+    let after = called.buffers;
+    next(
+        console,
+        called,
+        latest,
+        line::replied(run, letter, answer, after),
+    )
+}
+
+// List, list_failed, home, part or last_part, which print alike.
+fn supply(console: Console, letter: u8, operation: &[u8]) -> Console {
+    let run = console.run;
+    let calls = console.calls;
+    let receiver = console.receiver;
+    let buffers = console.buffers;
+    let lent = console.lent;
+    let latest = console.latest;
+    let called = supplies::supply(calls, receiver, buffers, lent.out, operation);
+    let answer = called.answer;
+    let after = called.buffers;
+    next(
+        console,
+        called,
+        latest,
+        line::supplied(run, letter, answer, after),
+    )
+}
+
+// The console after a call whose line is printed.
+fn next(console: Console, called: Called, latest: Latest, run: Run) -> Console {
+    let receiver = called.receiver;
+    let buffers = called.buffers;
     Console {
-        run: line::text(run, text),
+        run: run,
+        receiver: receiver,
+        buffers: buffers,
+        latest: latest,
         ..console
     }
 }
 
-// The numbers kept in the session with the operation's id. No call is made.
-fn numbers(console: Console, operation: &[u8]) -> Console {
+// ---- What is printed without a call.
+fn print(console: Console, letter: u8, bytes: &[u8], operation: &[u8]) -> Console {
     let run = console.run;
     let receiver = console.receiver;
     let table = receiver.table;
-    let id = octets::part(operation, 2, less(operation.len(), 2));
-    let printed = match find_session(table, id) {
-        Found::Nowhere => line::no_numbers(run),
-        Found::At(i) => line::numbers(run, session_at(table, i)),
+    let printed = match letter {
+        b't' => text(console, bytes),
+        _ => numbers(run, table, id_of(operation)),
     };
     Console {
         run: printed,
@@ -194,112 +217,65 @@ fn numbers(console: Console, operation: &[u8]) -> Console {
     }
 }
 
-// Starts anew: a fresh receiver, and the buffers as at first.
-fn anew(
-    run: Run,
-    calls: Calls,
-    carry: &mut [u8],
-    scratch: &mut [u8],
-    reply: &mut [u8],
-    out: &mut [u8],
-) -> Console {
-    fill(carry);
-    fill(scratch);
-    fill(reply);
-    fill(out);
-    fresh(run, calls)
-}
-
-fn fill(buffer: &mut [u8]) {
-    let mut i = 0;
-    while i < buffer.len() {
-        buffer[i] = 0xA5;
-        i += 1;
-    }
-}
-
-// From now on only the first n bytes of a buffer are lent.
-fn lend(console: Console, letter: u8, n: usize) -> Console {
-    Console {
-        carry: if letter == b'c' {
-            least(n, Console::CARRY)
-        } else {
-            console.carry
-        },
-        scratch: if letter == b's' {
-            least(n, Console::SCRATCH)
-        } else {
-            console.scratch
-        },
-        reply: if letter == b'r' {
-            least(n, Console::REPLY)
-        } else {
-            console.reply
-        },
-        out: if letter == b'o' {
-            least(n, Console::OUT)
-        } else {
-            console.out
-        },
-        ..console
-    }
-}
-
-// Allow, deny, drop, done, failed or unlisted, which print alike.
-fn call<'a>(
-    console: Console,
-    operation: &[u8],
-    carry: &'a [u8],
-    scratch: &'a [u8],
-    reply: &mut [u8],
-) -> Console {
+// The text of the latest feed's report, given that feed's piece and the carry as lent now.
+fn text(console: Console, bytes: &[u8]) -> Run {
     let run = console.run;
-    let letter = script::byte(operation, 0);
-    let answered = call_lent(console, operation, reply);
-    let told = answered.told;
-    let sent = octets::part(reply, 0, answered.reply_len);
-    let called = line::call(run, letter, told, sent);
-    let next = answered.receiver;
+    let latest = console.latest;
+    let report = latest.report;
+    let place = latest.piece;
+    let piece = octets::part(bytes, place.start, place.len);
+    let buffers = console.buffers;
+    let carry = buffers.carry;
+    let lent = console.lent;
+    line::text(
+        run,
+        frames::text(piece, octets::part(&carry, 0, lent.carry), report),
+    )
+}
+
+// The numbers kept in the session with this id.
+fn numbers(run: Run, table: Table, id: &[u8]) -> Run {
+    match find_session(table, id) {
+        Found::Nowhere => line::no_numbers(run),
+        Found::At(i) => numbers_of(run, session_at(table, i)),
+    }
+}
+
+fn numbers_of(run: Run, session: Session) -> Run {
+    line::numbers(run, session.started as usize, session.done_bytes as usize)
+}
+
+// The id of an operation that has nothing else.
+pub(crate) fn id_of(operation: &[u8]) -> &[u8] {
+    octets::part(operation, 2, less(operation.len(), 2))
+}
+
+// ---- From now on only the first n bytes of a buffer are lent.
+fn lend(console: Console, letter: u8, n: usize) -> Console {
+    let lent = console.lent;
     Console {
-        run: line::end(line::sums(called, carry, scratch, reply)),
-        receiver: next,
+        lent: lent_anew(lent, letter, n),
         ..console
     }
 }
 
-// A call that is lent the first bytes of the reply buffer.
-fn call_lent(console: Console, operation: &[u8], reply: &mut [u8]) -> Answered {
-    let calls = console.calls;
-    let receiver = console.receiver;
-    let call = call_of(operation);
-    let id = octets::part(operation, 2, less(operation.len(), 2));
-    let r = least(console.reply, reply.len());
-    calls.answer(receiver, call, id, &mut reply[..r])
-}
-
-// The call that an operation's letter stands for.
-fn call_of(operation: &[u8]) -> Call {
-    let letter = script::byte(operation, 0);
+fn lent_anew(lent: Lent, letter: u8, n: usize) -> Lent {
     match letter {
-        b'a' => Call::Allow,
-        b'd' => Call::Deny,
-        b'x' => Call::Drop,
-        b'k' => Call::Done,
-        b'u' => Call::Unlisted,
-        _ => Call::Failed(failure(script::byte(operation, 1))),
+        b'c' => Lent {
+            carry: least(n, CARRY),
+            ..lent
+        },
+        b's' => Lent {
+            scratch: least(n, SCRATCH),
+            ..lent
+        },
+        b'r' => Lent {
+            reply: least(n, REPLY),
+            ..lent
+        },
+        _ => Lent {
+            out: least(n, OUT),
+            ..lent
+        },
     }
-}
-
-pub(crate) fn failure(code: u8) -> Failure {
-    match code {
-        1 => Failure::Eperm,
-        2 => Failure::Eio,
-        3 => Failure::Enoent,
-        _ => Failure::Enospc,
-    }
-}
-
-// The place k after another, if it is within the first n.
-fn within(at: usize, k: usize, n: usize) -> usize {
-    if octets::fits(at, k, n) { at + k } else { n }
 }

@@ -2,17 +2,16 @@
 // every answer and what became of every lent buffer.
 mod answers;
 mod console;
+mod lending;
 mod line;
 mod operands;
 mod script;
 mod supplies;
 
-use console::Console;
+use script_parts::SCRIPT_LIMIT;
+use script_parts::bad_script;
 use streams::Got;
 use streams::Run;
-
-// How many bytes a script has at most.
-const SCRIPT_LIMIT: usize = 65536;
 
 // Which calls are made: on a receiver that is taken and given by value, or on one that is lent and
 // changed in place.
@@ -33,12 +32,8 @@ pub fn run(calls: Calls) -> Run {
 // Makes the script's calls one after another, until something fails.
 fn play(calls: Calls, bytes: &[u8]) -> Run {
     if bytes.len() > SCRIPT_LIMIT {
-        return line::bad_script(Run::Well);
+        return bad_script(Run::Well);
     }
-    let mut carry = [0xA5u8; Console::CARRY];
-    let mut scratch = [0xA5u8; Console::SCRATCH];
-    let mut reply = [0xA5u8; Console::REPLY];
-    let mut out = [0xA5u8; Console::OUT];
     let mut state = console::fresh(Run::Well, calls);
     let mut at = 0;
     while at < bytes.len() {
@@ -48,18 +43,9 @@ fn play(calls: Calls, bytes: &[u8]) -> Run {
         }
         let n = script::operation_length(bytes, at);
         if n == 0 {
-            return line::bad_script(run);
+            return bad_script(run);
         }
-        state = console::perform(
-            state,
-            bytes,
-            at,
-            n,
-            &mut carry,
-            &mut scratch,
-            &mut reply,
-            &mut out,
-        );
+        state = console::perform(state, bytes, at, n);
         at += n;
     }
     state.run

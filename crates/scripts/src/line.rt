@@ -1,152 +1,163 @@
-// The lines that are printed.
-use crate::script::wide;
+// The lines that are printed. The words of an enum stand in one text, in the order of its variants: an arm
+// for each that prints a word of its own would cost the prover far more.
+use crate::console::Answer;
+use crate::console::Buffers;
 use command::Place;
+use command::words;
 use protocol::Ask;
-use protocol::Session;
 use protocol::Status;
 use protocol::Told;
+use script_parts::sum;
 use streams::Run;
 
-// A feed: its letter, the refusal's number, the bytes consumed, what is told, with the place of the
-// command's name, and the reply.
-pub(crate) fn feed(run: Run, consumed: usize, told: Told, name: Place, reply: &[u8]) -> Run {
-    let numbered = run.text(b"f ").number(refusal(told));
-    let counted = numbered.text(b" ").number(consumed).text(b" ");
-    hex(tell(counted, told, name).text(b" "), reply)
+// ---- Calls.
+// A call that writes to the reply buffer.
+pub(crate) fn replied(run: Run, letter: u8, answer: Answer, buffers: Buffers) -> Run {
+    let reply = buffers.reply;
+    let written = octets::part(&reply, 0, answer.written);
+    end(sums(call(run, letter, answer, written), buffers))
 }
 
-// Another call: it consumes nothing and reads no command, and writes a reply or a frame.
-pub(crate) fn call(run: Run, letter: u8, told: Told, written: &[u8]) -> Run {
-    let numbered = run.text(&[letter]).text(b" ").number(refusal(told));
-    hex(
-        tell(numbered.text(b" 0 "), told, Place::NOWHERE).text(b" "),
-        written,
-    )
+// A call that writes to the buffer out, whose sum is one more.
+pub(crate) fn supplied(run: Run, letter: u8, answer: Answer, buffers: Buffers) -> Run {
+    let out = buffers.out;
+    let written = octets::part(&out, 0, answer.written);
+    let summed = sums(call(run, letter, answer, written), buffers);
+    end(number(summed, sum(&out)))
+}
+
+// The letter, the refusal's number, the bytes consumed, what is told, and what was written.
+fn call(run: Run, letter: u8, answer: Answer, written: &[u8]) -> Run {
+    let told = answer.told;
+    let name = answer.name;
+    let numbered = number(run.text(&[letter]), refusal(told));
+    let counted = number(numbered, answer.consumed).text(b" ");
+    hex(tell(counted, told, name).text(b" "), written)
 }
 
 fn refusal(told: Told) -> usize {
     match told {
         Told::Refused(n) => n as usize,
-        Told::Nothing => 0,
-        Told::Ignored => 0,
-        Told::Asked => 0,
-        Told::Naming => 0,
-        Told::Path => 0,
-        Told::LastPath => 0,
-        Told::Ask(_) => 0,
-        Told::Status(_) => 0,
-        Told::Withdrawn => 0,
-        Told::Discarded => 0,
-        Told::Committed => 0,
-    }
-}
-
-// What is told of a command whose name has this place.
-fn tell(run: Run, told: Told, name: Place) -> Run {
-    match told {
-        Told::Nothing => run.text(b"none"),
-        Told::Refused(_) => run.text(b"none"),
-        Told::Ignored => run.text(b"ignored"),
-        Told::Asked => run.text(b"asked"),
-        Told::Naming => run.text(b"naming"),
-        Told::Path => place(run, b"path:", name),
-        Told::LastPath => place(run, b"lastpath:", name),
-        Told::Ask(ask) => ask_told(run, ask, name),
-        Told::Status(status) => status_told(run, status),
-        Told::Withdrawn => run.text(b"withdrawn"),
-        Told::Discarded => run.text(b"discarded"),
-        Told::Committed => run.text(b"committed"),
-    }
-}
-
-fn ask_told(run: Run, ask: Ask, name: Place) -> Run {
-    match ask {
-        Ask::Open => run.text(b"open"),
-        Ask::Write(part) => place(run, b"write:", part),
-        Ask::WriteLast(part) => place(run, b"last:", part),
-        Ask::Commit => run.text(b"commit"),
-        Ask::Request => place(run, b"request:", name),
-    }
-}
-
-// The start of an empty part or name is open, and printed as 0.
-fn place(run: Run, label: &[u8], part: Place) -> Run {
-    let start = if part.len == 0 { 0 } else { part.start };
-    run.text(label).number(start).text(b":").number(part.len)
-}
-
-fn status_told(before: Run, status: Status) -> Run {
-    let run = before.text(b"status:");
-    match status {
-        Status::Ok => run.text(b"OK"),
-        Status::Started => run.text(b"STARTED"),
-        Status::Progress => run.text(b"PROGRESS"),
-        Status::Canceled => run.text(b"CANCELED"),
-        Status::Eperm => run.text(b"EPERM"),
-        Status::Eio => run.text(b"EIO"),
-        Status::Enoent => run.text(b"ENOENT"),
-        Status::Enospc => run.text(b"ENOSPC"),
-        Status::Ebusy => run.text(b"EBUSY"),
-        Status::Enotsup => run.text(b"ENOTSUP"),
-        Status::Einval => run.text(b"EINVAL"),
-        Status::Eexist => run.text(b"EEXIST"),
-        Status::Emfile => run.text(b"EMFILE"),
-        Status::Efbig => run.text(b"EFBIG"),
+        _ => 0,
     }
 }
 
 // The sums of the whole buffers that every call prints.
-pub(crate) fn sums<'a>(run: Run, carry: &'a [u8], scratch: &'a [u8], reply: &'a [u8]) -> Run {
-    let two = run.text(b" ")
-        .number(sum(carry))
-        .text(b" ")
-        .number(sum(scratch));
-    two.text(b" ").number(sum(reply))
+fn sums(run: Run, buffers: Buffers) -> Run {
+    let carry = buffers.carry;
+    let scratch = buffers.scratch;
+    let reply = buffers.reply;
+    number(number(number(run, sum(&carry)), sum(&scratch)), sum(&reply))
 }
 
-// The sum of one more buffer.
-pub(crate) fn sum_of_out(run: Run, out: &[u8]) -> Run {
-    run.text(b" ").number(sum(out))
+// ---- What is told.
+// Its word. After one with a colon comes the place of the command's name, or a status. An ask has its own.
+fn tell(run: Run, told: Told, name: Place) -> Run {
+    let words =
+        b"none,none,ignored,asked,naming,path:,lastpath:,,status:,withdrawn,discarded,committed";
+    let said = word(run, words, told_number(told));
+    match told {
+        Told::Path => place(said, name),
+        Told::LastPath => place(said, name),
+        Told::Ask(ask) => tell_ask(said, ask, name),
+        Told::Status(status) => tell_status(said, status),
+        _ => said,
+    }
 }
 
-pub(crate) fn end(run: Run) -> Run {
-    run.text(b"\n")
+fn told_number(told: Told) -> usize {
+    match told {
+        Told::Nothing => 0,
+        Told::Refused(_) => 1,
+        Told::Ignored => 2,
+        Told::Asked => 3,
+        Told::Naming => 4,
+        Told::Path => 5,
+        Told::LastPath => 6,
+        Told::Ask(_) => 7,
+        Told::Status(_) => 8,
+        Told::Withdrawn => 9,
+        Told::Discarded => 10,
+        Told::Committed => 11,
+    }
 }
 
+// An ask's word, and the place of what is to be written, or of the name that is asked for.
+fn tell_ask(run: Run, ask: Ask, name: Place) -> Run {
+    let said = word(run, b"open,write:,last:,commit,request:", ask_number(ask));
+    match ask {
+        Ask::Write(part) => place(said, part),
+        Ask::WriteLast(part) => place(said, part),
+        Ask::Request => place(said, name),
+        _ => said,
+    }
+}
+
+fn ask_number(ask: Ask) -> usize {
+    match ask {
+        Ask::Open => 0,
+        Ask::Write(_) => 1,
+        Ask::WriteLast(_) => 2,
+        Ask::Commit => 3,
+        Ask::Request => 4,
+    }
+}
+
+fn tell_status(run: Run, status: Status) -> Run {
+    let words =
+        b"OK,STARTED,PROGRESS,CANCELED,EPERM,EIO,ENOENT,ENOSPC,EBUSY,ENOTSUP,EINVAL,EEXIST,EMFILE,EFBIG";
+    word(run, words, status_number(status))
+}
+
+fn status_number(status: Status) -> usize {
+    match status {
+        Status::Ok => 0,
+        Status::Started => 1,
+        Status::Progress => 2,
+        Status::Canceled => 3,
+        Status::Eperm => 4,
+        Status::Eio => 5,
+        Status::Enoent => 6,
+        Status::Enospc => 7,
+        Status::Ebusy => 8,
+        Status::Enotsup => 9,
+        Status::Einval => 10,
+        Status::Eexist => 11,
+        Status::Emfile => 12,
+        Status::Efbig => 13,
+    }
+}
+
+// ---- Other lines.
 // The text of a report.
 pub(crate) fn text(run: Run, text: &[u8]) -> Run {
-    hex(run.text(b"t "), text).text(b"\n")
+    end(hex(run.text(b"t "), text))
 }
 
 // How many files of a session are started, and the bytes of those that are done.
-pub(crate) fn numbers(run: Run, session: Session) -> Run {
-    let started = run.text(b"y ").number(session.started as usize);
-    started
-        .text(b" ")
-        .number(session.done_bytes as usize)
-        .text(b"\n")
+pub(crate) fn numbers(run: Run, started: usize, done_bytes: usize) -> Run {
+    end(number(number(run.text(b"y"), started), done_bytes))
 }
 
 pub(crate) fn no_numbers(run: Run) -> Run {
     run.text(b"y none\n")
 }
 
-pub(crate) fn bad_script(run: Run) -> Run {
-    run.text(b"bad script\n")
+// ---- Parts of a line.
+// Word n of those that commas part.
+fn word(run: Run, words: &[u8], n: usize) -> Run {
+    run.text(words::part(words, b',', n))
 }
 
-// The sum of (i + 1) times byte i, modulo 65521: byte i counts in each of the i + 1 sums of the bytes
-// from a place on.
-fn sum(buffer: &[u8]) -> usize {
-    let mut total: usize = 0;
-    let mut rest: usize = 0;
-    let mut i = buffer.len();
-    while i > 0 {
-        i -= 1;
-        rest = (rest + wide(buffer[i])) % 65521;
-        total = (total + rest) % 65521;
-    }
-    total
+// A number after a blank.
+fn number(run: Run, n: usize) -> Run {
+    run.text(b" ").number(n)
+}
+
+// The start of an empty part or name is open, and printed as 0.
+fn place(run: Run, part: Place) -> Run {
+    let start = if part.len == 0 { 0 } else { part.start };
+    run.number(start).text(b":").number(part.len)
 }
 
 // Bytes in lower-case hex, `-` for none.
@@ -156,4 +167,8 @@ fn hex(run: Run, s: &[u8]) -> Run {
     } else {
         run.hex(s)
     }
+}
+
+fn end(run: Run) -> Run {
+    run.text(b"\n")
 }

@@ -1,29 +1,29 @@
-// The operands of what is supplied. A string is its length, in one byte or in two, and its bytes.
-ghost use Prim.Native.Nat.{_≤_};
+// The operands of what is supplied. A string is its length, in one byte or in two, and its bytes. Places
+// are counted from the operation's letter.
 use crate::script::after;
-use crate::script::byte;
 use crate::script::is_code;
-use crate::script::number;
 use crate::script::wide;
 use command::FileType;
 use command::Place;
 use decimal::Number;
-use octets::size::less;
 use protocol::Entry;
+use script_parts::byte;
+use script_parts::four_bytes;
+use script_parts::two_bytes;
 
 // A string whose length is one byte: an id.
-fn id_at(bytes: &[u8], at: usize) -> Place {
+fn id_at(s: &[u8], at: usize) -> Place {
     Place {
         start: after(at, 1),
-        len: wide(byte(bytes, at)),
+        len: wide(byte(s, at)),
     }
 }
 
 // A string whose length is two bytes.
-fn string_at(bytes: &[u8], at: usize) -> Place {
+fn string_at(s: &[u8], at: usize) -> Place {
     Place {
         start: after(at, 2),
-        len: number(bytes, at, 0),
+        len: two_bytes(s, at),
     }
 }
 
@@ -32,30 +32,30 @@ fn end(place: Place) -> usize {
 }
 
 // ---- A file of the listing: its type, three integers, three ids, and three more strings.
-pub(crate) fn entry(bytes: &[u8], at: usize) -> Entry {
-    let id = id_at(bytes, after(at, 26));
-    let path_id = id_at(bytes, end(id));
-    let parent = id_at(bytes, end(path_id));
-    let name = string_at(bytes, end(parent));
-    let own_id = string_at(bytes, end(name));
+pub(crate) fn entry(s: &[u8]) -> Entry {
+    let id = id_at(s, 26);
+    let path_id = id_at(s, end(id));
+    let parent = id_at(s, end(path_id));
+    let name = string_at(s, end(parent));
+    let own_id = string_at(s, end(name));
     Entry {
-        file_type: file_type(byte(bytes, after(at, 1))),
-        modified: integer(bytes, after(at, 2)),
-        permissions: integer(bytes, after(at, 10)),
-        size: integer(bytes, after(at, 18)),
+        file_type: file_type(byte(s, 1)),
+        modified: integer(s, 2),
+        permissions: integer(s, 10),
+        size: integer(s, 18),
         id: id,
         path_id: path_id,
         parent: parent,
         name: name,
         own_id: own_id,
-        target: string_at(bytes, end(own_id)),
+        target: string_at(s, end(own_id)),
     }
 }
 
-pub(crate) fn entry_length(bytes: &[u8], at: usize) -> usize {
-    if byte(bytes, after(at, 1)) <= 3 {
-        let entry = entry(bytes, at);
-        less(end(entry.target), at)
+pub(crate) fn entry_length(s: &[u8]) -> usize {
+    if byte(s, 1) <= 3 {
+        let entry = entry(s);
+        end(entry.target)
     } else {
         0
     }
@@ -71,8 +71,8 @@ fn file_type(code: u8) -> FileType {
 }
 
 // Eight bytes, the lowest first, in two's complement.
-fn integer(bytes: &[u8], at: usize) -> Number {
-    signed(half(bytes, at), half(bytes, after(at, 4)))
+fn integer(s: &[u8], at: usize) -> Number {
+    signed(four_bytes(s, at), four_bytes(s, after(at, 4)))
 }
 
 // The integer of two halves. The least one has the magnitude 2^63.
@@ -91,43 +91,36 @@ fn signed(low: usize, high: usize) -> Number {
     }
 }
 
-// Four bytes, the lowest first.
-fn half(bytes: &[u8], at: usize) -> usize
-    ensures { λ r. ⌜ r ≤ 4294967295 ⌝ }
-{
-    number(bytes, at, 0) + number(bytes, at, 2) * 65536
-}
-
 // ---- Why a path is not listed: the session's id, the path's, and a code.
-pub(crate) fn session_id(bytes: &[u8], at: usize) -> Place {
-    id_at(bytes, after(at, 1))
+pub(crate) fn session_id(s: &[u8]) -> Place {
+    id_at(s, 1)
 }
 
-pub(crate) fn path_id(bytes: &[u8], at: usize) -> Place {
-    id_at(bytes, end(session_id(bytes, at)))
+pub(crate) fn path_id(s: &[u8]) -> Place {
+    id_at(s, end(session_id(s)))
 }
 
-pub(crate) fn code(bytes: &[u8], at: usize) -> u8 {
-    byte(bytes, end(path_id(bytes, at)))
+pub(crate) fn code(s: &[u8]) -> u8 {
+    byte(s, end(path_id(s)))
 }
 
-pub(crate) fn failure_length(bytes: &[u8], at: usize) -> usize {
-    if is_code(code(bytes, at)) {
-        less(after(end(path_id(bytes, at)), 1), at)
+pub(crate) fn failure_length(s: &[u8]) -> usize {
+    if is_code(code(s)) {
+        after(end(path_id(s)), 1)
     } else {
         0
     }
 }
 
 // ---- The home path, after the session's id; and a part, alone.
-pub(crate) fn home(bytes: &[u8], at: usize) -> Place {
-    string_at(bytes, end(session_id(bytes, at)))
+pub(crate) fn home(s: &[u8]) -> Place {
+    string_at(s, end(session_id(s)))
 }
 
-pub(crate) fn home_length(bytes: &[u8], at: usize) -> usize {
-    less(end(home(bytes, at)), at)
+pub(crate) fn home_length(s: &[u8]) -> usize {
+    end(home(s))
 }
 
-pub(crate) fn part(bytes: &[u8], at: usize) -> Place {
-    string_at(bytes, after(at, 1))
+pub(crate) fn part(s: &[u8]) -> Place {
+    string_at(s, 1)
 }

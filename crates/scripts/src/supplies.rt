@@ -1,58 +1,49 @@
-// What a script supplies in receive sessions.
-use crate::console::Console;
-use crate::console::failure;
-use crate::line;
+// What a script supplies in receive sessions. The strings have their places in the operation.
+use crate::Calls;
+use crate::console::Buffers;
+use crate::console::Called;
+use crate::console::OUT;
+use crate::lending::answer_of;
+use crate::lending::failure;
 use crate::operands;
-use crate::script::byte;
 use octets::size::least;
-use protocol::Answered;
+use protocol::Receiver;
+use script_parts::byte;
 use supplying::Supplying;
 
-// List, list_failed, home, part or last_part, which print alike.
-pub(crate) fn supply<'a>(
-    console: Console,
-    bytes: &[u8],
-    at: usize,
-    carry: &'a [u8],
-    scratch: &'a [u8],
-    reply: &'a [u8],
-    out: &mut [u8],
-) -> Console {
-    let run = console.run;
-    let letter = byte(bytes, at);
-    let answered = supply_lent(console, bytes, at, out);
-    let told = answered.told;
-    let written = octets::part(out, 0, answered.reply_len);
-    let called = line::call(run, letter, told, written);
-    let summed = line::sums(called, carry, scratch, reply);
+// A call that is lent n bytes of the buffer out.
+pub(crate) fn supply(
+    calls: Calls,
+    receiver: Receiver,
+    buffers: Buffers,
+    n: usize,
+    operation: &[u8],
+) -> Called {
+    let supplying = supplying_of(operation);
+    let text = text_of(operation);
+    let contents = contents_of(operation);
+    let mut out = buffers.out;
+    let o = least(n, OUT);
+    let answered = calls.supply(receiver, supplying, text, contents, &mut out[..o]);
     let next = answered.receiver;
-    Console {
-        run: line::end(line::sum_of_out(summed, out)),
+    Called {
         receiver: next,
-        ..console
+        buffers: Buffers {
+            out: out,
+            ..buffers
+        },
+        answer: answer_of(answered),
     }
 }
 
-// A call that is lent the first bytes of the buffer out. An entry's strings, and the ids of a path that
-// is not listed, have their places in the whole script.
-fn supply_lent(console: Console, bytes: &[u8], at: usize, out: &mut [u8]) -> Answered {
-    let calls = console.calls;
-    let receiver = console.receiver;
-    let supplying = supplying_of(bytes, at);
-    let text = text_of(bytes, at);
-    let contents = contents_of(bytes, at);
-    let o = least(console.out, out.len());
-    calls.supply(receiver, supplying, text, contents, &mut out[..o])
-}
-
-fn supplying_of(bytes: &[u8], at: usize) -> Supplying {
-    let letter = byte(bytes, at);
+fn supplying_of(operation: &[u8]) -> Supplying {
+    let letter = byte(operation, 0);
     match letter {
-        b'l' => Supplying::List(operands::entry(bytes, at)),
+        b'l' => Supplying::List(operands::entry(operation)),
         b'g' => Supplying::ListFailed(
-            operands::session_id(bytes, at),
-            operands::path_id(bytes, at),
-            failure(operands::code(bytes, at)),
+            operands::session_id(operation),
+            operands::path_id(operation),
+            failure(operands::code(operation)),
         ),
         b'h' => Supplying::Home,
         b'p' => Supplying::Part(false),
@@ -60,25 +51,24 @@ fn supplying_of(bytes: &[u8], at: usize) -> Supplying {
     }
 }
 
-// The session's id for the home path, and else the whole script.
-fn text_of(bytes: &[u8], at: usize) -> &[u8] {
-    let letter = byte(bytes, at);
-    let id = operands::session_id(bytes, at);
+// The session's id for the home path, and else the whole operation.
+fn text_of(operation: &[u8]) -> &[u8] {
+    let letter = byte(operation, 0);
+    let id = operands::session_id(operation);
     match letter {
-        b'h' => octets::part(bytes, id.start, id.len),
-        _ => bytes,
+        b'h' => octets::part(operation, id.start, id.len),
+        _ => operation,
     }
 }
 
-// The home path, or a part, and else the whole script.
-fn contents_of(bytes: &[u8], at: usize) -> &[u8] {
-    let letter = byte(bytes, at);
-    let home = operands::home(bytes, at);
-    let part = operands::part(bytes, at);
+// The home path, or a part, and else the whole operation.
+fn contents_of(operation: &[u8]) -> &[u8] {
+    let letter = byte(operation, 0);
+    let home = operands::home(operation);
+    let part = operands::part(operation);
     match letter {
-        b'h' => octets::part(bytes, home.start, home.len),
-        b'p' => octets::part(bytes, part.start, part.len),
-        b'z' => octets::part(bytes, part.start, part.len),
-        _ => bytes,
+        b'h' => octets::part(operation, home.start, home.len),
+        b'p' | b'z' => octets::part(operation, part.start, part.len),
+        _ => operation,
     }
 }

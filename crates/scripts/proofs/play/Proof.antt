@@ -1,21 +1,14 @@
-use Prim.Native.Nat.{_+_, _-_, _≤_}
-use mathlib.Core.Path.{_≡_}
+use Prim.Native.Nat.{_-_, _≤_}
 use lib.ListN.{length}
 use borrow.Author.Needs.{needs}
-use Rattle.frames.specs.Stream.{textLimit}
-use Rattle.command.specs.Read.{scratchRoom}
-use Rattle.command.specs.Framed.{frameRoom}
-use Rattle.protocol.specs.Replies.{replyRoom}
 use Rattle.scripts.proofs.play.Statement.{statement}
 use Rattle.scripts.proofs.play.Tie as tie
 
 abbrev Inv-loop : tie.InvT-loop
-Inv-loop bytes carry₀ scratch₀ reply₀ out₀ state₀ at₀ carry scratch reply out state at =
-    (at ≤ length bytes) × (textLimit + 64 ≡ length carry) × (scratchRoom + 64 ≡ length scratch)
-    × (replyRoom + 68 ≡ length reply) × (frameRoom + 60 ≡ length out)
+Inv-loop bytes state₀ at₀ state at = at ≤ length bytes
 
 abbrev μ-loop : tie.MeasureT-loop
-μ-loop bytes carry₀ scratch₀ reply₀ out₀ state₀ at₀ carry scratch reply out state at = length bytes - at
+μ-loop bytes state₀ at₀ state at = length bytes - at
 
 bad-script-requires : tie.Need-bad-script-requires Inv-loop μ-loop
 bad-script-requires c κs = search needs
@@ -40,18 +33,6 @@ bad-script-requires-2 c κs = search needs
 
 returns-2 : tie.Need-returns-2 Inv-loop μ-loop
 returns-2 c = search needs
-
-slice-aggregate-perform : tie.Need-slice-aggregate-perform Inv-loop μ-loop
-slice-aggregate-perform c = search needs
-
-slice-aggregate-perform-2 : tie.Need-slice-aggregate-perform-2 Inv-loop μ-loop
-slice-aggregate-perform-2 c = search needs
-
-slice-aggregate-perform-3 : tie.Need-slice-aggregate-perform-3 Inv-loop μ-loop
-slice-aggregate-perform-3 c = search needs
-
-slice-aggregate-perform-4 : tie.Need-slice-aggregate-perform-4 Inv-loop μ-loop
-slice-aggregate-perform-4 c = search needs
 
 perform-requires : tie.Need-perform-requires Inv-loop μ-loop
 perform-requires c κs = search needs
@@ -85,10 +66,6 @@ play-spec =
     operation-length-requires
     bad-script-requires-2
     returns-2
-    slice-aggregate-perform
-    slice-aggregate-perform-2
-    slice-aggregate-perform-3
-    slice-aggregate-perform-4
     perform-requires
     add-at
     loop-less
