@@ -20,8 +20,7 @@ pub(crate) fn decode(run: Run, text: &[u8]) -> Run {
     let d = base64::decode(text, &mut buffer, 0);
     match d {
         Decoded::Length(n) => run.hex(octets::part(&buffer, 0, n)),
-        Decoded::Invalid(_) => tell(run, d),
-        Decoded::NoRoom => tell(run, d),
+        _ => tell(run, d),
     }
 }
 

@@ -47,9 +47,7 @@ pub(crate) fn write(run: Run, words: &[u8]) -> Run {
     let w = decimal::write(n, &mut buffer, 0);
     match w {
         Written::End(end) => counted.text(octets::part(&buffer, 0, end)),
-        Written::NegativeZero => tell(counted, w),
-        Written::OutOfRange => tell(counted, w),
-        Written::NoRoom => tell(counted, w),
+        _ => tell(counted, w),
     }
 }
 

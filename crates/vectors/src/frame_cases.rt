@@ -81,8 +81,12 @@ fn report(run: Run, r: Report, text: &[u8]) -> Run {
         Report::Nothing => run,
         Report::InPiece(_, _) => run.text(b" in the piece ").number(text.len()),
         Report::InCarry(_) => run.text(b" in the carry ").number(text.len()),
-        Report::TooLong => run.text(b" refused 1"),
-        Report::Abandoned => run.text(b" refused 2"),
-        Report::ShortCarry => run.text(b" refused 9"),
+        Report::TooLong => refused(run, 1),
+        Report::Abandoned => refused(run, 2),
+        Report::ShortCarry => refused(run, 9),
     }
+}
+
+fn refused(run: Run, n: usize) -> Run {
+    run.text(b" refused ").number(n)
 }
