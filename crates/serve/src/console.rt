@@ -1,9 +1,11 @@
 // The receiver, and what is written for it.
 use crate::report;
+use command_writer::framed::FRAME_ROOM;
 use protocol::Answered;
 use protocol::Receiver;
 use protocol::Told;
 use streams::Run;
+use supplying::Supplying;
 
 // The receiver, and how the run stands.
 pub struct Console {
@@ -24,20 +26,23 @@ pub(crate) fn put(console: Console, answered: Answered, buffer: &[u8]) -> Consol
     }
 }
 
+// What is supplied in a receive session goes to the line in one frame.
+pub(crate) fn supply<'a>(
+    console: Console,
+    supplying: Supplying,
+    text: &'a [u8],
+    contents: &'a [u8],
+) -> Console {
+    let receiver = console.receiver;
+    let mut out = [0u8; FRAME_ROOM];
+    let answered = receiver::supplies::supply(receiver, supplying, text, contents, &mut out);
+    put(console, answered, &out)
+}
+
 // A text that is no command is said. No other call that is made here is refused.
 fn say_refused(told: Told) {
     match told {
-        Told::Nothing => {}
         Told::Refused(n) => report::counted(b"refused ", n as u64),
-        Told::Ignored => {}
-        Told::Asked => {}
-        Told::Naming => {}
-        Told::Path => {}
-        Told::LastPath => {}
-        Told::Ask(_) => {}
-        Told::Status(_) => {}
-        Told::Withdrawn => {}
-        Told::Discarded => {}
-        Told::Committed => {}
+        _ => {}
     }
 }

@@ -49,6 +49,12 @@ impl Current {
 }
 
 // ---- The session.
+// None has its turn. A call, since the constant in one arm of a choice would take every arm's session
+// apart, field by field.
+pub(crate) fn none() -> Current {
+    Current::NONE
+}
+
 // It has its turn from here on.
 pub(crate) fn begun(id: &[u8]) -> Current {
     let own = padded(id);
@@ -105,8 +111,12 @@ pub(crate) fn path_at(current: Current, i: usize) -> Path {
     if i < Session::FILES {
         current.paths[i]
     } else {
-        Path::NONE
+        no_path()
     }
+}
+
+fn no_path() -> Path {
+    Path::NONE
 }
 
 // Each path is looked at: one whose file can be opened is listed.

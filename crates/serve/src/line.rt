@@ -15,6 +15,7 @@ use protocol::Answered;
 use protocol::Fed;
 use protocol::Receiver;
 use protocol::Reply;
+use protocol::Told;
 use streams::Got;
 use streams::Run;
 
@@ -95,12 +96,14 @@ fn hear(server: Server, piece: &[u8], carry: &mut [u8]) -> Server {
     let mut reply = [0u8; Reply::ROOM];
     let fed = receiver::feed(receiver, rest, carry, &mut scratch, &mut reply);
     let report = fed.report;
-    let next = sent(console, fed, &reply);
+    let told = fed.told;
+    let command = fed.command;
     heed(
-        next,
+        sent(console, fed, &reply),
         current,
-        fed,
-        left,
+        told,
+        command,
+        less(left, fed.consumed),
         frames::text(rest, carry, report),
         &scratch,
     )
@@ -128,13 +131,12 @@ fn sent(console: Console, fed: Fed, reply: &[u8]) -> Console {
 fn heed<'a>(
     console: Console,
     current: Current,
-    fed: Fed,
+    told: Told,
+    command: Command,
     left: usize,
     text: &'a [u8],
     scratch: &'a [u8],
 ) -> Server {
-    let told = fed.told;
-    let command = fed.command;
     let transmission = command.transmission;
     let id = at_place(text, command.id);
     let planned = plans::heed(
@@ -150,7 +152,7 @@ fn heed<'a>(
     Server {
         console: answer(console, after, plan, id),
         current: after,
-        left: less(left, fed.consumed),
+        left: left,
     }
 }
 

@@ -4,6 +4,7 @@ ghost use lib.ListN.{length};
 use crate::arguments;
 use crate::console::Console;
 use crate::console::put;
+use crate::console::supply;
 use crate::current;
 use crate::current::Current;
 use crate::current::Path;
@@ -11,13 +12,13 @@ use crate::report;
 use command::FileType;
 use command::Place;
 use command::ZERO;
-use command_writer::framed::FRAME_ROOM;
 use decimal::Number;
 use octets::size::least;
 use protocol::Entry;
 use protocol::Failure;
 use protocol::Reply;
 use protocol::Session;
+use supplying::Supplying;
 
 // 0644: may be read by all.
 const PERMISSIONS: Number = Number {
@@ -79,12 +80,9 @@ fn list(console: Console, current: Current, i: usize) -> Console {
 }
 
 fn list_file(console: Console, described: Described, text: &[u8]) -> Console {
-    let receiver = console.receiver;
     let entry = described.entry;
     let contents = described.contents;
-    let mut out = [0u8; FRAME_ROOM];
-    let answered = receiver::list(receiver, entry, text, &contents, &mut out);
-    put(console, answered, &out)
+    supply(console, Supplying::List(entry), text, &contents)
 }
 
 // A regular file. Its own id is its number, from 1.
@@ -131,7 +129,6 @@ fn entry(id: usize, path_id: usize, own_id: usize, name: usize, size: u64) -> En
 }
 
 fn list_failed(console: Console, id_len: usize, path_id_len: usize, text: &[u8]) -> Console {
-    let receiver = console.receiver;
     let id = Place {
         start: 0,
         len: id_len,
@@ -140,9 +137,12 @@ fn list_failed(console: Console, id_len: usize, path_id_len: usize, text: &[u8])
         start: PATH_ID,
         len: path_id_len,
     };
-    let mut out = [0u8; FRAME_ROOM];
-    let answered = receiver::list_failed(receiver, text, id, path_id, Failure::Enoent, &mut out);
-    put(console, answered, &out)
+    supply(
+        console,
+        Supplying::ListFailed(id, path_id, Failure::Enoent),
+        text,
+        b"",
+    )
 }
 
 // The session's id and the path's.
@@ -159,14 +159,11 @@ fn ids(current: Current, path: Path) -> [u8; 64]
 
 // The listing ends with the home path.
 fn home(console: Console, current: Current) -> Console {
-    let receiver = console.receiver;
     let id = current.id;
-    let mut out = [0u8; FRAME_ROOM];
-    let answered = receiver::home(
-        receiver,
+    supply(
+        console,
+        Supplying::Home,
         octets::part(&id, 0, current.id_len),
         b"/",
-        &mut out,
-    );
-    put(console, answered, &out)
+    )
 }

@@ -35,9 +35,6 @@ pub(crate) fn heed<'a>(
     name: &'a [u8],
 ) -> Planned {
     match told {
-        Told::Nothing => rest(current),
-        Told::Refused(_) => rest(current),
-        Told::Ignored => rest(current),
         Told::Asked => Planned {
             current: current,
             plan: Plan::Deny,
@@ -46,10 +43,9 @@ pub(crate) fn heed<'a>(
         Told::Path => rest(named(current, id, path_id, name)),
         Told::LastPath => decided(named(current, id, path_id, name), id),
         Told::Ask(ask) => asked(current, ask, transmission, name),
-        Told::Status(_) => rest(current),
         Told::Withdrawn => rest(ended(current, id)),
         Told::Discarded => rest(ended(current, id)),
-        Told::Committed => rest(current),
+        _ => rest(current),
     }
 }
 
@@ -88,7 +84,7 @@ fn decided(current: Current, id: &[u8]) -> Planned {
     }
     if !current.is_good {
         return Planned {
-            current: Current::NONE,
+            current: current::none(),
             plan: Plan::Deny,
         };
     }
@@ -101,7 +97,7 @@ fn decided(current: Current, id: &[u8]) -> Planned {
 // A session is dropped.
 fn ended(current: Current, id: &[u8]) -> Current {
     if current::is(current, id) {
-        Current::NONE
+        current::none()
     } else {
         current
     }
@@ -110,11 +106,8 @@ fn ended(current: Current, id: &[u8]) -> Current {
 // ---- Asks. No send session is open, so that each is a request of the session that has its turn.
 fn asked(current: Current, ask: Ask, transmission: Transmission, name: &[u8]) -> Planned {
     match ask {
-        Ask::Open => rest(current),
-        Ask::Write(_) => rest(current),
-        Ask::WriteLast(_) => rest(current),
-        Ask::Commit => rest(current),
         Ask::Request => requested(current, is_delta(transmission), name),
+        _ => rest(current),
     }
 }
 

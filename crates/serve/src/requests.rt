@@ -1,14 +1,15 @@
 // The answers to what is asked for: a listed file whole, before more is fed, or why not.
+use crate::console;
 use crate::console::Console;
 use crate::console::put;
 use crate::files;
 use crate::report;
-use command_writer::framed::FRAME_ROOM;
 use protocol::Failure;
 use protocol::FileRecord;
 use protocol::Reply;
 use streams::Got;
 use streams::Run;
+use supplying::Supplying;
 
 // The file of argument k.
 pub(crate) fn supply(console: Console, k: usize) -> Console {
@@ -50,14 +51,7 @@ fn is_over(run: Run, is_last: bool) -> bool {
 }
 
 fn part(console: Console, bytes: &[u8], is_last: bool) -> Console {
-    let receiver = console.receiver;
-    let mut out = [0u8; FRAME_ROOM];
-    if is_last {
-        let answered = receiver::last_part(receiver, bytes, &mut out);
-        return put(console, answered, &out);
-    }
-    let answered = receiver::part(receiver, bytes, &mut out);
-    put(console, answered, &out)
+    console::supply(console, Supplying::Part(is_last), b"", bytes)
 }
 
 // The file can no longer be opened, or not be read.
