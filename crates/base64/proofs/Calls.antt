@@ -1,4 +1,5 @@
--- The round trips of the calls: `decode` undoes `encode`, and `encode` undoes `decode`.
+-- The round trips of the calls, by either choice of padding: decoding undoes encoding, and encoding undoes decoding. What is strict is said
+-- of the text with its padding.
 use Prim.Native.Nat.{ℕ, _+_, _≤_}
 use mathlib.Core.Path.{_≡_, refl, ap}
 use mathlib.Core.Bool.{Bool, true, false}
@@ -8,17 +9,20 @@ use lib.ListN.{length}
 use lib.Seq.{sets}
 use lib.Dec.{leb}
 use borrow.Author.Tests.{le-leb, leb-true}
+use Rattle.octets.specs.Bytes.{Bytes}
 use Rattle.octets.specs.Outcome.{outcome}
 use Rattle.octets.specs.declared.Stored.the-variants as Stored
 use Rattle.octets.proofs.Stores.{part-stored}
 use Rattle.base64.specs.Decode.{verdictOf, bytesOf, decodeOf}
 use Rattle.base64.specs.Encode.{textOf, encodeOf}
-use Rattle.base64.specs.Claims.{EncodedDecodes, DecodedEncodes}
+use Rattle.base64.specs.Padding.{padded, decodeWith}
+use Rattle.base64.specs.Claims.{EncodedDecodes, DecodedEncodes, UnpaddedDecodes}
 use Rattle.base64.specs.declared.Verdict.{Verdict}
 use Rattle.base64.specs.declared.Verdict.the-variants as Verdict
 use Rattle.base64.specs.declared.Decoded.the-variants as Decoded
 use Rattle.base64.proofs.Lengths.{length-text}
 use Rattle.base64.proofs.RoundTrip.{paddingOf, valid-text, bytes-text, text-bytes}
+use Rattle.base64.proofs.Padded.{valid-padded, text-padded}
 
 -- what `encode` and `decode` give where there is room
 encode-room : (x out : List ℕ) (at : ℕ) → at + length (textOf x) ≤ length out
@@ -31,18 +35,29 @@ decode-room : (t out : List ℕ) (at k : ℕ) → verdictOf t ≡ Verdict.Valid 
 unfolding decodeOf
 decode-room t out at k e h = rw (e, le-leb _ _ h)
 
-pub encode-decode : EncodedDecodes
-encode-decode x out into at to b h k =
-    let n = length-text x in
+-- the text of some bytes decodes to them
+text-room : (x into : List ℕ) (to : ℕ) → Bytes x → to + length x ≤ length into
+    → decodeOf (textOf x) into to ≡ outcome (Decoded.Length (length x)) (sets into to x)
+text-room x into to b h =
     let d = bytes-text x b in
+    rw (decode-room (textOf x) into to (paddingOf x) (valid-text x b) (omega (arith, ap length d)), d)
+
+pub encode-decode : EncodedDecodes
+unfolding decodeWith
+encode-decode p x out into at to b h k =
+    let n = length-text x in
     rw (← n, encode-room x out at (omega arith)) (
       refl,
       rw (
         part-stored (textOf x) out at (omega arith),
-        decode-room (textOf x) into to (paddingOf x) (valid-text x b) (omega (arith, ap length d)),
-        d,
+        valid-padded p (textOf x) (paddingOf x) (valid-text x b),
+        text-room x into to b k,
       ),
     )
+
+pub unpadded-decode : UnpaddedDecodes
+unfolding decodeWith
+unpadded-decode x into to b h = rw (text-padded x b, text-room x into to b h)
 
 -- a text that decodes is valid, and its bytes had room
 decoded : (t out : List ℕ) (at n : ℕ) → decodeOf t out at .answer ≡ Decoded.Length n
@@ -59,7 +74,9 @@ decoded t out at n e = go (verdictOf t) refl (leb (at + length (bytesOf t)) (len
     go (Verdict.Invalid f) ev b eb = let z : _≡_ {A = ℕ} 0 1 = cc (rw ev at e) in absurd (omega arith)
 
 pub decode-encode : DecodedEncodes
-decode-encode t out into at to n e h =
+unfolding decodeWith
+decode-encode p u out into at to n e h =
+    let t = padded p u in
     let d = decoded t out at n e in
     let b = text-bytes t (d .0) (d .1) in
     rw (

@@ -7,4 +7,7 @@ pub mod Groups
 pub mod Inner
 pub mod Lengths
 pub mod RoundTrip
+pub mod Padded
+pub mod Halves
 pub mod Calls
+pub mod Examples

@@ -1,17 +1,21 @@
-// Strict Base64 (RFC 4648, section 4): padding required, unused bits zero, no other character.
+// Strict Base64 (RFC 4648, section 4): unused bits zero, no other character, and padding required; or
+// optional, by the caller's choice, and then all of it or none.
 //
 // Not here: line breaks, other alphabets, texts in pieces. A text is checked whole before a byte is
 // written.
 mod alphabet;
 mod decoder;
 mod encoder;
+mod lacking;
 mod table;
 
 ghost use mathlib.Core.Path.{_≡_};
 ghost use Rattle.octets.specs.Outcome.{outcome};
-ghost use Rattle.base64.specs.Claims.{EncodedDecodes, DecodedEncodes};
+ghost use Rattle.base64.specs.Claims.{EncodedDecodes, DecodedEncodes, UnpaddedDecodes};
 ghost use Rattle.base64.specs.Decode.{decodeOf};
 ghost use Rattle.base64.specs.Encode.{encodeOf};
+ghost use Rattle.base64.specs.Examples.{DecodeExamples};
+ghost use Rattle.base64.specs.Padding.{decodeWith};
 use crate::table::VALUES;
 use octets::Stored;
 
@@ -26,6 +30,12 @@ pub enum Fault {
 pub enum Verdict {
     Valid(usize),
     Invalid(Fault),
+}
+
+// Whether a text must have its padding, or may leave all of it out.
+pub enum Padding {
+    Required,
+    Optional,
 }
 
 // What decoding answers: how many bytes were stored.
@@ -52,6 +62,18 @@ pub fn decode(text: &[u8], out: &mut [u8], at: usize) -> Decoded
             Decoded::Length(n)
         }
         Verdict::Invalid(fault) => Decoded::Invalid(fault),
+    }
+}
+
+// The same by a choice of padding. Where it is optional, the text of some bytes decodes to them with its
+// padding and without it, and no other text does.
+pub fn decode_with(padding: Padding, text: &[u8], out: &mut [u8], at: usize) -> Decoded
+    ensures { λ r. ⌜ outcome r (now (out .exit)) ≡ decodeWith padding (now (text .entry)) (now (out .entry)) at ⌝ }
+    ensures { λ _. ⌜ DecodedEncodes × UnpaddedDecodes × DecodeExamples ⌝ }
+{
+    match padding {
+        Padding::Required => decode(text, out, at),
+        Padding::Optional => lacking::decode(text, out, at),
     }
 }
 
