@@ -5,16 +5,20 @@ use mathlib.Core.List.{List, [], _∷_}
 use native.Mathlib.Nat.{le-trans}
 use native.Mathlib.Omega.{arith}
 use lib.ListN.{length, getD, drop}
+use mathlib.Core.Bool.{cond}
 use lib.Dec.{ltb, leb, eqb}
+use borrow.Author.Tests.{eqb-true, ne-eqb, le-ltb}
 use Rattle.octets.specs.Slices.{startsWith}
 use Rattle.octets.proofs.Lists.{drop-at}
-use Rattle.frames.specs.Stream.{Mode, mark, textLimit, afterEscape}
-use Rattle.frames.specs.Framings.{mayBeCommand, count, framingOf, cappedOf}
-use Rattle.frames.specs.Steps.{stepOf, after, walkFrom}
+use Rattle.frames.specs.Stream.{Mode, textLimit, afterEscape}
+use Rattle.frames.specs.Framings.{markOf, mayBe, count, framingOf, cappedOf}
+use Rattle.frames.specs.Steps.{firstByte, inMark, inText, stepOf, after, walkFrom}
 use Rattle.frames.specs.Carry.{reportedAt, heldOf}
 use Rattle.frames.specs.Steps.{framingAfter}
 use Rattle.frames.specs.declared.Framing.{Framing}
 use Rattle.frames.specs.declared.Framing.the-variants.{Plain, Escape, Text, TextEscape}
+use Rattle.frames.specs.declared.Mark.{Mark}
+use Rattle.frames.specs.declared.Mark.the-variants.{Transfer, DragDrop}
 use Rattle.frames.specs.declared.step.Event.{Event}
 use Rattle.frames.specs.declared.step.Event.the-variants.{On, Closed, Abandoned}
 use Rattle.frames.specs.declared.walk.Walked.{Walked}
@@ -29,11 +33,36 @@ turn f i xs r h e = rw (drop-at xs i h, e)
 
 -- ---- the count
 -- the byte after a 1B leads to one of three framings
-pub by-escape : (P : Framing → Type 0) (b : ℕ) → P (Text 0) → P Escape → P Plain → P (framingOf (afterEscape b))
-unfolding mayBeCommand startsWith
+pub by-escape : (P : Framing → Type 0) (b : ℕ) → P (Text Transfer 0) → P Escape → P Plain → P (framingOf (afterEscape b))
+unfolding mayBe startsWith
 by-escape P b p q r =
     let Q : Mode → Type 0 = λ m. P (framingOf m) in
     by-cond Q (eqb b 0x5D) (λ _. p) (λ _. by-cond Q (eqb b 0x1B) (λ _. q) (λ _. r))
+
+-- a byte of a text leads to one of five
+by-mark : (P : Framing → Type 0) (k : Mark) (n b : ℕ) → P Escape → P Plain → P (TextEscape n) → P (Text k (n + 1)) → P (inMark k n b)
+by-mark P k n b e p t g =
+    by-cond P (ltb n (length (markOf k)))
+    (λ _. by-cond P (eqb b 0x1B) (λ _. e) (λ _. by-cond P (eqb b (getD (markOf k) n 0)) (λ _. g) (λ _. p)))
+    (λ _. by-cond P (eqb b 0x1B) (λ _. t) (λ _. g))
+
+pub by-text : (P : Framing → Type 0) (k : Mark) (n b : ℕ) → P Escape → P Plain → P (TextEscape n) → ((j : Mark) → P (Text j (n + 1)))
+    → P (inText k n b)
+by-text P k n b e p t g =
+    by-cond P (eqb n 0) (λ z. first (eqb-true n 0 z)) (λ _. by-mark P k n b e p t (g k))
+  where
+    one : n ≡ 0 → (j : Mark) → P (Text j 1)
+    one z j = rw z at (g j)
+
+    first : n ≡ 0 → P (firstByte b)
+    first z =
+        by-cond P (eqb b 0x1B) (λ _. e)
+        (λ _. by-cond P (eqb b 0x35) (λ _. one z Transfer) (λ _. by-cond P (eqb b 0x37) (λ _. one z DragDrop) (λ _. p)))
+
+-- past either mark a byte counts, or is the 1B
+pub long-text : (k : Mark) (n b : ℕ) → 5 ≤ n → inText k n b ≡ cond (eqb b 0x1B) (TextEscape n) (Text k (n + 1))
+long-text Transfer n b h = rw (ne-eqb n 0 (λ z. omega arith), le-ltb n 5 h)
+long-text DragDrop n b h = rw (ne-eqb n 0 (λ z. omega arith), le-ltb n (length (markOf DragDrop)) (omega arith))
 
 escape-count : (b n : ℕ) → count (framingOf (afterEscape b)) ≤ n
 escape-count b n = by-escape (λ g. count g ≤ n) b (omega arith) (omega arith) (omega arith)
@@ -43,11 +72,7 @@ grows : (f : Framing) (b : ℕ) → count (framingAfter (stepOf f b)) ≤ count 
 unfolding stepOf
 grows Plain b = by-cond (λ (g : Framing). count g ≤ 0 + 1) (eqb b 0x1B) (λ _. omega arith) (λ _. omega arith)
 grows Escape b = escape-count b (0 + 1)
-grows (Text n) b =
-    let P : Framing → Type 0 = λ g. count g ≤ n + 1 in
-    by-cond P (ltb n 5)
-    (λ _. by-cond P (eqb b 0x1B) (λ _. omega arith) (λ _. by-cond P (eqb b (getD mark n 0)) (λ _. omega arith) (λ _. omega arith)))
-    (λ _. by-cond P (eqb b 0x1B) (λ _. omega arith) (λ _. omega arith))
+grows (Text k n) b = by-text (λ g. count g ≤ n + 1) k n b (omega arith) (omega arith) (omega arith) (λ j. omega arith)
 grows (TextEscape n) b =
     by-cond (λ (e : Event). count (framingAfter e) ≤ n + 1) (eqb b 0x5C) (λ _. omega arith) (λ _. escape-count b (n + 1))
 
@@ -57,7 +82,7 @@ grows-on f b r g p q = rw (sym p ∙ q) at (grows f b)
 pub capped-le : (f : Framing) → count (cappedOf f) ≤ textLimit + 1
 capped-le Plain = omega arith
 capped-le Escape = omega arith
-capped-le (Text n) = omega arith
+capped-le (Text k n) = omega arith
 capped-le (TextEscape n) = omega arith
 
 -- ---- the bytes used
@@ -80,7 +105,7 @@ held-end : (e : Event) (u : ℕ) → heldOf e u .end ≤ u
 unfolding heldOf
 held-end (On Plain) u = omega arith
 held-end (On Escape) u = omega arith
-held-end (On (Text n)) u = omega arith
+held-end (On (Text k n)) u = omega arith
 held-end (On (TextEscape n)) u = omega arith
 held-end (Closed n) u = reported-end u n
 held-end (Abandoned n g) u = reported-end u n

@@ -6,3 +6,4 @@ pub mod Calls
 pub mod Glides
 pub mod Follows
 pub mod Claims
+pub mod DragDrop

@@ -4,26 +4,37 @@ use Prim.Native.Nat.{ℕ, _+_, _-_}
 use mathlib.Core.List.{List, [], _∷_}
 use lib.ListN.{length, getD}
 use lib.Dec.{ltb, eqb}
-use Rattle.frames.specs.Stream.{mark, afterEscape}
-use Rattle.frames.specs.Framings.{framingOf}
+use Rattle.frames.specs.Stream.{afterEscape}
+use Rattle.frames.specs.Framings.{markOf, framingOf}
 use Rattle.frames.specs.declared.Framing.{Framing}
+use Rattle.frames.specs.declared.Mark.{Mark}
+use Rattle.frames.specs.declared.Mark.the-variants.{Transfer, DragDrop}
 use Rattle.frames.specs.declared.Framing.the-variants.{Plain, Escape, Text, TextEscape}
 use Rattle.frames.specs.declared.step.Event.{Event}
 use Rattle.frames.specs.declared.step.Event.the-variants.{On, Closed, Abandoned}
 use Rattle.frames.specs.declared.walk.Walked.{Walked}
 
--- the byte after n bytes of a text that may be a command: one of its first five must be that of `5113;`
-abbrev pub inText : ℕ → ℕ → Framing
-inText n b =
-    cond (ltb n (length mark))
-    (cond (eqb b 0x1B) Escape (cond (eqb b (getD mark n 0)) (Text (n + 1)) Plain))
-    (cond (eqb b 0x1B) (TextEscape n) (Text (n + 1)))
+-- a text's first byte: it says which of the two marks the text may start with
+abbrev pub firstByte : ℕ → Framing
+firstByte b =
+    cond (eqb b 0x1B) Escape (cond (eqb b 0x35) (Text Transfer 1) (cond (eqb b 0x37) (Text DragDrop 1) Plain))
 
--- one byte: the framing goes on, or a command text of n bytes closes or is abandoned
+-- the byte after n bytes of a text that may be of the mark: while it is shorter than the mark, the byte must be the mark's
+abbrev pub inMark : Mark → ℕ → ℕ → Framing
+inMark k n b =
+    cond (ltb n (length (markOf k)))
+    (cond (eqb b 0x1B) Escape (cond (eqb b (getD (markOf k) n 0)) (Text k (n + 1)) Plain))
+    (cond (eqb b 0x1B) (TextEscape n) (Text k (n + 1)))
+
+-- the byte after n bytes of a text
+abbrev pub inText : Mark → ℕ → ℕ → Framing
+inText k n b = cond (eqb n 0) (firstByte b) (inMark k n b)
+
+-- one byte: the framing goes on, or a text of n bytes that has its mark closes or is abandoned
 unfoldable pub stepOf : Framing → ℕ → Event
 stepOf Plain b = On (cond (eqb b 0x1B) Escape Plain)
 stepOf Escape b = On (framingOf (afterEscape b))
-stepOf (Text n) b = On (inText n b)
+stepOf (Text k n) b = On (inText k n b)
 stepOf (TextEscape n) b = cond (eqb b 0x5C) (Closed n) (Abandoned n (framingOf (afterEscape b)))
 
 -- the framing after an event

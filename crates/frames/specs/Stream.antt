@@ -1,6 +1,6 @@
 -- The frames of document 01 over a stream of bytes, read one after another: no pieces, no counts, no buffers.
 use Prim.Native.Nat.{ℕ}
-use mathlib.Core.Bool.{Bool, cond}
+use mathlib.Core.Bool.{Bool, cond, _||_}
 use mathlib.Core.List.{List, [], _∷_, _++_}
 use lib.ListN.{length}
 use lib.Dec.{leb, eqb}
@@ -14,9 +14,10 @@ pub data Mode : Type 0 where
   inside : List ℕ → Mode
   insideEscape : List ℕ → Mode
 
--- what is told: a command text, refusal 1, refusal 2
+-- what is told: a command text, a text of drag and drop, refusal 1, refusal 2; the refusals of either
 pub data Told : Type 0 where
   command : List ℕ → Told
+  dragDrop : List ℕ → Told
   tooLong : Told
   abandoned : Told
 
@@ -27,17 +28,32 @@ mark = ascii "5113;"
 abbrev pub isCommand : List ℕ → Bool
 isCommand t = startsWith t mark
 
+-- order 12: "Texts starting `72;` .."
+abbrev pub dragMark : List ℕ
+dragMark = ascii "72;"
+
+abbrev pub isDragDrop : List ℕ → Bool
+isDragDrop t = startsWith t dragMark
+
+-- ".. are now .. reported, with 01's refusals 1 and 2"
+abbrev pub isReported : List ℕ → Bool
+isReported t = isCommand t || isDragDrop t
+
+-- a reported text tells itself, and what it is
+abbrev pub textTells : List ℕ → Told
+textTells t = cond (isDragDrop t) (Told.dragDrop t) (Told.command t)
+
 -- "A command text may have 8,192 bytes, the `5113;` included"
 abbrev pub textLimit : ℕ
 textLimit = 8192
 
 -- what a closed text tells: itself, or refusal 1 where it is too long. "other texts pass silently, whatever their length or end"
 abbrev pub closedTells : List ℕ → List Told
-closedTells t = cond (isCommand t) (cond (leb (length t) textLimit) (Told.command t) Told.tooLong ∷ []) []
+closedTells t = cond (isReported t) (cond (leb (length t) textLimit) (textTells t) Told.tooLong ∷ []) []
 
 -- what an abandoned text tells: refusal 2
 abbrev pub abandonedTells : List ℕ → List Told
-abandonedTells t = cond (isCommand t) (Told.abandoned ∷ []) []
+abandonedTells t = cond (isReported t) (Told.abandoned ∷ []) []
 
 -- the byte after a 1B: "5D opens a new text, 1B waits again, any other byte returns to plain"
 abbrev pub afterEscape : ℕ → Mode

@@ -16,6 +16,7 @@ ghost use Rattle.octets.specs.Outcome.{outcome};
 ghost use Rattle.frames.specs.Stream.{textLimit};
 ghost use Rattle.frames.specs.Calls.{placeOf, reportOf, takenOf, scanOf, textOf};
 ghost use Rattle.frames.specs.Claims.{TellsTheStream, SameHoweverCut, Consumes, RefusesShort, FramedTells};
+ghost use Rattle.frames.specs.DragDrop.{DraggedTells, MarkExamples};
 use carry::held_of;
 use carry::keep;
 use octets::size::less;
@@ -24,29 +25,38 @@ use step::capped;
 use step::framing_after;
 use walk::walk_piece;
 
-// What is known of the bytes before a piece: whether they end in a text that may be a command, with
-// the count of its bytes, and whether they end in a 1B. A text known not to be a command behaves as
-// plain bytes do.
+// What is known of the bytes before a piece: whether they end in a text that may be reported, with its
+// mark and the count of its bytes, and whether they end in a 1B. A text known to start with no mark
+// behaves as plain bytes do. The empty text may start with either mark, and is given the first. Once a
+// text has its mark whole nothing depends on which it is, so after a 1B it is not kept.
 pub enum Framing {
     Plain,
     Escape,
-    Text(usize),
+    Text(Mark, usize),
     TextEscape(usize),
 }
 
+// What a reported text starts with: `5113;`, and it is a command of file transfer, or `72;`, and it is
+// one of drag and drop.
+pub enum Mark {
+    Transfer,
+    DragDrop,
+}
+
 impl Framing {
-    // "A command text may have 8,192 bytes, the `5113;` included." A carry has room for as many.
+    // "A command text may have 8,192 bytes, the `5113;` included", and a text of drag and drop as many,
+    // the `72;` included. A carry has room for them.
     pub const TEXT_LIMIT: usize = 8192;
 }
 
 // What a call reports.
 pub enum Report {
     Nothing,
-    // A command text in the piece: where it starts, and its length.
+    // A text with a mark in the piece: where it starts, and its length.
     InPiece(usize, usize),
-    // A command text at the start of the carry: its length.
+    // A text with a mark at the start of the carry: its length.
     InCarry(usize),
-    // Refusal 1, 2 and 9.
+    // Refusal 1, 2 and 9; the first two of a text with either mark.
     TooLong,
     Abandoned,
     ShortCarry,
@@ -61,11 +71,12 @@ pub struct Scanned {
 }
 
 // Reads a piece through the first thing to report. What holds of every list of scans stands here too:
-// they tell what the stream of their bytes tells, however it is cut, and come to an end; and a command
-// text in its frame is told by the stream as it is.
+// they tell what the stream of their bytes tells, however it is cut, and come to an end; and a text with
+// either mark in its frame is told by the stream as it is.
 pub fn scan(framing: Framing, piece: &[u8], carry: &mut [u8]) -> Scanned
     ensures { λ r. ⌜ outcome r (now (carry .exit)) ≡ scanOf framing (now (piece .entry)) (now (carry .entry)) ⌝ }
     ensures { λ _. ⌜ TellsTheStream × SameHoweverCut × Consumes × RefusesShort × FramedTells ⌝ }
+    ensures { λ _. ⌜ DraggedTells × MarkExamples ⌝ }
 {
     if carry.len() < Framing::TEXT_LIMIT {
         return Scanned {
@@ -123,7 +134,7 @@ fn report_of(event: Event, used: usize) -> Report
     }
 }
 
-// Where a command text of n bytes stands that is closed by the last of the bytes used.
+// Where a text of n bytes stands that is closed by the last of the bytes used.
 fn place(used: usize, n: usize) -> Report
     ensures { λ r. ⌜ r ≡ placeOf used n ⌝ }
 {

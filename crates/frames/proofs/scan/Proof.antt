@@ -3,15 +3,17 @@ use borrow.Author.Needs.{needs}
 use Rattle.octets.proofs.Tests.{tests}
 use Rattle.frames.specs.Calls.{scanOf}
 use Rattle.frames.specs.Claims.{TellsTheStream, SameHoweverCut, Consumes, RefusesShort, FramedTells}
+use Rattle.frames.specs.DragDrop.{DraggedTells, MarkExamples}
 use Rattle.frames.proofs.CallLaws.{call-taken, consumes, refuses-short}
 use Rattle.frames.proofs.Follows.{tells-the-stream}
 use Rattle.frames.proofs.Cuts.{cuts}
-use Rattle.frames.proofs.Framed.{stream-framed}
+use Rattle.frames.proofs.Framed.{stream-framed, stream-dragged}
+use Rattle.frames.proofs.Examples.{examples-hold}
 use Rattle.frames.proofs.scan.Statement.{statement}
 use Rattle.frames.proofs.scan.Tie as tie
 
-claims : TellsTheStream × SameHoweverCut × Consumes × RefusesShort × FramedTells
-claims = (tells-the-stream, cuts, consumes, refuses-short, stream-framed)
+claims : (TellsTheStream × SameHoweverCut × Consumes × RefusesShort × FramedTells) × (DraggedTells × MarkExamples)
+claims = ((tells-the-stream, cuts, consumes, refuses-short, stream-framed), (stream-dragged, examples-hold))
 
 returns : tie.Need-returns
 unfolding scanOf

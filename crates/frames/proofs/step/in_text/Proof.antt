@@ -1,33 +1,50 @@
+use borrow.Author.Tests.{eq-eqb, ne-eqb}
 use borrow.Author.Needs.{needs}
-use Rattle.octets.proofs.Tests.{tests}
+use Rattle.frames.specs.Steps.{inText}
 use Rattle.frames.proofs.step.in_text.Statement.{statement}
 use Rattle.frames.proofs.step.in_text.Tie as tie
 
+first-byte-requires : tie.Need-first-byte-requires
+first-byte-requires c κs = search needs
+
 returns : tie.Need-returns
-returns c = search tests
+returns c = rw (eq-eqb _ _ (c .before .if1 .taken)) (c .first-byte .ensures)
 
-element-copy-out-if3 : tie.Need-element-copy-out-if3
-element-copy-out-if3 c = search needs
+enum-told : tie.Need-enum-told
+enum-told c = search needs
 
-add-t10 : tie.Need-add-t10
-add-t10 c = search needs
+slice-aggregate-in-mark : tie.Need-slice-aggregate-in-mark
+slice-aggregate-in-mark c = search needs
+
+in-mark-requires : tie.Need-in-mark-requires
+in-mark-requires c κs = search needs
+
+enum-told-2 : tie.Need-enum-told-2
+enum-told-2 c = search needs
+
+slice-aggregate-in-mark-2 : tie.Need-slice-aggregate-in-mark-2
+slice-aggregate-in-mark-2 c = search needs
+
+in-mark-requires-2 : tie.Need-in-mark-requires-2
+in-mark-requires-2 c κs = search needs
 
 returns-2 : tie.Need-returns-2
-returns-2 c = search tests
+returns-2 c = rw (ne-eqb _ _ (c .before .before .before .before .if1 .left), c .before .before .enum-told .given .1) (c .in-mark .ensures)
 
 returns-3 : tie.Need-returns-3
-returns-3 c = search tests
-
-returns-4 : tie.Need-returns-4
-returns-4 c = search tests
-
-add-t11 : tie.Need-add-t11
-add-t11 c = search needs
-
-returns-5 : tie.Need-returns-5
-returns-5 c = search tests
+returns-3 c = rw (ne-eqb _ _ (c .before .before .before .before .if1 .left), c .before .before .enum-told2 .given .1) (c .in-mark2 .ensures)
 
 pub in-text-spec : {M : Type 1} → statement M
 in-text-spec =
     tie.close
-    (tie.spec returns element-copy-out-if3 add-t10 returns-2 returns-3 returns-4 add-t11 returns-5)
+    (tie.spec
+    first-byte-requires
+    returns
+    enum-told
+    slice-aggregate-in-mark
+    in-mark-requires
+    enum-told-2
+    slice-aggregate-in-mark-2
+    in-mark-requires-2
+    returns-2
+    returns-3)
