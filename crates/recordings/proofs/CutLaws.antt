@@ -1,7 +1,7 @@
--- The cut, byte by byte: it loses no byte, and tells what document 01's frames tell.
+-- The cut, byte by byte: it loses no byte, and tells what document 01's frames tell of commands.
 use Prim.Native.Nat.{ℕ, _<_}
 use mathlib.Core.Path.{_≡_, refl, ap, sym, _∙_}
-use mathlib.Core.Bool.{Bool, true, false, cond}
+use mathlib.Core.Bool.{Bool, true, false, cond, _||_}
 use mathlib.Core.List.{List, [], _∷_, _++_, append-assoc, map}
 use mathlib.Core.List.{map-append}
 use native.Mathlib.Omega.{arith}
@@ -9,14 +9,15 @@ use lib.ListN.{length}
 use lib.Dec.{eqb, leb}
 use lib.Seq.{append-snoc}
 use borrow.Author.Tests.{lt-ltb, eqb-true, leb-false}
-use Rattle.frames.specs.Stream.{Mode, Told, isCommand, textLimit, closedTells, abandonedTells, readByte, stream, framed}
+use Rattle.frames.specs.Stream.{Mode, Told, isCommand, isDragDrop, textTells, textLimit, closedTells, abandonedTells, readByte, framed}
 use Rattle.frames.specs.Stream.{afterEscape as modeAfter}
 use Rattle.frames.proofs.Choices.{by-cond}
+use Rattle.frames.proofs.Marks.{not-drag}
 use Rattle.command.specs.Fields.{textRead}
 use Rattle.command.specs.Meaning.{Meaning, meaningOf}
 use Rattle.recordings.specs.Pieces.{Piece, opened, byMeaning, closedPiece, abandonedPiece, afterEscape, completed, held, cut}
 use Rattle.recordings.specs.Pieces.{piecesOf, bytesIn, bytesOf}
-use Rattle.recordings.specs.Laws.{Covers, Reports, numberOf, verdict, verdicts}
+use Rattle.recordings.specs.Laws.{Covers, Reports, numberOf, verdict, verdicts, ofCommand, commandsTold}
 use Rattle.recordings.proofs.PieceLaws.{bytes-append, verdicts-append, joined-bytes, joined-verdicts}
 
 -- ---- the bytes
@@ -84,9 +85,9 @@ pub long-means : (t : List ℕ) → textLimit < length t → meaningOf t ≡ Mea
 unfolding meaningOf textRead
 long-means t h = rw (lt-ltb textLimit (length t) h)
 
-closed-verdicts : (t : List ℕ) → verdicts (closedPiece t ∷ []) ≡ map verdict (closedTells t)
+closed-verdicts : (t : List ℕ) → verdicts (closedPiece t ∷ []) ≡ map verdict (cond (isCommand t) (closedTells t) [])
 unfolding verdicts
-closed-verdicts t = by (isCommand t)
+closed-verdicts t = by (isCommand t) refl
   where
     meant : (m : Meaning) → verdicts (byMeaning m (framed t) ∷ []) ≡ numberOf m ∷ []
     meant (Meaning.command vs) = refl
@@ -96,10 +97,10 @@ closed-verdicts t = by (isCommand t)
     long true e = refl
     long false e = rw (long-means t (leb-false (length t) textLimit e))
 
-    by : (u : Bool) → verdicts (cond u (byMeaning (meaningOf t) (framed t)) (Piece.outside (framed t)) ∷ [])
-        ≡ map verdict (cond u (cond (leb (length t) textLimit) (Told.command t) Told.tooLong ∷ []) [])
-    by true = meant (meaningOf t) ∙ rw (long (leb (length t) textLimit) refl)
-    by false = refl
+    by : (u : Bool) → isCommand t ≡ u → verdicts (cond u (byMeaning (meaningOf t) (framed t)) (Piece.outside (framed t)) ∷ [])
+        ≡ map verdict (cond u (cond (u || isDragDrop t) (cond (leb (length t) textLimit) (textTells t) Told.tooLong ∷ []) []) [])
+    by true c = rw (not-drag t c) (meant (meaningOf t) ∙ rw (long (leb (length t) textLimit) refl))
+    by false c = refl
 
 escape-verdicts : (b : ℕ) → verdicts (afterEscape b) ≡ []
 unfolding verdicts
@@ -107,16 +108,17 @@ escape-verdicts b =
     let Q : List Piece → Type 0 = λ ps. verdicts ps ≡ [] in
     by-cond Q (eqb b 0x5D) (λ _. refl) (λ _. by-cond Q (eqb b 0x1B) (λ _. refl) (λ _. refl))
 
-abandoned-verdicts : (t : List ℕ) (ps : List Piece) → verdicts ps ≡ [] → verdicts (abandonedPiece t ∷ ps) ≡ map verdict (abandonedTells t)
+abandoned-verdicts : (t : List ℕ) (ps : List Piece) → verdicts ps ≡ []
+    → verdicts (abandonedPiece t ∷ ps) ≡ map verdict (cond (isCommand t) (abandonedTells t) [])
 unfolding verdicts
 abandoned-verdicts t ps e = by (isCommand t)
   where
     by : (u : Bool) → verdicts (cond u (Piece.refused 2 (opened t)) (Piece.outside (opened t)) ∷ ps)
-        ≡ map verdict (cond u (Told.abandoned ∷ []) [])
+        ≡ map verdict (cond u (cond (u || isDragDrop t) (Told.abandoned ∷ []) []) [])
     by true = rw e
     by false = e
 
-completed-verdicts : (m : Mode) (b : ℕ) → verdicts (completed m b) ≡ map verdict (readByte m b .0)
+completed-verdicts : (m : Mode) (b : ℕ) → verdicts (completed m b) ≡ map verdict (ofCommand m (readByte m b .0))
 unfolding completed readByte verdicts
 completed-verdicts Mode.outside b = by-cond (λ ps. verdicts ps ≡ []) (eqb b 0x1B) (λ _. refl) (λ _. refl)
 completed-verdicts Mode.escape b = escape-verdicts b
@@ -124,17 +126,18 @@ completed-verdicts (Mode.inside t) b = refl
 completed-verdicts (Mode.insideEscape t) b = by (eqb b 0x5C)
   where
     by : (u : Bool) → verdicts (cond u (closedPiece t ∷ []) (abandonedPiece t ∷ afterEscape b))
-        ≡ map verdict (cond {A = List Told × Mode} u (closedTells t, Mode.outside) (abandonedTells t, modeAfter b) .0)
+        ≡ map verdict (cond (isCommand t)
+        (cond {A = List Told × Mode} u (closedTells t, Mode.outside) (abandonedTells t, modeAfter b) .0) [])
     by true = closed-verdicts t
     by false = abandoned-verdicts t (afterEscape b) (escape-verdicts b)
 
-cut-verdicts : (m : Mode) (xs : List ℕ) → verdicts (cut m xs) ≡ map verdict (stream m xs .0)
-unfolding cut stream verdicts
+cut-verdicts : (m : Mode) (xs : List ℕ) → verdicts (cut m xs) ≡ map verdict (commandsTold m xs)
+unfolding cut commandsTold verdicts
 cut-verdicts m [] = refl
 cut-verdicts m (b ∷ bs) =
     verdicts-append (completed m b) (cut (readByte m b .1) bs)
     ∙ rw (completed-verdicts m b, cut-verdicts (readByte m b .1) bs)
-    (sym (map-append verdict (readByte m b .0) (stream (readByte m b .1) bs .0)))
+    (sym (map-append verdict (ofCommand m (readByte m b .0)) (commandsTold (readByte m b .1) bs)))
 
 pub reports : Reports piecesOf
 unfolding piecesOf

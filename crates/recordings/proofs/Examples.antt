@@ -13,15 +13,16 @@ use Rattle.base64.specs.Alphabet as Alphabet
 use Rattle.base64.specs.Decode as Decode
 use Rattle.decimal.specs.Read as Read
 use Rattle.frames.specs.Stream.{Mode, Told, readByte, stream}
+use Rattle.frames.specs.DragDrop.{noisy}
 use Rattle.command.specs.Keys.{placeIn}
 use Rattle.command.specs.Letters.{keyByte, safeByte, textByte}
 use Rattle.command.specs.Values.{aliasRead, wordRead, safeRead, valueRead}
 use Rattle.command.specs.Fields.{isKey, fieldRead, fieldsRead, textRead}
 use Rattle.command.specs.Meaning.{meaningOf}
 use Rattle.recordings.specs.Pieces.{completed, cut, joined, piecesOf, bytesOf, keptBytes, rowsFrom, dropped}
-use Rattle.recordings.specs.Laws.{without, readable, IsRefused, verdicts}
+use Rattle.recordings.specs.Laws.{without, readable, IsRefused, verdicts, commandsTold}
 use Rattle.recordings.specs.Mend.{mendOf}
-use Rattle.recordings.specs.Examples.{noisy, send, MendExamples}
+use Rattle.recordings.specs.Examples.{send, MendExamples}
 use Rattle.recordings.specs.WrongMenders.{MendTeeth}
 
 -- ---- what computing opens: who names one of these on an `unfolding` line opens all that its own line names
@@ -70,7 +71,10 @@ examples-hold = (
                                 (refl, refl),
                                 (
                                   (refl, refl),
-                                  tt,
+                                  (
+                                    (refl, refl),
+                                    tt,
+                                  ),
                                 ),
                               ),
                             ),
@@ -102,7 +106,7 @@ closer-less (IsRefused.closed f e) = let z : _≡_ {A = ℕ} 51 27 = ap (λ (l :
 closer-less (IsRefused.abandoned n o c l a) = absurd (omega arith)
 
 pub teeth : MendTeeth
-unfolding pieces
+unfolding commandsTold pieces
 teeth =
     record {
       bytesForgotten = λ h. let z : _≡_ {A = ℕ} 0 1 = ap length (h (noisy "x")) in absurd (omega arith);

@@ -1,16 +1,18 @@
 -- What is kept is read as the commands that the recording has, and as nothing else.
 use Prim.Native.Nat.{ℕ, _≤_}
 use mathlib.Core.Path.{_≡_, refl, ap, sym, _∙_}
-use mathlib.Core.Bool.{Bool, true, false, cond}
+use mathlib.Core.Bool.{Bool, true, false, cond, _||_}
 use mathlib.Core.List.{List, [], _∷_, _++_, append-nil}
 use lib.ListN.{length}
 use lib.Dec.{eqb, leb}
 use borrow.Author.Tests.{eqb-false, leb-true, leb-false}
 use Rattle.octets.proofs.Splits.{Free}
-use Rattle.frames.specs.Stream.{Mode, Told, isCommand, textLimit, closedTells, abandonedTells, readByte, andThen, stream, framed}
+use Rattle.frames.specs.Stream.{Mode, Told, isCommand, isDragDrop, isReported, textTells, textLimit, closedTells, abandonedTells}
+use Rattle.frames.specs.Stream.{readByte, andThen, stream, framed}
 use Rattle.frames.specs.Stream.{afterEscape as modeAfter}
 use Rattle.frames.proofs.Choices.{by-cond}
 use Rattle.frames.proofs.Follows.{stream-append}
+use Rattle.frames.proofs.Marks.{not-drag}
 use Rattle.frames.proofs.Framed.{stream-framed}
 use Rattle.command.specs.Meaning.{Meaning, meaningOf}
 use Rattle.recordings.specs.Pieces.{Piece, opened, byMeaning, closedPiece, abandonedPiece, afterEscape, completed, cut}
@@ -48,6 +50,7 @@ readable-append (Told.command t ∷ a) b = rw (readable-append a b) (by (meaning
         ≡ onlyRead m (Told.command t ∷ []) (readable a) ++ readable b
     by (Meaning.command vs) = refl
     by (Meaning.refused n) = refl
+readable-append (Told.dragDrop t ∷ a) b = readable-append a b
 readable-append (Told.tooLong ∷ a) b = readable-append a b
 readable-append (Told.abandoned ∷ a) b = readable-append a b
 
@@ -75,10 +78,17 @@ closed-agree t ys h = by (isCommand t) refl
     long c true e = meant c (leb-true (length t) textLimit e) (meaningOf t)
     long c false e = rw (long-means t (leb-false (length t) textLimit e))
 
+    -- a text of drag and drop is told, and is no command
+    dragged : (d v : Bool) → Agree (Piece.outside (framed t) ∷ [])
+        (cond d (cond v (cond d (Told.dragDrop t) (Told.command t)) Told.tooLong ∷ []) []) ys
+    dragged true true = refl
+    dragged true false = refl
+    dragged false v = refl
+
     by : (u : Bool) → isCommand t ≡ u → Agree (cond u (byMeaning (meaningOf t) (framed t)) (Piece.outside (framed t)) ∷ [])
-        (cond u (cond (leb (length t) textLimit) (Told.command t) Told.tooLong ∷ []) []) ys
-    by true c = long c (leb (length t) textLimit) refl
-    by false c = refl
+        (cond (u || isDragDrop t) (cond (leb (length t) textLimit) (textTells t) Told.tooLong ∷ []) []) ys
+    by true c = rw (not-drag t c) (long c (leb (length t) textLimit) refl)
+    by false c = dragged (isDragDrop t) (leb (length t) textLimit)
 
 pub escape-kept : (b : ℕ) → keptBytes (afterEscape b) ≡ []
 unfolding keptBytes
@@ -88,12 +98,14 @@ escape-kept b =
 
 abandoned-agree : (t : List ℕ) (b : ℕ) (ys : List ℕ) → Agree (abandonedPiece t ∷ afterEscape b) (abandonedTells t) ys
 unfolding keptBytes readable
-abandoned-agree t b ys = by (isCommand t)
+abandoned-agree t b ys = by (isCommand t) (isReported t)
   where
-    by : (u : Bool) → Agree (cond u (Piece.refused 2 (opened t)) (Piece.outside (opened t)) ∷ afterEscape b)
-        (cond u (Told.abandoned ∷ []) []) ys
-    by true = rw (escape-kept b)
-    by false = rw (escape-kept b)
+    by : (u v : Bool) → Agree (cond u (Piece.refused 2 (opened t)) (Piece.outside (opened t)) ∷ afterEscape b)
+        (cond v (Told.abandoned ∷ []) []) ys
+    by true true = rw (escape-kept b)
+    by true false = rw (escape-kept b)
+    by false true = rw (escape-kept b)
+    by false false = rw (escape-kept b)
 
 completed-agree : (m : Mode) (b : ℕ) (ys : List ℕ) → Clean m → Agree (completed m b) (readByte m b .0) ys
 unfolding completed readByte keptBytes readable

@@ -1,21 +1,15 @@
 -- Examples of the rules, each a recording with its list and what is kept of it.
 use Prim.Native.Nat.{ℕ}
-use Prim.Native.String.{String, [] as ε, _∷_ as _◂_}
-use Prim.Native.Char.{code}
+use Prim.Native.String.{String}
 use mathlib.Core.Path.{_≡_}
-use mathlib.Core.Bool.{cond}
 use mathlib.Core.List.{List, [], _∷_}
 use lib.ListN.{replicate}
-use lib.Dec.{eqb}
+use Rattle.frames.specs.DragDrop.{noisy}
 use Rattle.recordings.specs.Pieces.{mendedOf, listOf}
 use Rattle.recordings.specs.Mend.{mendOf}
 use Rattle.recordings.specs.declared.Mended.the-variants.{Done, Refused}
 
--- a quoted recording, in which E stands for the byte 1B
-abbrev pub noisy : String → List ℕ
-noisy ε = []
-noisy (a ◂ s) = cond (eqb (code a) 0x45) 0x1B (code a) ∷ noisy s
-
+-- a recording is quoted, E stands for its byte 1B
 pub record Example : Type 0 where
   pub recording : List ℕ
   pub rows : List ℕ
@@ -46,6 +40,8 @@ examples =
     ∷ example "EE]5113;ac=send;id=mE\\" (0 ∷ 1 ∷ 0 ∷ []) send
     ∷ example "E]0;tE]5113;ac=send;id=mE\\" (0 ∷ 5 ∷ 0 ∷ []) send
     ∷ example "E]0;tE\\xE]5113E\\E[0mE]51E[" (0 ∷ 26 ∷ 0 ∷ []) ""
+    -- texts of drag and drop, closed or abandoned
+    ∷ example "xE]72;t=aE\\E]72;bE]72E]5113;ac=send;id=mE\\E]72;" (0 ∷ 21 ∷ 0 ∷ 42 ∷ 5 ∷ 0 ∷ []) send
     -- what is unfinished at the end is outside
     ∷ example "xE]5113;ac=send;id=m" (0 ∷ 20 ∷ 0 ∷ []) ""
     ∷ example "E]5113;ac=send;id=mE\\E]5113;ac=send;id=mE" (21 ∷ 20 ∷ 0 ∷ []) send

@@ -1,12 +1,12 @@
 -- The laws of mending, each of any mender, so that it can be refuted of a wrong one.
 use Prim.Native.Nat.{ℕ, _+_, _-_, _*_, _<_, _≤_}
 use mathlib.Core.Path.{_≡_}
-use mathlib.Core.Bool.{true, false}
+use mathlib.Core.Bool.{true, false, cond}
 use mathlib.Core.List.{List, [], _∷_, _++_, map}
 use lib.ListN.{length, take, drop}
 use lib.Dec.{eqb}
 use Rattle.octets.specs.Slices.{lacks}
-use Rattle.frames.specs.Stream.{Mode, Told, isCommand, stream, framed}
+use Rattle.frames.specs.Stream.{Mode, Told, isCommand, readByte, stream, framed}
 use Rattle.command.specs.Meaning.{Meaning, meaningOf}
 use Rattle.recordings.specs.Pieces.{Piece, opened, bytesOf, keptBytes, rowsFrom, dropped}
 
@@ -36,6 +36,7 @@ onlyRead (Meaning.refused n) one ts = ts
 unfoldable pub readable : List Told → List Told
 readable [] = []
 readable (Told.command t ∷ ts) = onlyRead (meaningOf t) (Told.command t ∷ []) (readable ts)
+readable (Told.dragDrop t ∷ ts) = readable ts
 readable (Told.tooLong ∷ ts) = readable ts
 readable (Told.abandoned ∷ ts) = readable ts
 
@@ -98,6 +99,7 @@ numberOf (Meaning.refused n) = n
 
 abbrev pub verdict : Told → ℕ
 verdict (Told.command t) = numberOf (meaningOf t)
+verdict (Told.dragDrop t) = 0  -- told of no command
 verdict Told.tooLong = 1
 verdict Told.abandoned = 2
 
@@ -107,9 +109,22 @@ verdicts (Piece.outside bs ∷ ps) = verdicts ps
 verdicts (Piece.kept f ∷ ps) = 0 ∷ verdicts ps
 verdicts (Piece.refused n bs ∷ ps) = n ∷ verdicts ps
 
--- the kept and the refused pieces are, one for one and in order, what document 01's frames report of the recording
+-- "order 9's tool counts them as outside": texts of drag and drop are told by frames, and are no commands. Of what a byte tells after the
+-- mode, what it tells of a command
+abbrev pub ofCommand : Mode → List Told → List Told
+ofCommand Mode.outside ts = ts
+ofCommand Mode.escape ts = ts
+ofCommand (Mode.inside t) ts = ts
+ofCommand (Mode.insideEscape t) ts = cond (isCommand t) ts []
+
+-- of what the bytes tell, what they tell of commands
+unfoldable pub commandsTold : Mode → List ℕ → List Told
+commandsTold m [] = []
+commandsTold m (b ∷ bs) = ofCommand m (readByte m b .0) ++ commandsTold (readByte m b .1) bs
+
+-- the kept and the refused pieces are, one for one and in order, what document 01's frames report of the recording's commands
 abbrev pub Reports : Mender → Type 0
-Reports m = (xs : List ℕ) → verdicts (m xs) ≡ map verdict (stream Mode.outside xs .0)
+Reports m = (xs : List ℕ) → verdicts (m xs) ≡ map verdict (commandsTold Mode.outside xs)
 
 -- ---- three numbers a row, and few rows: 49,152 numbers are room for the list of any recording of 65,536 bytes
 abbrev pub FewRows : Mender → Type 0
