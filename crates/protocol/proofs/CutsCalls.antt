@@ -1,5 +1,7 @@
 -- Each call, lent the kept carry, does to the table what its move does: a feed with a report that of the next thing told by the bytes
 -- that it consumes, a feed without one nothing.
+use Rattle.protocol.specs.Calls.{unread}
+use Rattle.frames.specs.Stream.{isDragDrop}
 use Prim.Native.Nat.{ℕ, _≤_}
 use mathlib.Core.Path.{_≡_, refl, sym, _∙_}
 use mathlib.Core.Bool.{Bool, true, false, cond}
@@ -45,7 +47,7 @@ use Rattle.protocol.proofs.Ours.{Lent, step, given}
 use Rattle.protocol.proofs.ReplyBytes.{SizedReply, reply-sent}
 use Rattle.protocol.proofs.Sizes.{SizedStep, none-sized, empty-sized}
 use Rattle.protocol.proofs.Sizes.{done-sized, failed-sized, unlisted-sized, supply-sized, decided-sized}
-use Rattle.protocol.proofs.ReplyLengths.{report-sized, Roomy, roomy}
+use Rattle.protocol.proofs.ReplyLengths.{read-sized, report-sized, Roomy, roomy}
 use Rattle.protocol.proofs.CutsReading.{same-reading}
 use Rattle.protocol.proofs.CutsSteps.{SameAct, unread-same, act-same}
 use Rattle.protocol.proofs.CutsRun.{zeros, textIn, actOn, reported, moveBy, frameZeros, suppliedOn, move, Moves, none, one}
@@ -88,8 +90,13 @@ module _ (t : Table) (h : Sized t) (scratch reply : List ℕ) (enough : scratchR
   text-moves : (text : List ℕ) → let a = readAct t text (readOf text scratch) in
       Acts t a (reportedBy text a reply ∷ []) (Stream.Told.command text ∷ [])
   text-moves text =
-      act-moves (Stream.Told.command text) _ (report-sized t h (Report.InCarry 0) text scratch .reply)
+      act-moves (Stream.Told.command text) _ (read-sized t h text (readOf text scratch) .reply)
       (act-same t h text (same-reading text scratch zeros enough (lit≤ tt)))
+
+  any-text : (text : List ℕ) (d : Bool) → let a = cond d (unread t Told.DragDrop scratch) (readAct t text (readOf text scratch)) in
+      Acts t a (reportedBy text a reply ∷ []) (cond d (Stream.Told.dragDrop text) (Stream.Told.command text) ∷ [])
+  any-text text true = act-moves (Stream.Told.dragDrop text) _ none-sized (unread-same t _ _ scratch zeros refl refl)
+  any-text text false = text-moves text
 
   report-moves : (k : Report) (piece carry : List ℕ) → (k ≡ Report.ShortCarry → ⊥)
       → let text = textOf piece carry k in
@@ -97,8 +104,8 @@ module _ (t : Table) (h : Sized t) (scratch reply : List ℕ) (enough : scratchR
       Acts t a (cond (isReport k) (reportedBy text a reply ∷ []) []) (toldOf k text)
   unfolding textOf
   report-moves Report.Nothing piece carry n = record { taken = refl; moves = none refl }
-  report-moves (Report.InPiece start len) piece carry n = text-moves _
-  report-moves (Report.InCarry len) piece carry n = text-moves _
+  report-moves (Report.InPiece start len) piece carry n = any-text _ (isDragDrop _)
+  report-moves (Report.InCarry len) piece carry n = any-text _ (isDragDrop _)
   report-moves Report.TooLong piece carry n = act-moves Stream.Told.tooLong _ none-sized (unread-same t _ _ scratch zeros refl refl)
   report-moves Report.Abandoned piece carry n = act-moves Stream.Told.abandoned _ none-sized (unread-same t _ _ scratch zeros refl refl)
   report-moves Report.ShortCarry piece carry n = absurd (n refl)

@@ -36,11 +36,13 @@ zeros = replicate scratchRoom 0
 
 abbrev pub textIn : Stream.Told → List ℕ
 textIn (Stream.Told.command text) = text
+textIn (Stream.Told.dragDrop text) = text
 textIn Stream.Told.tooLong = []
 textIn Stream.Told.abandoned = []
 
 abbrev pub actOn : Table → Stream.Told → Acted
 actOn t (Stream.Told.command text) = readAct t text (readOf text zeros)
+actOn t (Stream.Told.dragDrop text) = unread t Told.DragDrop zeros
 actOn t Stream.Told.tooLong = unread t (Told.Refused 1) zeros
 actOn t Stream.Told.abandoned = unread t (Told.Refused 2) zeros
 

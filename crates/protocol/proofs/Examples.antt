@@ -56,6 +56,7 @@ answer r Told.Ignored id = r
 answer r Told.Naming id = r
 answer r Told.Path id = r
 answer r Told.LastPath id = called r (Call.allow id reply₀) (allowOf (r .world .receiver) id reply₀)
+answer r Told.DragDrop id = r
 answer r Told.Asked id = called r (Call.allow id reply₀) (allowOf (r .world .receiver) id reply₀)
 answer r (Told.Ask a) id = called r (Call.done reply₀) (doneOf (r .world .receiver) reply₀)
 answer r (Told.Status w) id = r

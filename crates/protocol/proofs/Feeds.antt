@@ -1,8 +1,11 @@
 -- A feed keeps the invariant, and turns no record done.
+use Rattle.protocol.specs.Calls.{unread}
+use Rattle.frames.specs.Stream.{isDragDrop}
+use Rattle.frames.specs.Stream as Stream
 use Prim.Native.Nat.{ℕ, _≤_}
 use mathlib.Core.Path.{_≡_, refl}
 use mathlib.Core.Bool.{Bool, true, false, cond}
-use mathlib.Core.List.{List, append-nil}
+use mathlib.Core.List.{List, append-nil, [], _∷_}
 use lib.ListN.{length, take}
 use Rattle.frames.specs.Stream.{textLimit, Mode, stream}
 use Rattle.frames.specs.Calls.{scanOf, textOf}
@@ -53,10 +56,17 @@ module _ {ss : List Session} {m : List Mark} (sound : Sound (idle ss)) (same : T
       go (Answer.refused n) (refused l) =
           record { ok = same; none = none-same (idle ss) Owed.Nothing; taken = text-taken n l }
 
+  -- a text that is reported
+  text-act : (d : Bool)
+      → ActOK ss (toldMarks (cond d (Stream.Told.dragDrop text) (Stream.Told.command text) ∷ []) m)
+      (cond d (unread (idle ss) Told.DragDrop scratch) (readAct (idle ss) text (readOf text scratch)))
+  text-act true = record { ok = same; none = none-same (idle ss) Owed.Nothing; taken = refl }
+  text-act false = read-act
+
   report-act : (r : Report) → (r ≡ Report.ShortCarry → ⊥) → ActOK ss (toldMarks (toldOf r text) m) (reportAct (idle ss) r text scratch)
   report-act Report.Nothing n = record { ok = same; none = none-same (idle ss) Owed.Nothing; taken = refl }
-  report-act (Report.InPiece start len) n = read-act
-  report-act (Report.InCarry len) n = read-act
+  report-act (Report.InPiece start len) n = text-act (isDragDrop text)
+  report-act (Report.InCarry len) n = text-act (isDragDrop text)
   report-act Report.TooLong n = record { ok = same; none = none-same (idle ss) Owed.Nothing; taken = refl }
   report-act Report.Abandoned n = record { ok = same; none = none-same (idle ss) Owed.Nothing; taken = refl }
   report-act Report.ShortCarry n = absurd (n refl)

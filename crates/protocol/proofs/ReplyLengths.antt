@@ -1,4 +1,7 @@
 -- What a report does keeps ids in arrays of at most 32 bytes; and the buffers of a feed that is not refused with 9.
+use Rattle.frames.proofs.Choices.{by-cond}
+use Rattle.protocol.specs.Calls.{Acted, textAct}
+use Rattle.frames.specs.Stream.{isDragDrop}
 use Prim.Native.Nat.{ℕ, _≤_}
 use mathlib.Core.Path.{_≡_, refl}
 use mathlib.Core.Bool.{Bool, true, false, _||_}
@@ -18,17 +21,22 @@ use Rattle.protocol.specs.declared.Table.{Table}
 use Rattle.protocol.proofs.Laws.{no-way}
 use Rattle.protocol.proofs.Sizes.{SizedStep, none-sized, obey-sized}
 
-read-sized : (t : Table) → Sized t → (text : List ℕ) (o : Outcome Answer) → SizedStep (readAct t text o .step)
+pub read-sized : (t : Table) → Sized t → (text : List ℕ) (o : Outcome Answer) → SizedStep (readAct t text o .step)
 read-sized t h text o = go (o .answer)
   where
     go : (a : Answer) → SizedStep (readAct t text (record { answer = a; buffer = o .buffer }) .step)
     go (Answer.read c) = obey-sized t h c text (o .buffer) .sized
     go (Answer.refused n) = record { table = h; reply = none-sized }
 
+text-sized : (t : Table) → Sized t → (text scratch : List ℕ) → SizedStep (textAct t text scratch .step)
+text-sized t h text scratch =
+    by-cond (λ (a : Acted). SizedStep (a .step)) (isDragDrop text) (λ _. record { table = h; reply = none-sized })
+    (λ _. read-sized t h text (readOf text scratch))
+
 pub report-sized : (t : Table) → Sized t → (k : Report) (text scratch : List ℕ) → SizedStep (reportAct t k text scratch .step)
 report-sized t h Report.Nothing text scratch = record { table = h; reply = none-sized }
-report-sized t h (Report.InPiece start n) text scratch = read-sized t h text (readOf text scratch)
-report-sized t h (Report.InCarry n) text scratch = read-sized t h text (readOf text scratch)
+report-sized t h (Report.InPiece start n) text scratch = text-sized t h text scratch
+report-sized t h (Report.InCarry n) text scratch = text-sized t h text scratch
 report-sized t h Report.TooLong text scratch = record { table = h; reply = none-sized }
 report-sized t h Report.Abandoned text scratch = record { table = h; reply = none-sized }
 report-sized t h Report.ShortCarry text scratch = record { table = h; reply = none-sized }

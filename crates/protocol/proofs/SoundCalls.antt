@@ -1,4 +1,6 @@
 -- Every table that calls on a fresh receiver make is sound, whatever they are lent.
+use Rattle.protocol.specs.Calls.{Acted, textAct}
+use Rattle.frames.specs.Stream.{isDragDrop}
 use Prim.Native.Nat.{ℕ}
 use mathlib.Core.Path.{_≡_, refl}
 use mathlib.Core.List.{List, [], _∷_}
@@ -65,10 +67,14 @@ module _ {t : Table} (ok : Sound t) (free : t .owed ≡ Owed.Nothing) (text scra
       go (Answer.read c) e = obey-sound t ok free c text left (read-well text scratch c e)
       go (Answer.refused n) e = ok
 
+  -- one of drag and drop leaves the table
+  either : Sound (textAct t text scratch .step .table)
+  either = by-cond (λ (a : Acted). Sound (a .step .table)) (isDragDrop text) (λ _. ok) (λ _. text-sound)
+
   report-sound : (r : Report) → Sound (reportAct t r text scratch .step .table)
   report-sound Report.Nothing = ok
-  report-sound (Report.InPiece begin len) = text-sound
-  report-sound (Report.InCarry len) = text-sound
+  report-sound (Report.InPiece begin len) = either
+  report-sound (Report.InCarry len) = either
   report-sound Report.TooLong = ok
   report-sound Report.Abandoned = ok
   report-sound Report.ShortCarry = ok

@@ -12,7 +12,7 @@ use Rattle.decimal.specs.Write as Write
 use Rattle.pathname.specs.Name.{rooted, validComponent, validComponents, validName}
 use Rattle.pathname.specs.Utf8.{followersIn, sequences}
 use Rattle.frames.specs.Stream.{readByte, stream}
-use Rattle.frames.specs.Framings.{mayBeCommand}
+use Rattle.frames.specs.Framings.{mayBe}
 use Rattle.frames.specs.Steps.{stepOf, walkFrom}
 use Rattle.frames.specs.Carry.{heldOf, carryOf}
 use Rattle.frames.specs.Calls.{reportOf, scanOf, textOf}
@@ -52,7 +52,7 @@ unfolding rooted validComponent validComponents validName followersIn sequences
 pathname = tt
 
 frames : Unit {0}
-unfolding readByte stream mayBeCommand stepOf walkFrom heldOf carryOf reportOf scanOf textOf
+unfolding readByte stream mayBe stepOf walkFrom heldOf carryOf reportOf scanOf textOf
 frames = tt
 
 meaning : Unit {0}

@@ -28,6 +28,7 @@ abbrev pub isPlain : Told → Bool
 isPlain Told.Nothing = true
 isPlain (Told.Refused n) = false
 isPlain Told.Ignored = true
+isPlain Told.DragDrop = true
 isPlain Told.Asked = true
 isPlain Told.Naming = true
 isPlain Told.Path = true
@@ -50,6 +51,7 @@ pub plain : (w : Told) → isPlain w ≡ true → Plain w
 plain Told.Nothing e = record { silent = λ _. refl; unasking = λ _. refl; taken = refl; accepted = refl; same = λ _ _. refl }
 plain (Told.Refused n) e = no-way (sym e)
 plain Told.Ignored e = record { silent = λ _. refl; unasking = λ _. refl; taken = refl; accepted = refl; same = λ _ _. refl }
+plain Told.DragDrop e = record { silent = λ _. refl; unasking = λ _. refl; taken = refl; accepted = refl; same = λ _ _. refl }
 plain Told.Asked e = record { silent = λ _. refl; unasking = λ _. refl; taken = refl; accepted = refl; same = λ _ _. refl }
 plain Told.Naming e = record { silent = λ _. refl; unasking = λ _. refl; taken = refl; accepted = refl; same = λ _ _. refl }
 plain Told.Path e = record { silent = λ _. refl; unasking = λ _. refl; taken = refl; accepted = refl; same = λ _ _. refl }

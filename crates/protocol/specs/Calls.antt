@@ -5,7 +5,7 @@ use mathlib.Core.List.{List}
 use lib.ListN.{length}
 use lib.Dec.{ltb}
 use Rattle.octets.specs.Outcome.{Outcome, outcome}
-use Rattle.frames.specs.Stream.{textLimit}
+use Rattle.frames.specs.Stream.{isDragDrop, textLimit}
 use Rattle.frames.specs.Calls.{refusalNumber, scanOf, textOf}
 use Rattle.frames.specs.declared.Framing.{Framing}
 use Rattle.frames.specs.declared.Report.{Report}
@@ -65,11 +65,15 @@ readAct t text o = go (o .answer)
     go (Answer.read c) = acted (obeyOf t c text (o .buffer)) c (o .buffer)
     go (Answer.refused n) = unread t (Told.Refused n) (o .buffer)
 
--- what a report does, given its text: a command text is read, a refusal of the frame is told
+-- a text that is reported: one of drag and drop is told and not read, a command text is read
+abbrev pub textAct : Table → List ℕ → List ℕ → Acted
+textAct t text scratch = cond (isDragDrop text) (unread t Told.DragDrop scratch) (readAct t text (readOf text scratch))
+
+-- what a report does, given its text; a refusal of the frame is told
 abbrev pub reportAct : Table → Report → List ℕ → List ℕ → Acted
 reportAct t Report.Nothing text scratch = unread t Told.Nothing scratch
-reportAct t (Report.InPiece start n) text scratch = readAct t text (readOf text scratch)
-reportAct t (Report.InCarry n) text scratch = readAct t text (readOf text scratch)
+reportAct t (Report.InPiece start n) text scratch = textAct t text scratch
+reportAct t (Report.InCarry n) text scratch = textAct t text scratch
 reportAct t Report.TooLong text scratch = unread t (Told.Refused (refusalNumber Report.TooLong)) scratch
 reportAct t Report.Abandoned text scratch = unread t (Told.Refused (refusalNumber Report.Abandoned)) scratch
 reportAct t Report.ShortCarry text scratch = unread t (Told.Refused (refusalNumber Report.ShortCarry)) scratch

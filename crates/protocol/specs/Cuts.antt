@@ -28,6 +28,7 @@ pub data Saying : Type 0 where
   nothing : Saying
   refused : ℕ → Saying
   ignored : Saying
+  dragDrop : Saying
   asked : Saying
   naming : Saying
   path : Saying
@@ -43,6 +44,7 @@ abbrev pub saying : Told → List ℕ → Saying
 saying Told.Nothing scratch = Saying.nothing
 saying (Told.Refused n) scratch = Saying.refused n
 saying Told.Ignored scratch = Saying.ignored
+saying Told.DragDrop scratch = Saying.dragDrop
 saying Told.Asked scratch = Saying.asked
 saying Told.Naming scratch = Saying.naming
 saying Told.Path scratch = Saying.path

@@ -39,6 +39,7 @@ abbrev pub hearing : Told → List ℕ → Option Heard
 hearing Told.Nothing scratch = Option.none
 hearing (Told.Refused n) scratch = Option.none
 hearing Told.Ignored scratch = Option.none
+hearing Told.DragDrop scratch = Option.none
 hearing Told.Asked scratch = Option.none
 hearing Told.Naming scratch = Option.none
 hearing Told.Path scratch = Option.none

@@ -132,6 +132,7 @@ abbrev pub isAsking : Saying → Bool
 isAsking Saying.nothing = false
 isAsking (Saying.refused n) = false
 isAsking Saying.ignored = false
+isAsking Saying.dragDrop = false
 isAsking Saying.asked = false
 isAsking Saying.naming = false
 isAsking Saying.path = false

@@ -65,6 +65,7 @@ abbrev pub refusalTold : Told → Option ℕ
 refusalTold Told.Nothing = Option.none
 refusalTold (Told.Refused n) = Option.some n
 refusalTold Told.Ignored = Option.none
+refusalTold Told.DragDrop = Option.none
 refusalTold Told.Asked = Option.none
 refusalTold Told.Naming = Option.none
 refusalTold Told.Path = Option.none

@@ -11,6 +11,7 @@ readMark f (Meaning.refused n) m = m
 
 abbrev pub toldMark : {M : Type 0} → (List Value → M) → Told → List M → List M
 toldMark f (Told.command t) m = readMark f (meaningOf t) m
+toldMark f (Told.dragDrop t) m = m
 toldMark f Told.tooLong m = m
 toldMark f Told.abandoned m = m
 

@@ -17,6 +17,7 @@ abbrev pub answersTo : Told → (id reply : List ℕ) → List Call
 answersTo Told.Nothing id reply = []
 answersTo (Told.Refused n) id reply = []
 answersTo Told.Ignored id reply = []
+answersTo Told.DragDrop id reply = []
 answersTo Told.Asked id reply = Call.allow id reply ∷ []
 answersTo Told.Naming id reply = []
 answersTo Told.Path id reply = []

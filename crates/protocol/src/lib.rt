@@ -167,6 +167,8 @@ pub enum Told {
     Refused(u8),
     // A command was read, and the rule ignores it.
     Ignored,
+    // A text of drag and drop was reported. It is no command, and is read by other calls.
+    DragDrop,
     // A new session waits for the user.
     Asked,
     // A new receive session names its paths; a path of it; and its last one, with which it waits for the

@@ -25,7 +25,7 @@ use Rattle.protocol.proofs.isolation.Calls.{Single, other, own, none-si
 use Rattle.octets.specs.Slices.{equals}
 use Rattle.octets.specs.Outcome.{outcome}
 use Rattle.octets.proofs.Compare.{equals-refl, equals-sound}
-use Rattle.frames.specs.Stream.{stream}
+use Rattle.frames.specs.Stream.{isDragDrop, stream}
 use Rattle.frames.specs.Stream as Stream
 use Rattle.frames.specs.Calls.{scanOf, textOf}
 use Rattle.frames.specs.Follows.{Follows, toldOf}
@@ -43,7 +43,7 @@ use Rattle.protocol.specs.Promises.{Sized}
 use Rattle.protocol.proofs.Ours.{Lent}
 use Rattle.protocol.proofs.Backs.{not-owed}
 use Rattle.protocol.proofs.ReplyBytes.{SizedReply, reply-sent}
-use Rattle.protocol.proofs.ReplyLengths.{report-sized, Roomy, roomy}
+use Rattle.protocol.proofs.ReplyLengths.{read-sized, Roomy, roomy}
 use Rattle.protocol.proofs.Sizes.{none-sized}
 use Rattle.protocol.proofs.Worlds.{WorldOK}
 use Rattle.protocol.proofs.CutsCalls.{Kept, report-taken}
@@ -72,6 +72,7 @@ module _ (A : List ℕ) {t : Table} (ok : Sound t) (sized : Sized t) (free : t .
   asked-another d e Told.Nothing left = refl
   asked-another d e (Told.Refused n) left = refl
   asked-another d e Told.Ignored left = refl
+  asked-another d e Told.DragDrop left = refl
   asked-another d e Told.Asked left = refl
   asked-another d e Told.Naming left = refl
   asked-another d e Told.Path left = refl
@@ -90,7 +91,7 @@ module _ (A : List ℕ) {t : Table} (ok : Sound t) (sized : Sized t) (free : t .
 
   text-single : (text : List ℕ) → SingleAct (Stream.Told.command text ∷ []) (readAct t text (readOf text scratch))
   text-single text =
-      go (readOf text scratch .answer) (text-read text scratch enough) (report-sized t sized (Report.InCarry 0) text scratch .reply)
+      go (readOf text scratch .answer) (text-read text scratch enough) (read-sized t sized text (readOf text scratch) .reply)
     where
       left : List ℕ
       left = readOf text scratch .buffer
@@ -116,11 +117,17 @@ module _ (A : List ℕ) {t : Table} (ok : Sound t) (sized : Sized t) (free : t .
               other refl (rw (reply-sent _ reply z long .bytes, obey-silent A ok free means is)) (asked-another d e told left)
               (obey-other A ok free means is)
 
+  -- a text of drag and drop is told and read by nobody here
+  any-single : (text : List ℕ) (d : Bool) → SingleAct (cond d (Stream.Told.dragDrop text) (Stream.Told.command text) ∷ [])
+      (cond d (unread t Told.DragDrop scratch) (readAct t text (readOf text scratch)))
+  any-single text true met = other refl (unread-silent Told.DragDrop scratch) refl refl
+  any-single text false met = text-single text met
+
   report-single : (k : Report) (piece carry : List ℕ) → (k ≡ Report.ShortCarry → ⊥) → let text = textOf piece carry k in
       SingleAct (toldOf k text) (reportAct t k text scratch)
   report-single Report.Nothing piece carry n met = other refl (unread-silent Told.Nothing scratch) refl refl
-  report-single (Report.InPiece start len) piece carry n met = text-single _ met
-  report-single (Report.InCarry len) piece carry n met = text-single _ met
+  report-single (Report.InPiece start len) piece carry n met = any-single _ (isDragDrop _) met
+  report-single (Report.InCarry len) piece carry n met = any-single _ (isDragDrop _) met
   report-single Report.TooLong piece carry n met = other refl (unread-silent (Told.Refused 1) scratch) refl refl
   report-single Report.Abandoned piece carry n met = other refl (unread-silent (Told.Refused 2) scratch) refl refl
   report-single Report.ShortCarry piece carry n met = absurd (n refl)

@@ -115,6 +115,7 @@ abbrev handed : Saying → ℕ
 handed Saying.nothing = 0
 handed (Saying.refused n) = 0
 handed Saying.ignored = 0
+handed Saying.dragDrop = 0
 handed Saying.asked = 0
 handed Saying.naming = 0
 handed Saying.path = 0
