@@ -1,5 +1,10 @@
 -- Each call, lent the kept carry, does to the session what its move does: a hear with a report that of the next thing told by the bytes
 -- that it consumes, a hear without one nothing.
+use Rattle.sending.specs.declared.News.the-variants as News
+use Rattle.command.specs.Read.{readOf}
+use Rattle.sending.specs.Calls.{readHeed}
+use Rattle.sending.specs.Heeding.{heeded}
+use Rattle.frames.specs.Stream.{isDragDrop}
 use Prim.Native.Nat.{ℕ, _≤_}
 use mathlib.Core.Path.{_≡_, refl, sym, _∙_}
 use mathlib.Core.Bool.{Bool, true, false, cond, _||_}
@@ -7,7 +12,7 @@ use mathlib.Core.List.{List, [], _∷_, _++_, append-nil}
 use lib.ListN.{length, take}
 use lib.Dec.{ltb, lit≤}
 use borrow.Author.Tests.{ltb-false}
-use Rattle.octets.specs.Outcome.{Outcome}
+use Rattle.octets.specs.Outcome.{Outcome, outcome}
 use Rattle.frames.specs.Stream as Stream
 use Rattle.frames.specs.Stream.{textLimit, stream}
 use Rattle.frames.specs.Calls.{scanOf, textOf}
@@ -60,16 +65,20 @@ module _ (t : Transfer) (scratch : List ℕ) (enough : scratchRoom ≤ length sc
         moves = rw (e, s .transfer) (one {t′ = heedOn t d .answer .transfer} (reported t d) (d ∷ []) refl (λ rest. refl));
       }
 
+  text-moves : (text : List ℕ) (d : Bool)
+      → let h = cond d (outcome (heeded t News.Ignored) scratch) (readHeed t text (readOf text scratch)) in
+      Heeds t h (reportedBy text h ∷ []) (cond d (Stream.Told.dragDrop text) (Stream.Told.command text) ∷ [])
+  text-moves text true = heed-moves (Stream.Told.dragDrop text) _ (record { transfer = refl; said = refl; taken = refl })
+  text-moves text false = heed-moves (Stream.Told.command text) _ (read-heeds t text (same-reading text scratch zeros enough (lit≤ tt)))
+
   report-moves : (k : Report) (bytes carry : List ℕ) → (k ≡ Report.ShortCarry → ⊥)
       → let text = textOf bytes carry k in
       let h = reportHeed t k text scratch in
       Heeds t h (cond (isReport k) (reportedBy text h ∷ []) []) (toldOf k text)
   unfolding textOf reportHeed
   report-moves Report.Nothing bytes carry n = record { taken = refl; moves = none refl }
-  report-moves (Report.InPiece start len) bytes carry n =
-      heed-moves (Stream.Told.command _) _ (read-heeds t _ (same-reading _ scratch zeros enough (lit≤ tt)))
-  report-moves (Report.InCarry len) bytes carry n =
-      heed-moves (Stream.Told.command _) _ (read-heeds t _ (same-reading _ scratch zeros enough (lit≤ tt)))
+  report-moves (Report.InPiece start len) bytes carry n = text-moves _ (isDragDrop _)
+  report-moves (Report.InCarry len) bytes carry n = text-moves _ (isDragDrop _)
   report-moves Report.TooLong bytes carry n =
       heed-moves Stream.Told.tooLong _ (record { transfer = refl; said = refl; taken = refl })
   report-moves Report.Abandoned bytes carry n =

@@ -32,6 +32,7 @@ moved o t ds = record { output = o; state = t; rest = ds }
 -- a thing told by the bytes, heeded with a scratch of zeros
 abbrev pub heedOn : Transfer → Stream.Told → Outcome Heeded
 heedOn t (Stream.Told.command text) = readHeed t text (readOf text zeros)
+heedOn t (Stream.Told.dragDrop text) = outcome (heeded t News.Ignored) zeros
 heedOn t Stream.Told.tooLong = outcome (heeded t (News.Refused 1)) zeros
 heedOn t Stream.Told.abandoned = outcome (heeded t (News.Refused 2)) zeros
 

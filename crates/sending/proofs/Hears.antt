@@ -1,4 +1,5 @@
 -- A hear: what is kept, and what is told.
+use Rattle.frames.specs.Stream.{isDragDrop}
 use Prim.Native.Nat.{ℕ, _≤_, _<_}
 use mathlib.Core.Path.{_≡_, refl, sym}
 use mathlib.Core.Bool.{Bool, true, false, not, cond, _&&_, _||_}
@@ -137,12 +138,19 @@ module _ {t : Transfer} {m : List Mark} (k : Kept t m) where
           let o = text-taken n (meaning-refusal text n (sym w)) in
           record { kept = rw (← w) k; tells = rw (← w); taken = or-left (eqb n 9) (eqb n 10) o }
 
+  text-heard : (text scratch : List ℕ) → scratchRoom ≤ length scratch → (d : Bool)
+      → let told = cond d (Told.dragDrop text) (Told.command text) ∷ [] in
+      Reported m (toldMarks Mark.read told m) told
+      (cond d (outcome (heeded t News.Ignored) scratch) (readHeed t text (readOf text scratch)))
+  text-heard text scratch enough true = record { kept = k; tells = refl; taken = refl }
+  text-heard text scratch enough false = read-reported text scratch enough
+
   pub report-heard : (r : Report) (text scratch : List ℕ) → scratchRoom ≤ length scratch → (r ≡ Report.ShortCarry → ⊥)
       → Reported m (toldMarks Mark.read (toldOf r text) m) (toldOf r text) (reportHeed t r text scratch)
   unfolding reportHeed
   report-heard Report.Nothing text scratch enough n = record { kept = k; tells = refl; taken = refl }
-  report-heard (Report.InPiece start l) text scratch enough n = read-reported text scratch enough
-  report-heard (Report.InCarry l) text scratch enough n = read-reported text scratch enough
+  report-heard (Report.InPiece start l) text scratch enough n = text-heard text scratch enough (isDragDrop text)
+  report-heard (Report.InCarry l) text scratch enough n = text-heard text scratch enough (isDragDrop text)
   report-heard Report.TooLong text scratch enough n = record { kept = k; tells = refl; taken = refl }
   report-heard Report.Abandoned text scratch enough n = record { kept = k; tells = refl; taken = refl }
   report-heard Report.ShortCarry text scratch enough n = absurd (n refl)

@@ -6,7 +6,7 @@ use lib.ListN.{length}
 use lib.Dec.{ltb, leb}
 use Rattle.octets.specs.Members.{every}
 use Rattle.octets.specs.Outcome.{Outcome, outcome}
-use Rattle.frames.specs.Stream.{textLimit}
+use Rattle.frames.specs.Stream.{isDragDrop, textLimit}
 use Rattle.frames.specs.Calls.{refusalNumber, scanOf, textOf}
 use Rattle.frames.specs.declared.Report.{Report}
 use Rattle.frames.specs.declared.Report.the-variants as Report
@@ -129,11 +129,16 @@ readHeed t text o = go (o .answer)
     go (Read.Answer.read c) = outcome (heedOf t c text (o .buffer)) (o .buffer)
     go (Read.Answer.refused n) = outcome (heeded t (News.Refused n)) (o .buffer)
 
+-- a text that is reported: one of drag and drop is ignored, a command text is read
+abbrev pub textHeed : Transfer → (text scratch : List ℕ) → Outcome Heeded
+textHeed t text scratch =
+    cond (isDragDrop text) (outcome (heeded t News.Ignored) scratch) (readHeed t text (readOf text scratch))
+
 -- a report, given its text, with the scratch afterwards
 unfoldable pub reportHeed : Transfer → Report → (text scratch : List ℕ) → Outcome Heeded
 reportHeed t Report.Nothing text scratch = outcome (heeded t News.Nothing) scratch
-reportHeed t (Report.InPiece start n) text scratch = readHeed t text (readOf text scratch)
-reportHeed t (Report.InCarry n) text scratch = readHeed t text (readOf text scratch)
+reportHeed t (Report.InPiece start n) text scratch = textHeed t text scratch
+reportHeed t (Report.InCarry n) text scratch = textHeed t text scratch
 reportHeed t Report.TooLong text scratch = outcome (heeded t (News.Refused (refusalNumber Report.TooLong))) scratch
 reportHeed t Report.Abandoned text scratch = outcome (heeded t (News.Refused (refusalNumber Report.Abandoned))) scratch
 reportHeed t Report.ShortCarry text scratch = outcome (heeded t (News.Refused (refusalNumber Report.ShortCarry))) scratch

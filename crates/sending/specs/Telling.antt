@@ -190,5 +190,6 @@ meaningSaying m (Meaning.refused n) = Saying.refused n
 
 abbrev pub toldSaying : List Mark → Told → Saying
 toldSaying m (Told.command t) = meaningSaying m (meaningOf t)
+toldSaying m (Told.dragDrop t) = Saying.ignored
 toldSaying m Told.tooLong = Saying.refused 1
 toldSaying m Told.abandoned = Saying.refused 2

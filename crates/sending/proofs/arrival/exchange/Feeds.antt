@@ -28,7 +28,7 @@ use Rattle.sending.proofs.arrival.path.Paths.{path-append, reach-append
 use Rattle.sending.proofs.arrival.receiver.Reads.{sayingFor, ReadAs, read-order}
 use Rattle.sending.proofs.arrival.receiver.Promised.{promised}
 use Rattle.sending.proofs.arrival.line.Line.{Line, Next, nothing, reads-on, taken-first, next-nothing, next-text, next-long}
-use Rattle.sending.proofs.arrival.line.Line.{next-left}
+use Rattle.sending.proofs.arrival.line.Line.{next-left, next-other}
 use Rattle.sending.proofs.arrival.line.Fed.{FedBy, Quiet, Acts, fed-by, consumedOf, replyOf}
 use Rattle.sending.proofs.arrival.line.Fed as Fed
 
@@ -55,6 +55,7 @@ abbrev asksIn : Saying → Option Heard
 asksIn Saying.nothing = Option.none
 asksIn (Saying.refused n) = Option.none
 asksIn Saying.ignored = Option.none
+asksIn Saying.dragDrop = Option.none
 asksIn Saying.asked = Option.none
 asksIn Saying.naming = Option.none
 asksIn Saying.path = Option.none
@@ -69,6 +70,7 @@ hearing-said : (w : Told) (scratch : List ℕ) → hearing w scratch ≡ asksIn 
 hearing-said Told.Nothing scratch = refl
 hearing-said (Told.Refused n) scratch = refl
 hearing-said Told.Ignored scratch = refl
+hearing-said Told.DragDrop scratch = refl
 hearing-said Told.Asked scratch = refl
 hearing-said Told.Naming scratch = refl
 hearing-said Told.Path scratch = refl
@@ -200,3 +202,4 @@ module _ (id : List ℕ) (done : List Order) (w : World) (there : List ℕ) (n :
       go (Fed.text t a) = text-turn owed unread path few alone r t a
       go (Fed.long e) = absurd (next-long (fed-next owed unread r) e)
       go (Fed.left e) = absurd (next-left (fed-next owed unread r) e)
+      go (Fed.other t e) = absurd (next-other t (fed-next owed unread r) e)

@@ -23,7 +23,7 @@ use Rattle.sending.proofs.arrival.path.Paths.{reach-append, repliesAt-a
 use Rattle.sending.proofs.arrival.sender.Behind.{Behind}
 use Rattle.sending.proofs.arrival.sender.Hears.{Replied, hear-reply}
 use Rattle.sending.proofs.arrival.line.Line.{Line, Next, modeOf, reads-on, taken-first, next-nothing, next-text, next-long}
-use Rattle.sending.proofs.arrival.line.Line.{next-left}
+use Rattle.sending.proofs.arrival.line.Line.{next-left, next-other}
 use Rattle.sending.proofs.arrival.line.Heard.{Heeds, HeardBy, Hearing, hearing-by, heardOf}
 use Rattle.sending.proofs.arrival.line.Heard as Heard
 
@@ -155,3 +155,4 @@ module _ (id : List ℕ) (heard rest : List Order) (s : Sender) (carry back : Li
       go (Heard.text t e) = text replied path alone k t e
       go (Heard.long e) = absurd (next-long (told replied k) e)
       go (Heard.left e) = absurd (next-left (told replied k) e)
+      go (Heard.other t e) = absurd (next-other t (told replied k) e)

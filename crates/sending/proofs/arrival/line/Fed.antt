@@ -1,4 +1,6 @@
 -- What a feed does to the console's world: nothing, or what the one text that its bytes tell does to the table.
+use Rattle.frames.specs.Stream.{isDragDrop, textTells}
+use Rattle.protocol.specs.Calls.{textAct}
 use Prim.Native.Nat.{ℕ}
 use mathlib.Core.Path.{_≡_, refl, _∙_}
 use mathlib.Core.Bool.{Bool, true, false, cond}
@@ -23,7 +25,7 @@ use Rattle.frames.specs.declared.Scanned.{Scanned}
 use Rattle.octets.specs.Outcome.{Outcome}
 use Rattle.protocol.specs.declared.Receiver.{Receiver}
 use Rattle.protocol.proofs.ReplyBytes.{reply-sent, not-due}
-use Rattle.protocol.proofs.ReplyLengths.{report-sized, Roomy, roomy}
+use Rattle.protocol.proofs.ReplyLengths.{read-sized, Roomy, roomy}
 use Rattle.protocol.proofs.CutsReading.{same-reading}
 use Rattle.protocol.proofs.CutsSteps.{act-same}
 use Rattle.protocol.proofs.CutsRun.{zeros, actOn, reported}
@@ -57,6 +59,7 @@ pub data FedBy (w : World) (piece : List ℕ) (f : Feeding) : Type 0 where
   text : (t : List ℕ) → Acts w piece f t → FedBy w piece f
   long : toldAfter w (consumedOf piece f) ≡ Told.tooLong ∷ [] → FedBy w piece f
   left : toldAfter w (consumedOf piece f) ≡ Told.abandoned ∷ [] → FedBy w piece f
+  other : (t : List ℕ) → toldAfter w (consumedOf piece f) ≡ Told.dragDrop t ∷ [] → FedBy w piece f
 
 module _ (w : World) (ok : Kept w) (piece scratch reply : List ℕ) where
   abbrev taken : Feeding
@@ -80,7 +83,7 @@ module _ (w : World) (ok : Kept w) (piece scratch reply : List ℕ) where
           → toldOf (k .answer .report) (textOf piece (k .buffer) (k .answer .report)) ≡ Told.command t ∷ [] → FedBy w piece taken
       acts t e d =
           let s = act-same (r .table) (ok .sized) t (same-reading t scratch zeros (room .scratch) (lit≤ tt)) in
-          let z = report-sized (r .table) (ok .sized) (Report.InCarry 0) t scratch .reply in
+          let z = read-sized (r .table) (ok .sized) t (readOf t scratch) .reply in
           let b = reply-sent (readAct (r .table) t (readOf t scratch) .step .reply) reply z (room .reply) .bytes in
           text t (record {
             told = told ∙ d;
@@ -90,11 +93,18 @@ module _ (w : World) (ok : Kept w) (piece scratch reply : List ℕ) where
             reply = rw e (b ∙ rw (s .step));
           })
 
+      any : (t : List ℕ) → reportAct (r .table) (k .answer .report) (textOf piece (k .buffer) (k .answer .report)) scratch
+          ≡ textAct (r .table) t scratch
+          → toldOf (k .answer .report) (textOf piece (k .buffer) (k .answer .report)) ≡ textTells t ∷ []
+          → (d : Bool) → isDragDrop t ≡ d → FedBy w piece taken
+      any t e f true q = other t (told ∙ f ∙ rw q)
+      any t e f false q = acts t (e ∙ rw q) (f ∙ rw q)
+
       go : (e : Report) → k .answer .report ≡ e → (k .answer .report ≡ Report.ShortCarry → ⊥) → FedBy w piece taken
       go Report.Nothing q n =
           nothing (record { told = told ∙ rw q; table = rw q; hears = rw q; reply = rw (q, not-due noReply reply refl) })
-      go (Report.InPiece start len) q n = acts (textOf piece (k .buffer) (k .answer .report)) (rw q) (rw q)
-      go (Report.InCarry len) q n = acts (textOf piece (k .buffer) (k .answer .report)) (rw q) (rw q)
+      go (Report.InPiece start len) q n = any (textOf piece (k .buffer) (k .answer .report)) (rw q) (rw q) (isDragDrop _) refl
+      go (Report.InCarry len) q n = any (textOf piece (k .buffer) (k .answer .report)) (rw q) (rw q) (isDragDrop _) refl
       go Report.TooLong q n = long (told ∙ rw q)
       go Report.Abandoned q n = left (told ∙ rw q)
       go Report.ShortCarry q n = absurd (n q)

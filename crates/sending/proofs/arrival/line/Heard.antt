@@ -1,4 +1,5 @@
 -- What a hear does to a sender: nothing, or what the one text that its bytes tell does to its session.
+use Rattle.frames.specs.Stream.{isDragDrop, textTells}
 use Prim.Native.Nat.{ℕ, _≤_}
 use mathlib.Core.Path.{_≡_, refl, _∙_}
 use mathlib.Core.Bool.{Bool, true, false, cond, _||_}
@@ -18,7 +19,7 @@ use Rattle.frames.proofs.CallLaws.{call-report, consumed-le}
 use Rattle.frames.proofs.Follows.{call-follows}
 use Rattle.command.specs.Read.{scratchRoom, readOf}
 use Rattle.protocol.proofs.Laws.{no-way}
-use Rattle.sending.specs.Calls.{Listening, listening, readHeed, reportHeed, scannedHear, unheard, hearOf}
+use Rattle.sending.specs.Calls.{Listening, listening, readHeed, textHeed, reportHeed, scannedHear, unheard, hearOf}
 use Rattle.sending.specs.Arrives.{isFine}
 use Rattle.sending.specs.declared.Sender.{Sender}
 
@@ -40,6 +41,7 @@ pub data HeardBy (s : Sender) (piece scratch : List ℕ) (m : Mode) (l : Listeni
   text : (t : List ℕ) → Heeds s piece scratch m l t → HeardBy s piece scratch m l
   long : stream m (heardOf piece l) .0 ≡ Told.tooLong ∷ [] → HeardBy s piece scratch m l
   left : stream m (heardOf piece l) .0 ≡ Told.abandoned ∷ [] → HeardBy s piece scratch m l
+  other : (t : List ℕ) → stream m (heardOf piece l) .0 ≡ Told.dragDrop t ∷ [] → HeardBy s piece scratch m l
 
 -- and the framing follows the line
 pub record Hearing (s : Sender) (piece scratch : List ℕ) (m : Mode) (l : Listening) : Type 0 where
@@ -71,14 +73,17 @@ module _ (s : Sender) (piece carry scratch : List ℕ) (m : Mode) (ok : Follows 
           × Follows (k .answer .framing) (k .buffer) (stream m (take (k .answer .consumed) piece) .1)
       c = call-follows piece ok
 
+      any : (t : List ℕ) → toldOf (k .answer .report) (textOf piece (k .buffer) (k .answer .report)) ≡ textTells t ∷ []
+          → taken .listened .sender .transfer ≡ textHeed (s .transfer) t scratch .answer .transfer
+          → taken .listened .news ≡ textHeed (s .transfer) t scratch .answer .news
+          → (d : Bool) → isDragDrop t ≡ d → HeardBy s piece scratch m taken
+      any t f g h true q = other t (c .0 ∙ f ∙ rw q)
+      any t f g h false q = text t (record { told = c .0 ∙ f ∙ rw q; enough = enough; transfer = g ∙ rw q; news = h ∙ rw q })
+
       go : (e : Report) → k .answer .report ≡ e → (k .answer .report ≡ Report.ShortCarry → ⊥) → HeardBy s piece scratch m taken
       go Report.Nothing q n = nothing (c .0 ∙ rw q) (rw q) (rw q)
-      go (Report.InPiece start len) q n =
-          text (textOf piece (k .buffer) (k .answer .report))
-          (record { told = c .0 ∙ rw q; enough = enough; transfer = rw q; news = rw q })
-      go (Report.InCarry len) q n =
-          text (textOf piece (k .buffer) (k .answer .report))
-          (record { told = c .0 ∙ rw q; enough = enough; transfer = rw q; news = rw q })
+      go (Report.InPiece start len) q n = any (textOf piece (k .buffer) (k .answer .report)) (rw q) (rw q) (rw q) (isDragDrop _) refl
+      go (Report.InCarry len) q n = any (textOf piece (k .buffer) (k .answer .report)) (rw q) (rw q) (rw q) (isDragDrop _) refl
       go Report.TooLong q n = long (c .0 ∙ rw q)
       go Report.Abandoned q n = left (c .0 ∙ rw q)
       go Report.ShortCarry q n = absurd (n q)

@@ -89,6 +89,12 @@ next-left (nothing l) e = let z : _≡_ {A = ℕ} 0 1 = cc in omega arith
 next-left (one u rest q l) e = let z : _≡_ {A = ℕ} 0 1 = cc in omega arith
 next-left (more d d′ ds) e = let z : _≡_ {A = ℕ} 0 1 = cc in omega arith
 
+pub next-other : {old there : List ℕ} {rs us : List (List ℕ)} {ds : List Told} (t : List ℕ) → Next old there rs us ds
+    → ds ≡ Told.dragDrop t ∷ [] → ⊥
+next-other t (nothing l) e = let z : _≡_ {A = ℕ} 0 1 = cc in omega arith
+next-other t (one u rest q l) e = let z : _≡_ {A = ℕ} 0 1 = cc in omega arith
+next-other t (more d d′ ds) e = let z : _≡_ {A = ℕ} 0 1 = cc in omega arith
+
 -- ---- the ends of a line
 -- a line that is read to its end has told all
 pub all-told : (old there : List ℕ) (rs us : List (List ℕ)) → Line old there rs us → there ≡ [] → us ≡ []
