@@ -4,6 +4,7 @@ use crate::line::number;
 use crate::line::word;
 use base64::Decoded;
 use base64::Fault;
+use base64::Padding;
 use octets::Stored;
 use streams::Run;
 
@@ -18,8 +19,19 @@ pub(crate) fn encode(run: Run, data: &[u8]) -> Run {
 pub(crate) fn decode(run: Run, text: &[u8]) -> Run {
     let mut buffer = [0u8; 64];
     let d = base64::decode(text, &mut buffer, 0);
+    bytes(run, d, &buffer)
+}
+
+// The same where padding may be left out.
+pub(crate) fn optional(run: Run, text: &[u8]) -> Run {
+    let mut buffer = [0u8; 64];
+    let d = base64::decode_with(Padding::Optional, text, &mut buffer, 0);
+    bytes(run, d, &buffer)
+}
+
+fn bytes(run: Run, d: Decoded, buffer: &[u8]) -> Run {
     match d {
-        Decoded::Length(n) => run.hex(octets::part(&buffer, 0, n)),
+        Decoded::Length(n) => run.hex(octets::part(buffer, 0, n)),
         _ => tell(run, d),
     }
 }

@@ -76,6 +76,7 @@ fn plain(run: Run, letter: u8, words: &[u8]) -> Run {
     match letter {
         b'e' => base64_cases::encode(run, after(words)),
         b'b' => base64_cases::decode(run, after(words)),
+        b'o' => base64_cases::optional(run, after(words)),
         b'p' => base64_cases::place(run, after(words)),
         b'i' => decimal_cases::read(run, after(words)),
         b'a' => decimal_cases::write_at(run, after(words)),
