@@ -54,7 +54,7 @@ fn sums(run: Run, buffers: Buffers) -> Run {
 // Its word. After one with a colon comes the place of the command's name, or a status. An ask has its own.
 fn tell(run: Run, told: Told, name: Place) -> Run {
     let words =
-        b"none,none,ignored,asked,naming,path:,lastpath:,,status:,withdrawn,discarded,committed";
+        b"none,none,ignored,dragdrop,asked,naming,path:,lastpath:,,status:,withdrawn,discarded,committed";
     let said = word(run, words, told_number(told));
     match told {
         Told::Path => place(said, name),
@@ -70,15 +70,16 @@ fn told_number(told: Told) -> usize {
         Told::Nothing => 0,
         Told::Refused(_) => 1,
         Told::Ignored => 2,
-        Told::Asked => 3,
-        Told::Naming => 4,
-        Told::Path => 5,
-        Told::LastPath => 6,
-        Told::Ask(_) => 7,
-        Told::Status(_) => 8,
-        Told::Withdrawn => 9,
-        Told::Discarded => 10,
-        Told::Committed => 11,
+        Told::DragDrop => 3,
+        Told::Asked => 4,
+        Told::Naming => 5,
+        Told::Path => 6,
+        Told::LastPath => 7,
+        Told::Ask(_) => 8,
+        Told::Status(_) => 9,
+        Told::Withdrawn => 10,
+        Told::Discarded => 11,
+        Told::Committed => 12,
     }
 }
 
