@@ -3,6 +3,7 @@ use Prim.Native.Nat.{ℕ}
 use mathlib.Core.Bool.{true, false, cond}
 use mathlib.Core.List.{List}
 use Rattle.octets.specs.Outcome.{Outcome, outcome}
+use Rattle.frames.specs.Stream.{isDragDrop}
 use Rattle.frames.specs.Calls.{refusalNumber}
 use Rattle.frames.specs.declared.Report.{Report}
 use Rattle.frames.specs.declared.Report.the-variants as Report
@@ -32,11 +33,15 @@ saidBy (Answer.refused n) = silent (Told.Refused n)
 abbrev pub readSaid : Outcome Answer → Outcome Said
 readSaid o = outcome (saidBy (o .answer)) (o .buffer)
 
--- a report, given its text: a command text is read, a refusal of the frame is told
+-- a text that is reported: one of drag and drop is told and not read, a command text is read
+abbrev pub textSaid : List ℕ → List ℕ → Outcome Said
+textSaid text scratch = cond (isDragDrop text) (outcome (silent Told.DragDrop) scratch) (readSaid (readOf text scratch))
+
+-- a report, given its text; a refusal of the frame is told
 unfoldable pub saidOf : Report → List ℕ → List ℕ → Outcome Said
 saidOf Report.Nothing text scratch = outcome (silent Told.Nothing) scratch
-saidOf (Report.InPiece start n) text scratch = readSaid (readOf text scratch)
-saidOf (Report.InCarry n) text scratch = readSaid (readOf text scratch)
+saidOf (Report.InPiece start n) text scratch = textSaid text scratch
+saidOf (Report.InCarry n) text scratch = textSaid text scratch
 saidOf Report.TooLong text scratch = outcome (silent (Told.Refused (refusalNumber Report.TooLong))) scratch
 saidOf Report.Abandoned text scratch = outcome (silent (Told.Refused (refusalNumber Report.Abandoned))) scratch
 saidOf Report.ShortCarry text scratch = outcome (silent (Told.Refused (refusalNumber Report.ShortCarry))) scratch

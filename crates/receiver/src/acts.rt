@@ -1,10 +1,11 @@
-// What a report of the frames says, and what it does to the table: a command text is read and obeyed.
+// What a report of the frames says, and what it does to the table: a command text is read and obeyed, one
+// of drag and drop is told alone.
 ghost use mathlib.Core.Path.{_≡_};
 ghost use Rattle.octets.specs.Outcome.{outcome};
 ghost use Rattle.command.specs.Read.{readOf};
 ghost use Rattle.sessions.specs.Leaving.{taken};
 ghost use Rattle.protocol.specs.Calls.{acted, reportAct};
-ghost use Rattle.receiver.specs.Said.{silent, readSaid, saidOf};
+ghost use Rattle.receiver.specs.Said.{silent, readSaid, textSaid, saidOf};
 use command::Command;
 use command::Reading;
 use frames::Report;
@@ -31,12 +32,22 @@ pub fn hear(report: Report, text: &[u8], scratch: &mut [u8]) -> Said
 {
     match report {
         Report::Nothing => silent(Told::Nothing),
-        Report::InPiece(_, _) => read(text, scratch),
-        Report::InCarry(_) => read(text, scratch),
+        Report::InPiece(_, _) => hear_text(text, scratch),
+        Report::InCarry(_) => hear_text(text, scratch),
         Report::TooLong => silent(Told::Refused(1)),
         Report::Abandoned => silent(Told::Refused(2)),
         Report::ShortCarry => silent(Told::Refused(9)),
     }
+}
+
+// A text of drag and drop is left to other calls, unread.
+fn hear_text(text: &[u8], scratch: &mut [u8]) -> Said
+    ensures { λ s. ⌜ outcome s (now (scratch .exit)) ≡ textSaid (now (text .entry)) (now (scratch .entry)) ⌝ }
+{
+    if octets::starts_with(text, b"72;") {
+        return silent(Told::DragDrop);
+    }
+    read(text, scratch)
 }
 
 // A command text is read.

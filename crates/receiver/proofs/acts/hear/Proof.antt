@@ -12,14 +12,14 @@ silent-requires c κs = search needs
 enum-told-2 : tie.Need-enum-told-2
 enum-told-2 c = search needs
 
-read-requires : tie.Need-read-requires
-read-requires c κs = search needs
+hear-text-requires : tie.Need-hear-text-requires
+hear-text-requires c κs = search needs
 
 enum-told-3 : tie.Need-enum-told-3
 enum-told-3 c = search needs
 
-read-requires-2 : tie.Need-read-requires-2
-read-requires-2 c κs = search needs
+hear-text-requires-2 : tie.Need-hear-text-requires-2
+hear-text-requires-2 c κs = search needs
 
 enum-told-4 : tie.Need-enum-told-4
 enum-told-4 c = search needs
@@ -48,14 +48,14 @@ same-length c = search needs
 
 returns-2 : tie.Need-returns-2
 unfolding saidOf
-returns-2 c = rw (c .before .before .before .before .enum-told2 .given .1) (c .before .before .read .ensures)
+returns-2 c = rw (c .before .before .before .before .enum-told2 .given .1) (c .before .before .hear-text .ensures)
 
 same-length-2 : tie.Need-same-length-2
 same-length-2 c = search needs
 
 returns-3 : tie.Need-returns-3
 unfolding saidOf
-returns-3 c = rw (c .before .before .before .before .enum-told3 .given .1) (c .before .before .read2 .ensures)
+returns-3 c = rw (c .before .before .before .before .enum-told3 .given .1) (c .before .before .hear-text2 .ensures)
 
 returns-4 : tie.Need-returns-4
 unfolding saidOf
@@ -76,9 +76,9 @@ hear-spec =
     enum-told
     silent-requires
     enum-told-2
-    read-requires
+    hear-text-requires
     enum-told-3
-    read-requires-2
+    hear-text-requires-2
     enum-told-4
     silent-requires-2
     enum-told-5
