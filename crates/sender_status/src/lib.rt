@@ -10,7 +10,7 @@ mod statuses;
 ghost use mathlib.Core.Path.{_≡_};
 ghost use Rattle.octets.specs.Outcome.{outcome};
 ghost use Rattle.command.specs.Read.{readOf};
-ghost use Rattle.sending.specs.Calls.{readHeed, reportHeed};
+ghost use Rattle.sending.specs.Calls.{readHeed, textHeed, reportHeed};
 use command::Reading;
 use commands::on_command;
 use frames::Report;
@@ -33,8 +33,18 @@ pub fn on_report(transfer: Transfer, report: Report, text: &[u8], scratch: &mut 
     }
 }
 
-// A command text is read; a refusal is told.
+// A text of drag and drop is ignored, and nothing is read of it; a command text is read.
 fn on_text(transfer: Transfer, text: &[u8], scratch: &mut [u8]) -> Heeded
+    ensures { λ h. ⌜ outcome h (now (scratch .exit)) ≡ textHeed transfer (now (text .entry)) (now (scratch .entry)) ⌝ }
+{
+    if octets::starts_with(text, b"72;") {
+        return still(transfer, News::Ignored);
+    }
+    on_command_text(transfer, text, scratch)
+}
+
+// A command text is read; a refusal is told.
+fn on_command_text(transfer: Transfer, text: &[u8], scratch: &mut [u8]) -> Heeded
     ensures { λ h. let t = now (text .entry) in
         ⌜ outcome h (now (scratch .exit)) ≡ readHeed transfer t (readOf t (now (scratch .entry))) ⌝ }
 {
