@@ -103,6 +103,7 @@ answered-sized : (t : Table) (id : List ℕ) (w : Told) → Sized t → Sized (a
 answered-sized t id Told.Nothing h = h
 answered-sized t id (Told.Refused n) h = h
 answered-sized t id Told.Ignored h = h
+answered-sized t id Told.DragDrop h = h
 answered-sized t id Told.Asked h = decided-sized t h Decision.Allow id .table
 answered-sized t id Told.Naming h = h
 answered-sized t id Told.Path h = h

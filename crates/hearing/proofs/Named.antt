@@ -60,6 +60,7 @@ module _ (recording : List ℕ) where
     told-named c scratch p Told.Nothing = tt
     told-named c scratch p (Told.Refused n) = tt
     told-named c scratch p Told.Ignored = tt
+    told-named c scratch p Told.DragDrop = tt
     told-named c scratch p Told.Asked = tt
     told-named c scratch p Told.Naming = tt
     told-named c scratch p Told.Path = tt

@@ -68,6 +68,7 @@ plain-heard : (x : Sighting) (c : Command) (scratch : List ℕ) (w : Told) → i
 plain-heard x c scratch Told.Nothing e = refl
 plain-heard x c scratch (Told.Refused n) e = refl
 plain-heard x c scratch Told.Ignored e = refl
+plain-heard x c scratch Told.DragDrop e = refl
 plain-heard x c scratch Told.Asked e = refl
 plain-heard x c scratch Told.Naming e = refl
 plain-heard x c scratch Told.Path e = refl
@@ -96,6 +97,7 @@ unfolding toldNoted
 plain-noted c from rows scratch events bytes Told.Nothing e = refl
 plain-noted c from rows scratch events bytes (Told.Refused n) e = refl
 plain-noted c from rows scratch events bytes Told.Ignored e = refl
+plain-noted c from rows scratch events bytes Told.DragDrop e = refl
 plain-noted c from rows scratch events bytes Told.Asked e = refl
 plain-noted c from rows scratch events bytes Told.Naming e = refl
 plain-noted c from rows scratch events bytes Told.Path e = refl

@@ -73,6 +73,7 @@ module _ (w : World) (id reply : List ℕ) (long : replyRoom ≤ length reply) w
   answers Telling.Nothing k = silent Telling.Nothing refl refl
   answers (Telling.Refused n) k = silent (Telling.Refused n) refl refl
   answers Telling.Ignored k = silent Telling.Ignored refl refl
+  answers Telling.DragDrop k = silent Telling.DragDrop refl refl
   answers Telling.Asked k = allows Telling.Asked refl refl
   answers Telling.Naming k = silent Telling.Naming refl refl
   answers Telling.Path k = silent Telling.Path refl refl
@@ -135,6 +136,7 @@ answers-lent : (w : World) (told : Telling) (id reply : List ℕ) → AllLent w 
 answers-lent w Telling.Nothing id reply = tt
 answers-lent w (Telling.Refused n) id reply = tt
 answers-lent w Telling.Ignored id reply = tt
+answers-lent w Telling.DragDrop id reply = tt
 answers-lent w Telling.Asked id reply = (tt, tt)
 answers-lent w Telling.Naming id reply = tt
 answers-lent w Telling.Path id reply = tt

@@ -1,13 +1,13 @@
 -- What is heard of a report is what the marks of its feed, and of the console's answer, have happening.
 use Prim.Native.Nat.{ℕ, _≤_}
 use mathlib.Core.Path.{_≡_, refl, sym, ap, _∙_}
-use mathlib.Core.Bool.{true, false, cond}
+use mathlib.Core.Bool.{Bool, true, false, cond}
 use mathlib.Core.Option.{Option}
 use mathlib.Core.List.{List, [], _∷_, _++_, append-nil, map}
 use lib.ListN.{length}
 use lib.Dec.{eqb, lit≤}
 use Rattle.octets.specs.Outcome.{Outcome, outcome}
-use Rattle.frames.specs.Stream.{Told}
+use Rattle.frames.specs.Stream.{Told, isDragDrop}
 use Rattle.frames.specs.Follows.{toldOf}
 use Rattle.frames.specs.declared.Report.{Report}
 use Rattle.frames.specs.declared.Report.the-variants as Report
@@ -19,7 +19,7 @@ use Rattle.command.specs.declared.FileType.the-variants as FileType
 use Rattle.command.specs.declared.Command.{Command}
 use Rattle.protocol.specs.Change.{askOf}
 use Rattle.protocol.specs.Sessions.{stringIn, idIn, settleDone}
-use Rattle.protocol.specs.Calls.{Acted, acted, readAct, reportAct}
+use Rattle.protocol.specs.Calls.{Acted, acted, unread, readAct, reportAct}
 use Rattle.protocol.specs.History.{hearing, Mark, Question, readMark, toldMarks, hearingMark, lastAsk}
 use Rattle.protocol.specs.History as History
 use Rattle.protocol.specs.Stretches.{Key}
@@ -84,6 +84,7 @@ plainly : (x : Sighting) (c : Command) (w : Telling) → isPlain w ≡ true → 
 plainly x c Telling.Nothing e = record { heard = λ _. refl; rests = λ t id h. h }
 plainly x c (Telling.Refused n) e = no-way (sym e)
 plainly x c Telling.Ignored e = record { heard = λ _. refl; rests = λ t id h. h }
+plainly x c Telling.DragDrop e = record { heard = λ _. refl; rests = λ t id h. h }
 plainly x c Telling.Asked e = record { heard = λ _. refl; rests = λ t id h. allow-rests t h id }
 plainly x c Telling.Naming e = record { heard = λ _. refl; rests = λ t id h. h }
 plainly x c Telling.Path e = record { heard = λ _. refl; rests = λ t id h. h }
@@ -198,12 +199,20 @@ module _ {t : Table} (h : Rests t) (z : Sized t) (m : List Mark) (text scratch :
         happens = x .happens ∙ rw (same .heard, append-nil);
       }
 
+  -- one of drag and drop is told and not read
+  any-reported : scratchRoom ≤ length scratch → (d : Bool)
+      → Reports t m (cond d (Told.dragDrop text) (Told.command text) ∷ []) text
+      (cond d (unread t Telling.DragDrop scratch) (readAct t text (readOf text scratch)))
+  unfolding hears leaves
+  any-reported enough true = record { table = refl; rests = h; takes = tt; happens = refl }
+  any-reported enough false = text-reported enough
+
   pub report-reported : scratchRoom ≤ length scratch → (k : Report) → (k ≡ Report.ShortCarry → ⊥)
       → Reports t m (toldOf k text) text (reportAct t k text scratch)
   unfolding hears leaves
   report-reported enough Report.Nothing n = record { table = refl; rests = h; takes = tt; happens = refl }
-  report-reported enough (Report.InPiece start len) n = text-reported enough
-  report-reported enough (Report.InCarry len) n = text-reported enough
+  report-reported enough (Report.InPiece start len) n = any-reported enough (isDragDrop text)
+  report-reported enough (Report.InCarry len) n = any-reported enough (isDragDrop text)
   report-reported enough Report.TooLong n = record { table = refl; rests = h; takes = tt; happens = refl }
   report-reported enough Report.Abandoned n = record { table = refl; rests = h; takes = tt; happens = refl }
   report-reported enough Report.ShortCarry n = absurd (n refl)

@@ -89,6 +89,7 @@ hears-readable t (Told.command text ∷ ds) = go (meaningOf text) refl (λ u. he
         → hears t (onlyRead m (one ∷ []) (readable ds)) ≡ hearsOne t one ++ hears (next t one) ds
     go (Meaning.command vs) e same = rw (same (next t one))
     go (Meaning.refused n) e same = let r = refused-none t text n e in rw (r .0, r .1) (same t)
+hears-readable t (Told.dragDrop text ∷ ds) = hears-readable t ds
 hears-readable t (Told.tooLong ∷ ds) = hears-readable t ds
 hears-readable t (Told.abandoned ∷ ds) = hears-readable t ds
 
@@ -112,6 +113,7 @@ module _ (x y : Sighting) (same : x .text ≡ y .text) (c : Command) (scratch : 
   told-bare Telling.Nothing = refl
   told-bare (Telling.Refused n) = refl
   told-bare Telling.Ignored = refl
+  told-bare Telling.DragDrop = refl
   told-bare Telling.Asked = refl
   told-bare Telling.Naming = refl
   told-bare Telling.Path = refl

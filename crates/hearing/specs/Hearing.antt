@@ -81,6 +81,7 @@ abbrev pub heardTold : Sighting → Command → List ℕ → Told → List Happe
 heardTold x c scratch Told.Nothing = []
 heardTold x c scratch (Told.Refused n) = []
 heardTold x c scratch Told.Ignored = []
+heardTold x c scratch Told.DragDrop = []
 heardTold x c scratch Told.Asked = []
 heardTold x c scratch Told.Naming = []
 heardTold x c scratch Told.Path = []
@@ -96,6 +97,7 @@ abbrev pub answeredBy : Table → List ℕ → Told → Table
 answeredBy t id Told.Nothing = t
 answeredBy t id (Told.Refused n) = t
 answeredBy t id Told.Ignored = t
+answeredBy t id Told.DragDrop = t
 answeredBy t id Told.Asked = decidedOf t Decision.Allow id .table
 answeredBy t id Told.Naming = t
 answeredBy t id Told.Path = t

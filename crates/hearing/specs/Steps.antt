@@ -77,6 +77,7 @@ unfoldable pub toldNoted : Told → Command → ℕ → List ℕ → ℕ → Lis
 toldNoted Told.Nothing c from scratch rows events bytes = noted rows events bytes
 toldNoted (Told.Refused n) c from scratch rows events bytes = noted rows events bytes
 toldNoted Told.Ignored c from scratch rows events bytes = noted rows events bytes
+toldNoted Told.DragDrop c from scratch rows events bytes = noted rows events bytes
 toldNoted Told.Asked c from scratch rows events bytes = noted rows events bytes
 toldNoted Told.Naming c from scratch rows events bytes = noted rows events bytes
 toldNoted Told.Path c from scratch rows events bytes = noted rows events bytes
