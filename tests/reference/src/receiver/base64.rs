@@ -1,4 +1,4 @@
-//! Base64 of RFC 4648 section 4: padding required, unused bits zero.
+//! Base64 of RFC 4648 section 4: padding required, unused bits zero. Order 12 reads it with optional padding too.
 
 use super::{scan, Refusal};
 
@@ -57,6 +57,21 @@ pub fn check(text: &[u8]) -> Result<usize, Refusal> {
         return Err(Refusal::UnusedBits);
     }
     Ok(text.len() / 4 * 3 - padding)
+}
+
+/// Order 12's rule, with optional padding: the bytes, or what is wrong. A last `=` needs a whole length; without one, what is lacking is
+/// added first, and a lone letter lacks nothing that could be added.
+pub fn decode_optional(text: &[u8]) -> Result<Vec<u8>, Refusal> {
+    let lacking: &[u8] = match (text.last(), text.len() % 4) {
+        (Some(b'='), _) => b"",
+        (_, 2) => b"==",
+        (_, 3) => b"=",
+        _ => b"",
+    };
+    let padded = [text, lacking].concat();
+    let mut out = vec![0; check(&padded)?];
+    decode(&padded, &mut out);
+    Ok(out)
 }
 
 #[inline]
@@ -153,14 +168,70 @@ mod tests {
         (canonical != text).then_some(Refusal::UnusedBits)
     }
 
+    /// Every text of at most so many letters, among them faults.
+    fn short_texts(most: u32) -> impl Iterator<Item = Vec<u8>> {
+        let letters = b"AQR=!";
+        let text = move |len, number: usize| {
+            let letter = |i| letters[number / letters.len().pow(i) % letters.len()];
+            (0..len).map(letter).collect()
+        };
+        (0..=most)
+            .flat_map(move |len| (0..letters.len().pow(len)).map(move |number| text(len, number)))
+    }
+
     #[test]
     fn every_short_text_is_told_as_the_page_says() {
-        let letters = b"AQR=!";
-        for len in 0..=8 {
-            for number in 0..letters.len().pow(len) {
-                let letter = |i| letters[number / letters.len().pow(i) % letters.len()];
-                let text: Vec<u8> = (0..len).map(letter).collect();
-                assert_eq!(check(&text).err(), by_the_page(&text), "{text:?}");
+        for text in short_texts(8) {
+            assert_eq!(check(&text).err(), by_the_page(&text), "{text:?}");
+        }
+    }
+
+    /// Order 12's sentence 4, word for word, with the letters read bit by bit.
+    fn optional_by_the_page(text: &[u8]) -> Result<Vec<u8>, Refusal> {
+        let (len, ends) = (text.len(), text.last() == Some(&b'='));
+        if ends && len % 4 != 0 || !ends && len % 4 == 1 {
+            return Err(Refusal::Base64Length);
+        }
+        let mut bits = Vec::new();
+        for (i, &b) in text.iter().enumerate() {
+            let last = i + 1 == len || i + 2 == len && ends;
+            match ALPHABET.iter().position(|&letter| letter == b) {
+                Some(value) => bits.extend((0..6).rev().map(|bit| value >> bit & 1)),
+                None if b != b'=' => return Err(Refusal::Base64Character),
+                None if !last => return Err(Refusal::Base64Length),
+                None => {}
+            }
+        }
+        let unused = bits.chunks_exact(8).remainder().contains(&1);
+        let byte = |eight: &[usize]| eight.iter().fold(0, |byte, &bit| byte << 1 | bit as u8);
+        let bytes = bits.chunks_exact(8).map(byte).collect();
+        (!unused).then_some(bytes).ok_or(Refusal::UnusedBits)
+    }
+
+    #[test]
+    fn every_short_text_is_told_as_order_12_says() {
+        let mut good = 0;
+        for text in short_texts(8) {
+            let optional = decode_optional(&text);
+            assert_eq!(optional, optional_by_the_page(&text), "{text:?}");
+            if let Ok(bytes) = decoded(&text) {
+                assert_eq!(optional, Ok(bytes), "{text:?}");
+            }
+            good += usize::from(optional.is_ok());
+        }
+        assert!(good > 10_000, "{good}");
+    }
+
+    /// All or none: of any bytes just their text and that without its padding are read.
+    #[test]
+    fn padding_is_all_or_none() {
+        for (plain, text) in VECTORS {
+            let letters = text.trim_end_matches('=');
+            for count in 0..4 {
+                let given = format!("{letters}{}", "=".repeat(count));
+                let good = given == text || given == letters;
+                let expected = good.then(|| plain.as_bytes().to_vec());
+                assert_eq!(decode_optional(given.as_bytes()).ok(), expected, "{given}");
             }
         }
     }
