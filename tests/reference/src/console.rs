@@ -219,6 +219,7 @@ fn told(told: &Told, out: &mut Vec<u8>) {
         Told::Withdrawn => "withdrawn",
         Told::Discarded => "discarded",
         Told::Committed => "committed",
+        Told::DragDrop => "dragdrop",
         Told::Status(status) => {
             out.extend_from_slice(b"status:");
             status.word()

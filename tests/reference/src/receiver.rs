@@ -19,7 +19,7 @@ pub use reply::Status;
 pub use session::{Id, Numbers, SESSIONS};
 pub use supplies::Entry;
 
-use frames::{Found, Frames};
+use frames::{Found, Frames, Mark};
 use reply::Reply;
 use session::Table;
 
@@ -110,6 +110,8 @@ pub enum Told {
     Discarded,
     Committed,
     Status(Status),
+    /// A text of drag and drop came: no command.
+    DragDrop,
 }
 
 /// The answer of a call.
@@ -236,7 +238,10 @@ impl Receiver {
             Found::Nothing => Answer { consumed, ..Answer::default() },
             Found::TooLong => Answer { consumed, ..Answer::refused(Refusal::TooLong) },
             Found::Abandoned => Answer { consumed, ..Answer::refused(Refusal::Abandoned) },
-            Found::Text(place) => {
+            Found::Text(Mark::DragDrop, place) => {
+                Answer { consumed, text: place, ..Answer::told(Told::DragDrop, 0) }
+            }
+            Found::Text(Mark::Transfer, place) => {
                 let answer = match command::read(text(piece, carry, place), scratch) {
                     Ok(command) => self.act(&command, scratch, reply),
                     Err(refusal) => Answer::refused(refusal),

@@ -4,7 +4,7 @@ pub mod console;
 mod heed;
 pub mod script;
 
-use crate::receiver::frames::{Found, Frames};
+use crate::receiver::frames::{Found, Frames, Mark};
 use crate::receiver::{command, text, Id, Place, Refusal, CARRY, SCRATCH};
 use crate::writer::{room, Command};
 use std::ops::Range;
@@ -167,7 +167,7 @@ impl Sender {
         Ok(len)
     }
 
-    /// Takes a piece of the line and consumes through the first command text that ends.
+    /// Takes a piece of the line and consumes through the first text with a mark that ends. One of drag and drop is ignored.
     pub fn hear(&mut self, piece: &[u8], carry: &mut [u8], scratch: &mut [u8]) -> Heard {
         if carry.len() < CARRY || scratch.len() < SCRATCH {
             return Heard { refusal: Some(Refusal::ShortBuffer), ..Heard::default() };
@@ -178,13 +178,18 @@ impl Sender {
             Found::Nothing => Heard { consumed, ..Heard::default() },
             Found::TooLong => refused(Refusal::TooLong),
             Found::Abandoned => refused(Refusal::Abandoned),
-            Found::Text(place) => match command::read(text(piece, carry, place), scratch) {
-                Ok(command) => {
-                    let news = self.heed(&command, scratch);
-                    Heard { consumed, news, text: place, ..Heard::default() }
+            Found::Text(Mark::DragDrop, place) => {
+                Heard { consumed, news: News::Ignored, text: place, ..Heard::default() }
+            }
+            Found::Text(Mark::Transfer, place) => {
+                match command::read(text(piece, carry, place), scratch) {
+                    Ok(command) => {
+                        let news = self.heed(&command, scratch);
+                        Heard { consumed, news, text: place, ..Heard::default() }
+                    }
+                    Err(refusal) => Heard { text: place, ..refused(refusal) },
                 }
-                Err(refusal) => Heard { text: place, ..refused(refusal) },
-            },
+            }
         }
     }
 

@@ -9,6 +9,32 @@ const CLOSE: u8 = 0x5c;
 
 /// How a command text starts.
 pub const PREFIX: &[u8; 5] = b"5113;";
+/// How a text of drag and drop starts (order 12).
+const DRAG_DROP: &[u8; 3] = b"72;";
+
+/// What a reported text starts with.
+#[derive(Clone, Copy, Debug, PartialEq)]
+pub enum Mark {
+    Transfer,
+    DragDrop,
+}
+
+impl Mark {
+    fn bytes(self) -> &'static [u8] {
+        match self {
+            Mark::Transfer => PREFIX,
+            Mark::DragDrop => DRAG_DROP,
+        }
+    }
+
+    /// The only mark that a text can have, by its first byte.
+    fn of(text: &[u8]) -> Mark {
+        match text.first() {
+            Some(b'7') => Mark::DragDrop,
+            _ => Mark::Transfer,
+        }
+    }
+}
 
 /// Where the scanner stands between two bytes.
 #[derive(Clone, Copy, Debug, PartialEq)]
@@ -17,13 +43,13 @@ enum State {
     Plain,
     /// Outside texts, after a 1B.
     Escape,
-    /// In a text that is a command or may become one.
+    /// In a text that has its mark or may get it.
     Text,
-    /// After the 1B that ends a command text.
+    /// After the 1B that ends a text with a mark.
     TextEscape,
-    /// In a text known not to be a command.
+    /// In a text known to have no mark.
     Other,
-    /// After the 1B that ends a text which is no command.
+    /// After the 1B that ends a text which has no mark.
     OtherEscape,
 }
 
@@ -31,7 +57,7 @@ enum State {
 #[derive(Debug, PartialEq)]
 pub enum Found {
     Nothing,
-    Text(Place),
+    Text(Mark, Place),
     TooLong,
     Abandoned,
 }
@@ -40,6 +66,8 @@ pub enum Found {
 #[derive(Clone, Debug)]
 pub struct Frames {
     state: State,
+    /// Of the current text, from its first byte on.
+    mark: Mark,
     /// Length of the text so far from earlier pieces; the carry holds its first 8,192 bytes.
     carried: usize,
 }
@@ -60,7 +88,7 @@ fn after_escape(byte: u8) -> State {
 
 impl Frames {
     pub const fn new() -> Self {
-        Frames { state: State::Plain, carried: 0 }
+        Frames { state: State::Plain, mark: Mark::Transfer, carried: 0 }
     }
 
     /// Goes through the piece up to the first thing found; gives the bytes consumed.
@@ -112,21 +140,25 @@ impl Frames {
     fn through_text(&mut self, piece: &[u8], at: usize, span: &mut Span) -> usize {
         let escape = scan::find(&piece[at..], ESCAPE).map(|place| at + place);
         span.end = escape.unwrap_or(piece.len());
-        let wanted = &PREFIX[self.carried.min(PREFIX.len())..];
         let text = &piece[span.start..span.end];
+        if self.carried == 0 {
+            self.mark = Mark::of(text);
+        }
+        let mark = self.mark.bytes();
+        let wanted = &mark[self.carried.min(mark.len())..];
         let common = wanted.len().min(text.len());
         let matches = text[..common] == wanted[..common];
         self.state = match (escape.is_some(), matches) {
             (false, true) => State::Text,
             (false, false) => State::Other,
-            // Less than the whole prefix grows no more after its 1B.
+            // Less than the whole mark grows no more after its 1B.
             (true, true) if common == wanted.len() => State::TextEscape,
             (true, _) => State::OtherEscape,
         };
         escape.map_or(piece.len(), |place| place + 1)
     }
 
-    /// The byte at `at` follows the 1B of a command text: it closes or abandons it.
+    /// The byte at `at` follows the 1B of a text with a mark: it closes or abandons it.
     fn finish(&mut self, piece: &[u8], at: usize, span: Span, carry: &mut [u8]) -> Found {
         let inside = span.end - span.start;
         let len = self.carried.saturating_add(inside);
@@ -145,11 +177,11 @@ impl Frames {
         if len > LONGEST_TEXT {
             Found::TooLong
         } else {
-            Found::Text(place)
+            Found::Text(self.mark, place)
         }
     }
 
-    /// At the end of the piece: leaves a text that is or may be a command in the carry.
+    /// At the end of the piece: leaves a text that has a mark, or may get one, in the carry.
     fn leave(&mut self, piece: &[u8], span: Span, carry: &mut [u8]) {
         if matches!(self.state, State::Text | State::TextEscape) {
             self.keep(&piece[span.start..span.end], carry);

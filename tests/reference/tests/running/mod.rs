@@ -25,6 +25,7 @@ fn effect(answer: &Answer, quiet_word: &str) -> String {
         Told::Discarded => "discarded",
         Told::Committed => "committed",
         Told::Status(_) => "status",
+        Told::DragDrop => "dragdrop",
     };
     word.to_string()
 }
