@@ -134,8 +134,10 @@ fn missing(rng: &mut Rng, mut fields: Fields) -> Fields {
 
 fn bad_prefix(rng: &mut Rng, text: Vec<u8>) -> Vec<u8> {
     let rest = &text[5.min(text.len())..];
-    let prefix =
-        rng.word(&["", "5113", "5113 ;", "5114;", "511;", "51", " 5113;", "05113;", "5113:", "5"]);
+    let prefix = rng.word(&[
+        "", "5113", "5113 ;", "5114;", "511;", "51", " 5113;", "05113;", "5113:", "5", "72;", "72",
+        "7",
+    ]);
     [prefix, rest].concat()
 }
 

@@ -10,9 +10,9 @@ const REFUSALS: [u8; 20] =
     [1, 2, 3, 4, 5, 61, 62, 63, 64, 65, 66, 67, 7, 8, 9, 10, 11, 12, 17, 18];
 
 #[rustfmt::skip]
-const TOLD: [&str; 15] = [
+const TOLD: [&str; 16] = [
     "none", "ignored", "asked", "open", "write", "last", "commit", "withdrawn", "discarded",
-    "committed", "status", "naming", "path", "lastpath", "request",
+    "committed", "status", "naming", "path", "lastpath", "request", "dragdrop",
 ];
 
 #[rustfmt::skip]

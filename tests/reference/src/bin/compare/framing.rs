@@ -1,5 +1,6 @@
 //! Generated frames: openers, closers, noise between them, and their damage.
 
+use crate::dragging::dragged;
 use crate::fields::random_bytes;
 use crate::rng::Rng;
 
@@ -41,7 +42,7 @@ const CLOSERS: [&[u8]; 9] = [
 const OPENERS: [&[u8]; 8] =
     [b"\x9d", b"]", b"", b"\x1b\x1b]", b"\x1b[", b"\x1b]\x1b]", b"\x1b]]", b"\x1bP"];
 
-const INSIDE: [&[u8]; 8] = [
+const INSIDE: [&[u8]; 9] = [
     b"\x1b[31m",
     b"\x1b]",
     b"\x1b\x1b]",
@@ -50,6 +51,7 @@ const INSIDE: [&[u8]; 8] = [
     b"\x1b\x1b",
     b"\x9c",
     b"\x1b\\",
+    b"\x1b]72;t=a\x1b\\",
 ];
 
 const NOISE: [&[u8]; 24] = [
@@ -81,17 +83,18 @@ const NOISE: [&[u8]; 24] = [
 
 /// Bytes that may stand between frames.
 pub fn noise(rng: &mut Rng) -> Vec<u8> {
-    match rng.below(6) {
+    match rng.below(8) {
         0 => {
             let len = rng.below(40);
             random_bytes(rng, len)
         }
         1 => b"plain screen text ".to_vec(),
+        2 | 3 => dragged(rng),
         _ => rng.pick(&NOISE).to_vec(),
     }
 }
 
-const FRAGMENTS: [&[u8]; 22] = [
+const FRAGMENTS: [&[u8]; 28] = [
     b"\x1b",
     b"\x1b",
     b"]",
@@ -114,6 +117,12 @@ const FRAGMENTS: [&[u8]; 22] = [
     b"\x9c",
     b"\x1b]5113;ac=receive;id=z\x1b\\",
     b"\x1b]5113;ac=status;id=m\x1b\\",
+    b"7",
+    b"2",
+    b"72",
+    b"72;",
+    b"\x1b]72;",
+    b"\x1b]72;t=a\x1b\\",
 ];
 
 /// A run of pieces of frames in no order.

@@ -5,7 +5,7 @@ use crate::isolation_acts::{values, Act, Moment};
 use crate::isolation_pairs::Pair;
 use crate::isolation_plans::is_like;
 use crate::isolation_seen::{difference, Script};
-use reference::receiver::SESSIONS;
+use reference::receiver::{Told, SESSIONS};
 use reference::script::Op;
 use std::collections::BTreeMap;
 
@@ -43,7 +43,7 @@ pub struct IsolationCoverage {
     told: Counts,
     /// Whether an act had a reply or a frame.
     replies: Counts,
-    /// What stood between: calls and commands that were taken, by their letters.
+    /// What stood between: calls and commands that were taken, by their letters; a text of drag and drop apart.
     between: Counts,
     refusals: Counts,
     own_refusals: Counts,
@@ -143,6 +143,7 @@ impl IsolationCoverage {
             return;
         };
         let (counts, key) = match answer.refusal {
+            None if answer.told == Told::DragDrop => (&mut self.between, "dragdrop".into()),
             None => (&mut self.between, (op.letter() as char).to_string()),
             Some(refusal) if moment.own_refused => {
                 (&mut self.own_refusals, (refusal as u8).to_string())
@@ -179,6 +180,7 @@ impl IsolationCoverage {
             none(&self.told, "told", &words(&TOLD)),
             none(&self.replies, "replied", &words(&["written", "nothing"])),
             none(&self.between, "between", &words(&ACTS[8..])),
+            none(&self.between, "between", &words(&["dragdrop"])),
             none(&self.refusals, "between, refused with", &numbers(&REFUSALS)),
             none(&self.own_refusals, "its own call, refused with", &numbers(&OWN_REFUSALS)),
             none(&self.others, "others", &words(&["0", "1", "2", "3", "full"])),

@@ -12,7 +12,7 @@ const ID: &[u8] = b"m";
 
 /// Items in the notation of the page. What is in parentheses stands in the first script only.
 #[rustfmt::skip]
-const LISTS: [&str; 33] = [
+const LISTS: [&str; 37] = [
     // The first two runs of the page, the second one's feed that is refused with 10 and its drop that is with 12 among them.
     "(send k) | ([allow k]) | send m | (finish k) | [allow m] | ([done]) | file m a | (file m a) | ([drop z]) | [done] | \
      end m a abc | [done]",
@@ -62,6 +62,14 @@ const LISTS: [&str; 33] = [
     // The session ends and begins again, in another place.
     "(send b) | send m | ([drop b]) | (send c) | cancel m | (send b) | send m | [allow m] | file m a | [done]",
     "(send b) | send m | [deny m] | (send c) | (send d) | receive m | path m a | [allow m] | [drop m] | send m",
+    // A text of drag and drop brings no act of any session, whatever stands in it, however it ends.
+    "send m | (^[]72;t=a;x^[\\) | [allow m] | (^[]72;ac=cancel;id=m^[\\) | file m a | (^[]72;t=a^[\\) | [done] | \
+     (^[]72;t=a^[x) | end m a abc | [done] | (^[]72;5113;ac=cancel;id=m^[\\) | finish m | [done]",
+    "(^[]72;t=a^[\\) | send m | (^[]72;{y*8190}^[\\) | [allow m] | (^[]72;) | (x^[) | (x) | file m a | [done] | (^[]7) | (2;x^[\\) | \
+     data m a abc | [done]",
+    "receive m | (^[]72;t=a^[\\) | path m a | (^[]72;id=m^[\\) | [allow m] | [list m a 7 /nz] | (^[]72;t=r;QQ==^[\\) | \
+     [home m /h] | path m 1 | (^[]72;t=a^[\\) | [part xy] | [last z]",
+    "(send k) | send m | (^[]72;t=a^[\\) | ([allow k]) | (finish k) | (^[]72;t=a^[\\) | [allow m] | ([done]) | file m a | [done]",
     // The premise fails.
     "(send b) | (send c) | (send d) | (send e) | send m",
     "(send b) | (send c) | (send d) | (send e) | receive m",

@@ -10,6 +10,7 @@ mod delta_coverage;
 mod delta_differ;
 mod delta_inputs;
 mod delta_special;
+mod dragging;
 mod entries;
 mod fields;
 mod files;

@@ -193,6 +193,9 @@ fn beginning(rng: &mut Rng) -> Vec<u8> {
 /// A text of about 8,192 bytes, most often one that is read if it is not too long.
 fn long(rng: &mut Rng) -> Vec<u8> {
     let mut text = fields(rng).with("xx", b"").text();
+    if rng.chance(15) {
+        text.splice(..5, *b"72;");
+    }
     let len = *rng.pick(&[8191, 8192, 8192, 8193, 8193, 8194, 10_000]);
     text.resize(len, *rng.pick(b"A;=~"));
     if rng.chance(15) {

@@ -1,6 +1,7 @@
 //! Counts what came up in the outputs of `mend_script` and `mend`: why stretches were dropped, refusals, and the rooms that were lent.
 
 use crate::coverage::{join, listed};
+use crate::dragging::{ends, ENDS};
 use crate::programs::apart;
 use reference::mend::script::parts;
 use reference::mend::{mended, ROW};
@@ -20,6 +21,8 @@ pub struct MendCoverage {
     answers: BTreeMap<String, u64>,
     /// The output's room and the list's, by what is needed.
     rooms: BTreeMap<String, u64>,
+    /// How the texts of drag and drop in scripts end.
+    dragged: BTreeMap<String, u64>,
     /// The lines of the tool, without their numbers.
     tool: BTreeMap<String, u64>,
     /// What the tool kept, mended again: by whether something had been dropped.
@@ -57,6 +60,7 @@ impl MendCoverage {
         };
         let kinds = [kind(output, mended.kept.len()), kind(list, ROW * mended.rows.len())];
         count(&mut self.rooms, kinds.join("/"));
+        ends(recording).into_iter().for_each(|end| count(&mut self.dragged, end));
     }
 
     /// Counts in what the tool wrote.
@@ -82,6 +86,7 @@ impl MendCoverage {
         join(&mut self.rows, other.rows);
         join(&mut self.answers, other.answers);
         join(&mut self.rooms, other.rooms);
+        join(&mut self.dragged, other.dragged);
         join(&mut self.tool, other.tool);
         join(&mut self.again, other.again);
     }
@@ -100,6 +105,7 @@ impl MendCoverage {
             none(&self.rows, "row", whys().collect()),
             none(&self.answers, "answer", answers.collect()),
             none(&self.rooms, "rooms", rooms.collect()),
+            none(&self.dragged, "a text of drag and drop", ENDS.map(String::from).into()),
             none(&self.tool, "line of mend", lines.collect()),
             none(&self.again, "mended again", vec!["after a loss".into()]),
         ]
@@ -110,6 +116,7 @@ impl MendCoverage {
         println!("rows, by why: {}", listed(&self.rows));
         println!("answers: {}", listed(&self.answers));
         println!("rooms of output/list: {}", listed(&self.rooms));
+        println!("texts of drag and drop in scripts: {}", listed(&self.dragged));
         println!("lines of mend: {}", listed(&self.tool));
         println!("mended again: {}", listed(&self.again));
     }

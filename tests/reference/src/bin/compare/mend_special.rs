@@ -2,6 +2,7 @@
 //! beginnings of a command text, a recording cut off at each place, the most rows, the longest recordings, scripts that are none.
 
 use crate::bad_values;
+use crate::dragging;
 use crate::fields::Fields;
 use crate::framing::framed;
 use crate::judge::{Case, Tally};
@@ -24,7 +25,7 @@ pub fn scripts() -> Vec<Case> {
     let whole = |recording: Vec<u8>| encode(OUTPUT, LIST, &recording);
     let mut all: Vec<Vec<u8>> = examples().iter().flat_map(|given| in_rooms(given)).collect();
     all.extend(cuts().into_iter().map(whole));
-    all.extend([escapes(), values(), beginnings(), lengths()].map(whole));
+    all.extend([escapes(), values(), beginnings(), lengths(), dragged()].map(whole));
     all.extend([65_529, 65_530].map(most_rows).map(whole));
     all.extend([0, 1, 5, 6, 7].map(|len| vec![0; len]));
     let rooms = [0xff, 0xffff, 0xff_ffff, OUTPUT - 1, OUTPUT, OUTPUT + 1, LIST - 1, LIST, LIST + 1];
@@ -45,7 +46,7 @@ pub fn recordings() -> Vec<Case> {
         all.push([&vec![b'x'; len - GOOD.len()], GOOD].concat());
         all.push([&vec![b'x'; len - GOOD.len() + 1], &GOOD[..GOOD.len() - 1]].concat());
     }
-    all.extend([Vec::new(), values(), escapes(), beginnings()]);
+    all.extend([Vec::new(), values(), escapes(), beginnings(), dragged()]);
     named("mend", all)
 }
 
@@ -81,8 +82,14 @@ fn cuts() -> Vec<Vec<u8>> {
 fn escapes() -> Vec<u8> {
     let mut all = Vec::new();
     for byte in 0..=255 {
-        for before in [&b""[..], b"\x1b]5113;ac=send;id=m", b"\x1b]5113;", b"\x1b]0;t", b"\x1b]51"]
-        {
+        for before in [
+            &b""[..],
+            b"\x1b]5113;ac=send;id=m",
+            b"\x1b]5113;",
+            b"\x1b]0;t",
+            b"\x1b]51",
+            b"\x1b]72;t=a",
+        ] {
             all.extend([before, &[0x1b, byte], GOOD].concat());
         }
     }
@@ -132,6 +139,17 @@ fn lengths() -> Vec<u8> {
     all
 }
 
+/// Texts of drag and drop and what almost is one, behind them long ones: closed, abandoned, with noise between and a good frame.
+fn dragged() -> Vec<u8> {
+    let mut all = dragging::listed();
+    for len in [8192, 8193] {
+        let text = dragging::long(len);
+        all.extend([&b"x"[..], &framed(&text), b"y\x1b]", &text, b"\x1b[0m", GOOD].concat());
+    }
+    all.extend([&framed(b"72;t=a")[..], b"\x1b]72;t=a"].concat());
+    all
+}
+
 /// The page's recording with the most rows, or the beginning of a longer one.
 fn most_rows(len: usize) -> Vec<u8> {
     let mut all = b"x".to_vec();
@@ -170,7 +188,7 @@ mod tests {
     /// The list is truncated nowhere: each kind of row stands in one of the long recordings.
     #[test]
     fn the_long_recordings_fit() {
-        for recording in [escapes(), values(), beginnings(), lengths()] {
+        for recording in [escapes(), values(), beginnings(), lengths(), dragged()] {
             assert!(recording.len() < LONGEST_SCRIPT - HEAD, "{}", recording.len());
         }
     }

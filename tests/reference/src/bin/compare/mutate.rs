@@ -19,7 +19,7 @@ pub struct Stored {
 const LONGEST_RECORDING: usize = 30_000;
 const LONGEST_SCRIPT: usize = 30_000;
 const INTERESTING: &[u8] = b"\x1b\x1b\x1b\\\\]];;==0123456789-+/A~\x00\x07\x7f\x80\x9c\x9d\xff m";
-const WORDS: [&[u8]; 18] = [
+const WORDS: [&[u8]; 20] = [
     b"\x1b]",
     b"\x1b\\",
     b"\x1b]5113;",
@@ -38,6 +38,8 @@ const WORDS: [&[u8]; 18] = [
     b";q=2",
     b";ft=directory",
     b"\x1b\x1b\\",
+    b"\x1b]72;",
+    b"72;",
 ];
 
 impl Stored {

@@ -13,8 +13,14 @@ const REFUSALS: [(&str, &[u8]); 6] = [
     ("h", &[1, 2, 3, 4, 5, 7, 8, 9, 61, 62, 63, 64, 65, 66, 67]),
 ];
 
-const TOLD: [&str; 7] =
-    ["none", "ignored", "noted", "allowed", "differs", "stopped-file", "stopped-session"];
+/// Also that a text was shown that starts `72;`.
+#[rustfmt::skip]
+const TOLD: [&str; 8] = [
+    "none", "ignored", "noted", "allowed", "differs", "stopped-file", "stopped-session", "dragdrop",
+];
+
+/// `72;` in hex.
+const DRAG_DROP: &str = "37323b";
 
 /// The letters of STATE: the session's, and a file's with the session's before it.
 const STAGES: [&str; 5] = ["f", "w", "o", "e", "x"];
@@ -46,6 +52,9 @@ impl SenderCoverage {
                 count(&mut self.refusals, &format!("{call} {refusal}"));
                 count(&mut self.told, kind(told));
                 self.state(state);
+            }
+            if fields[0] == "t" && fields.get(1).is_some_and(|text| text.starts_with(DRAG_DROP)) {
+                count(&mut self.told, "dragdrop");
             }
         }
     }

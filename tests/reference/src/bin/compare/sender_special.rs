@@ -2,6 +2,7 @@
 //! and names about as long as they may be, every listed value, scripts that are none.
 
 use crate::bad_values;
+use crate::dragging;
 use crate::fields::Fields;
 use crate::framing::framed;
 use crate::judge::{Case, Tally, SENDER};
@@ -90,7 +91,9 @@ pub fn scripts() -> Vec<Case> {
     all.extend(setups().map(every_status));
     all.extend([examples(), values(), places(), full_room()]);
     all.extend([(1, 1), (1, 2), (1, 3), (32, 32)].map(long_names));
-    all.extend([8191, 8192, 8193, 8300].map(in_pieces));
+    all.extend([8191, 8192, 8193, 8300].map(|len| in_pieces(&status(len))));
+    all.extend([8191, 8192, 8193, 8300].map(|len| in_pieces(&dragging::long(len))));
+    all.extend([1, 2, 3, 4, 5, 7, 11, 300].map(dragged));
     all.extend(bad());
     all.extend([LONGEST_SCRIPT - 1, LONGEST_SCRIPT, LONGEST_SCRIPT + 1, 70_000].map(long));
     named("sender", all)
@@ -183,11 +186,30 @@ fn long_names((id, fid): (usize, usize)) -> Vec<u8> {
     encode(&ops)
 }
 
-/// A status of the given length, heard in pieces of several sizes.
-fn in_pieces(len: usize) -> Vec<u8> {
+/// A status of the given length.
+fn status(len: usize) -> Vec<u8> {
     let mut text = Fields::new("status", b"m").with("st", b"T0s=").with("x", b"").text();
     text.extend((text.len()..len).map(|i| b'A' + (i % 23) as u8));
-    let frame = framed(&text);
+    text
+}
+
+/// Texts of drag and drop and what almost is one, heard by an open session in pieces of this size, the text behind each.
+fn dragged(step: usize) -> Vec<u8> {
+    let mut items = "snd m | hear OK | file a /nz 3 | data ab".to_string();
+    for piece in dragging::listed().chunks(step) {
+        let notation: String = piece.iter().map(|byte| format!("<{byte:02X}>")).collect();
+        items += &format!(" | raw {notation}");
+    }
+    let with_text = |op: Op| match op {
+        Op::Hear(_) => vec![op, Op::Text],
+        _ => vec![op],
+    };
+    encode(&anew(&items, &[]).into_iter().flat_map(with_text).collect::<Vec<Op>>())
+}
+
+/// The text, heard in pieces of several sizes.
+fn in_pieces(text: &[u8]) -> Vec<u8> {
+    let frame = framed(text);
     let pieces = [8195, 4096, 1000].iter().flat_map(|&step| frame.chunks(step));
     let heard = pieces.flat_map(|piece| [Op::Hear(piece.to_vec()), Op::Text]);
     encode(&[Op::Send(b"m".to_vec())].into_iter().chain(heard).collect::<Vec<Op>>())

@@ -3,11 +3,13 @@
 //! one, a long file.
 
 use crate::bad_values;
+use crate::dragging;
 use crate::fields::{encoded, Fields};
 use crate::framing::framed;
 use crate::judge::{Case, Tally, RECEIVER, REPLAYER};
 use crate::{receive_special, sequences, sizes};
-use reference::console::LONGEST_SCRIPT;
+use reference::console::{Console, LONGEST_SCRIPT};
+use reference::receiver::Place;
 use reference::script::{encode, Op};
 
 /// Judges them all, each in a run of its own.
@@ -42,20 +44,69 @@ pub fn scripts() -> Vec<Case> {
     ];
     let mut all: Vec<Vec<u8>> = faults.iter().map(|bytes| bytes.to_vec()).collect();
     all.extend([LONGEST_SCRIPT - 1, LONGEST_SCRIPT, LONGEST_SCRIPT + 1, 70_000].map(long));
-    all.extend([8191, 8192, 8193, 8300, 20_000].map(in_pieces));
+    all.extend([8191, 8192, 8193, 8300, 20_000].map(|len| in_pieces(&command(len))));
+    all.extend([8191, 8192, 8193, 8300, 20_000].map(|len| in_pieces(&dragging::long(len))));
+    all.extend([1, 2, 3, 4, 5, 7, 11, 300].map(dragged));
+    all.push(dragged_while_owed());
     all.extend([values(), full_room()]);
     all.extend(receive_special::scripts());
     named("script", all)
 }
 
-/// A command text of the given length, fed in pieces of several sizes. A byte 8,192 places on is another one.
-fn in_pieces(len: usize) -> Vec<u8> {
+/// A command text of the given length. A byte 8,192 places on is another one.
+fn command(len: usize) -> Vec<u8> {
     let mut text = Fields::new("receive", b"z").with("x", b"").text();
     text.extend((text.len()..len).map(|i| b'A' + (i % 23) as u8));
-    let frame = framed(&text);
+    text
+}
+
+/// The text, fed in pieces of several sizes.
+fn in_pieces(text: &[u8]) -> Vec<u8> {
+    let frame = framed(text);
     let pieces = [8195, 4096, 1000].iter().flat_map(|&step| frame.chunks(step));
     let ops: Vec<Op> = pieces.flat_map(|piece| [Op::Feed(piece.to_vec()), Op::Text]).collect();
     encode(&ops)
+}
+
+/// Texts of drag and drop and what almost is one, in pieces of this size fed until consumed, the text behind each report.
+fn dragged(step: usize) -> Vec<u8> {
+    let mut console = Console::default();
+    let mut ops = Vec::new();
+    for piece in dragging::listed().chunks(step) {
+        let mut rest = piece.to_vec();
+        while !rest.is_empty() {
+            let op = Op::Feed(rest.clone());
+            let answer = console.apply(&op).unwrap_or_default();
+            ops.push(op);
+            if answer.text != Place::Nowhere {
+                ops.push(Op::Text);
+            }
+            rest.drain(..answer.consumed.max(1));
+        }
+    }
+    encode(&ops)
+}
+
+/// Such a text while each kind of answer is owed, and behind it; a session is looked at after each.
+fn dragged_while_owed() -> Vec<u8> {
+    let drag = || Op::Feed(framed(b"72;t=a;x"));
+    let of = |action: &str| Op::Feed(framed(&Fields::new(action, b"m").with("fid", b"a").text()));
+    let file = Fields::new("file", b"m").with("fid", b"a").with("n", b"L256");
+    let data = Fields::new("data", b"m").with("fid", b"a").with("d", b"YWJj");
+    let steps = [
+        Op::Feed(framed(&Fields::new("send", b"m").text())),
+        Op::Allow(b"m".to_vec()),
+        Op::Feed(framed(&file.text())),
+        Op::Done,
+        Op::Feed(framed(&data.text())),
+        Op::Done,
+        of("end_data"),
+        Op::Done,
+        of("finish"),
+        Op::Failed(2),
+    ];
+    let with = |op: Op| [op, drag(), Op::Text, Op::Numbers(b"m".to_vec())];
+    encode(&steps.into_iter().flat_map(with).collect::<Vec<Op>>())
 }
 
 /// Feeds a command with each listed value, most often behind a `st` that is accepted.
@@ -119,6 +170,22 @@ pub fn recordings() -> Vec<Case> {
     all.push(sizes::listed(&sizes::ODD, 2));
     all.extend([1, 3, 4096, 4097].map(|total| sizes::listed(&[&total.to_string()], total)));
     all.push(sizes::long());
+    all.push(dragging::listed());
+    // The example with such a text before each of its frames.
+    all.extend(
+        [
+            &b"\x1b]72;t=a\x1b\\"[..],
+            b"\x1b]72;",
+            b"\x1b]72;t=a\x1bx",
+            &framed(&dragging::long(8193)),
+        ]
+        .map(|text| {
+            example
+                .split_inclusive(|&byte| byte == b'\\')
+                .flat_map(|frame| [text, frame].concat())
+                .collect()
+        }),
+    );
     all.extend(receive_special::recordings());
     named("recording", all)
 }

@@ -248,9 +248,12 @@ fn long_file(rng: &mut Rng, ids: &[Vec<u8>]) -> Vec<Vec<u8>> {
 fn long_texts(rng: &mut Rng, ids: &[Vec<u8>]) -> Vec<Vec<u8>> {
     let action = *rng.pick(&["receive", "send", "status", "cancel"]);
     let mut text = Fields::new(action, &ids[0]).text();
-    if rng.chance(10) {
+    if rng.chance(20) {
         // No command, whatever its length.
-        text.splice(..5, rng.word(&["52;c;", "5113", "51130;"]).iter().copied());
+        text.splice(
+            ..5,
+            rng.word(&["52;c;", "5113", "51130;", "72;", "72;", "720;"]).iter().copied(),
+        );
     }
     let len = *rng.pick(&[8191, 8192, 8192, 8193, 8193, 8194, 8256, 9000, 20_000]);
     match rng.below(4) {

@@ -1,6 +1,7 @@
 //! Counts what came up in the outputs of `windows_script` and `compare_windows`: verdicts, refusals, rooms and lengths.
 
 use crate::coverage::{join, listed};
+use crate::dragging::{ends, ENDS};
 use crate::windows_cases::parted;
 use reference::windows::script::parts;
 use reference::windows::{rows, LONGEST, ROW};
@@ -27,6 +28,8 @@ pub struct WindowCoverage {
     answers: Counts,
     /// The list's room, by what is needed.
     rooms: Counts,
+    /// How the texts of drag and drop in scripts end.
+    dragged: Counts,
     /// The lines of the tool, without their numbers and ids.
     tool: Counts,
     /// Which of the tool's recordings was too long.
@@ -70,6 +73,7 @@ impl WindowCoverage {
             Ordering::Greater => ROOMS[2],
         };
         count(&mut self.rooms, kind);
+        [ends(first), ends(second)].concat().iter().for_each(|end| count(&mut self.dragged, end));
     }
 
     /// Counts in what the tool wrote.
@@ -105,6 +109,7 @@ impl WindowCoverage {
         join(&mut self.verdicts, other.verdicts);
         join(&mut self.answers, other.answers);
         join(&mut self.rooms, other.rooms);
+        join(&mut self.dragged, other.dragged);
         join(&mut self.tool, other.tool);
         join(&mut self.lengths, other.lengths);
         join(&mut self.alike, other.alike);
@@ -120,6 +125,7 @@ impl WindowCoverage {
             none(&self.verdicts, "verdict", &VERDICTS),
             none(&self.answers, "answer", &ANSWERS),
             none(&self.rooms, "room", &ROOMS),
+            none(&self.dragged, "a text of drag and drop", &ENDS),
             none(&self.tool, "line of compare_windows", &LINES),
             none(&self.lengths, "too long", &LENGTHS),
             none(&self.alike, "beside", &["itself", "mended"]),
@@ -131,6 +137,7 @@ impl WindowCoverage {
         println!("rows, by verdict: {}", listed(&self.verdicts));
         println!("answers: {}", listed(&self.answers));
         println!("rooms of the list: {}", listed(&self.rooms));
+        println!("texts of drag and drop in scripts: {}", listed(&self.dragged));
         println!("lines of compare_windows: {}", listed(&self.tool));
         println!("too long: {}", listed(&self.lengths));
         println!("beside itself or its mended form: {}", listed(&self.alike));

@@ -1,6 +1,8 @@
 //! Pairs of recordings that no seed makes, or few: order 11's examples in each room and exchanged, each order of a few commands, the
 //! most starts, the most parts, the longest recordings, parts about the limit, receive sessions, scripts that are none.
 
+use crate::dragging;
+use crate::framing::framed;
 use crate::judge::{Case, Tally};
 use crate::special::named;
 use crate::windows_cases::{joined, judge_alike, judge_missing, judge_pair, judge_script, mend};
@@ -21,7 +23,7 @@ type Pair = (Vec<u8>, Vec<u8>);
 
 pub fn scripts() -> Vec<Case> {
     let mut all: Vec<Vec<u8>> = examples().iter().flat_map(in_rooms).collect();
-    let known = [parts(), orders(), receives()].concat();
+    let known = [parts(), orders(), receives(), dragged()].concat();
     all.extend(known.iter().map(|(first, second)| encode(LIST, first, second)));
     let half = (LONGEST_SCRIPT - HEAD) / 2;
     let (many, other) = (most_starts(half, b'm'), most_starts(half, b'n'));
@@ -54,9 +56,30 @@ fn no_scripts() -> Vec<Vec<u8>> {
     all
 }
 
+/// Windows beside the same with texts of drag and drop before each frame: closed, abandoned, too long, and what almost is one.
+fn dragged() -> Vec<Pair> {
+    let plain = window("s m, f m a, d m a ab, e m a cd, f m b, d m b x, c m");
+    let texts = [
+        framed(b"72;t=a;x"),
+        framed(b"72;5113;ac=cancel;id=m"),
+        b"\x1b]72;t=a".to_vec(),
+        b"\x1b]72;t=a\x1bx".to_vec(),
+        framed(&dragging::long(8192)),
+        framed(&dragging::long(8193)),
+        framed(b"720;"),
+        framed(b"72"),
+    ];
+    let mixed = |text: &Vec<u8>| {
+        let frames = plain.split_inclusive(|&byte| byte == b'\\');
+        frames.flat_map(|frame| [text, frame].concat()).collect::<Vec<u8>>()
+    };
+    let pairs = texts.iter().map(|text| (mixed(text), plain.clone()));
+    pairs.flat_map(|(mixed, plain)| [(mixed.clone(), plain.clone()), (plain, mixed)]).collect()
+}
+
 /// For the tool.
 pub fn pairs() -> Vec<Case> {
-    let mut all = examples();
+    let mut all = [examples(), dragged()].concat();
     let recording = window("s m, f m a, d m a abc");
     for len in [65_535, 65_536, 65_537, 70_000, 200_000] {
         let (head, tail) = (padded(&recording, len), ending(len, &recording));
