@@ -4,6 +4,7 @@ from steps import LOOK, SLICE, copied, fits, landed, lawful, left, looked, own, 
 from walk import Walk
 
 w = Walk("receiver_in_place", "feed")
+w.long = ("E′.mir",)
 w.ctx = ["tokens", "owned"]
 w.say("qed W ((‵ (flft κ q) ⊛ ‵ (flft κp qp) ⊛ ‵ (flft κb qb) ⊛ ‵ ftrue) ∷ ‵ (owns (MutRef (named 0) κ T.the-row ∷ ShrSlice (named 1) κp u8 ∷ MutSlice (named 2) κb u8 ∷ MutSlice (named 2) κb u8 ∷ MutSlice (named 2) κb u8 ∷ []) x at) ∷ []) ∵")
 for n in ("r-token", "p-token", "b-token"):

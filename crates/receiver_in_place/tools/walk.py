@@ -222,6 +222,14 @@ class Walk:
             return ""
         return f"{{τ = rawTy {name}}} " if raw and ty[0] != "tyInt" and ty != "tyBool" else f"{{τ = {name.strip('()') if ty[0] == 'tyInt' else name}}} "
 
+    # those whose fields' types are so long that they too are said, at each part of one
+    long = ()
+
+    def among(self, ty, raw):
+        """the types of a struct's fields as an argument, where they are worth one"""
+        name = self.mir(ty)
+        return f"{{τs = Places.fieldsIn {name}}} " if name in self.long and not raw else ""
+
     # ---- places and operands
     def spot(self, place, at=None):
         """the place's steps and where its value lies: (walk, item, part, type)"""
@@ -230,10 +238,10 @@ class Walk:
         walk, ty = [], self.types[j]
         for p in path:
             if p[0] == "field":
-                lies = self.places(self.fields(ty))[0][int(p[1])]
+                lies, among = self.places(self.fields(ty))[0][int(p[1])], self.among(ty, behind)
                 ty = self.fields(ty)[int(p[1])]
                 walk.append(f"fld ! {self.typed(ty)}{{d = {lies}}} refl")
-                part = f"(sub ! {p[1]} {self.typed(ty, behind)}{{d = {lies}}} refl {part})"
+                part = f"(sub ! {among}{p[1]} {self.typed(ty, behind)}{{d = {lies}}} refl {part})"
             else:
                 look = self.looks(item, part, ty, behind)
                 ty = p[1]

@@ -505,12 +505,13 @@ module _ {M : Type 1} (𝓤 : URA M) (H : Heap 𝓤) (A : Atoms 𝓤) (W : Given
         .scratch) room-s ls) $ await ! tt $ split ! $
         move ! (3 ∷ 1 ∷ []) $ use2 W (‵ (flft κb qb)) (W .lfts .lft-join κb qb) $
         -- [b-token; scratch; carry; p-token; piece-again; cell; open; obs; auth; reply] and the locals
-        assigns ! (of-opd ! (load ! (from ! (fld ! {τ = G′.mir} {d = 0} refl (stop !))) (look-in ! 49 {τ = G′.mir} (sub ! 0 {τ =
-        G′.mir} {d = 0} refl (whole !))))) (from ! (hop ! {τ = T′.mir} (look ! 65 refl) (fld ! {τ = G′.mir} {d = 0} refl (stop
-        !)))) (store-in ! 5 {τ = G′.mir} (Places.plain ! {τ = G′.mir} (sub ! 0 {τ = rawTy G′.mir} {d = 0} refl (whole !)))
-        (EL.lawful G.the-type G′.the-laws 𝓤 H A W tt .typed (d₁ .framing) _ (told₁ .0) .0)) $
-        assigns ! (of-opd ! (load ! (from ! (fld ! {τ = tyBool} {d = 48} refl (stop !))) (look-in ! 49 {τ = tyBool} (sub ! 3 {τ =
-        tyBool} {d = 48} refl (whole !))))) (from ! (stop !)) (init ! 31 {τ = tyBool} refl (tt, tt)) $
+        assigns ! (of-opd ! (load ! (from ! (fld ! {τ = G′.mir} {d = 0} refl (stop !))) (look-in ! 49 {τ = G′.mir} (sub ! {τs =
+        Places.fieldsIn E′.mir} 0 {τ = G′.mir} {d = 0} refl (whole !))))) (from ! (hop ! {τ = T′.mir} (look ! 65 refl) (fld ! {τ =
+        G′.mir} {d = 0} refl (stop !)))) (store-in ! 5 {τ = G′.mir} (Places.plain ! {τ = G′.mir} (sub ! 0 {τ = rawTy G′.mir} {d =
+        0} refl (whole !))) (EL.lawful G.the-type G′.the-laws 𝓤 H A W tt .typed (d₁ .framing) _ (told₁ .0) .0)) $
+        assigns ! (of-opd ! (load ! (from ! (fld ! {τ = tyBool} {d = 48} refl (stop !))) (look-in ! 49 {τ = tyBool} (sub ! {τs =
+        Places.fieldsIn E′.mir} 3 {τ = tyBool} {d = 48} refl (whole !))))) (from ! (stop !)) (init ! 31 {τ = tyBool} refl (tt, tt))
+        $
         early ! (load ! (from ! (stop !)) (look ! 31 {τ = tyBool} refl)) (λ yes.
         let fed-is = LL.owes F.the-type F′.the-laws f₁ (
           told₁ .1 .0,
@@ -525,13 +526,14 @@ module _ {M : Type 1} (𝓤 : URA M) (H : Heap 𝓤) (A : Atoms 𝓤) (W : Given
             ),
           ),
         ) in
-        assigns ! (agg ! (and-then ! (load ! (from ! (fld ! {τ = tyInt w64} {d = 16} refl (stop !))) (look-in ! 49 (sub ! 1 {τ = tyInt
-        w64} {d = 16} refl (whole !)))) (and-then ! (load ! (from ! (fld ! {τ = P′.mir} {d = 24} refl (stop !))) (look-in ! 49 {τ =
-        P′.mir} (sub ! 2 {τ = P′.mir} {d = 24} refl (whole !)))) (and-then ! (load ! (from ! (fld ! {τ = Y′.mir} {d = 56} refl
-        (stop !))) (look-in ! 49 {τ = Y′.mir} (sub ! 4 {τ = Y′.mir} {d = 56} refl (whole !)))) (and-then ! (load ! (from ! (fld !
-        {τ = Z′.mir} {d = 88} refl (stop !))) (look-in ! 49 {τ = Z′.mir} (sub ! 5 {τ = Z′.mir} {d = 88} refl (whole !)))) (and-then
-        ! (lit ! tt) (no-more !))))))) (from ! (stop !)) (init ! 67 {τ = F′.mir} refl (LL.lawful F.the-type F′.the-laws 𝓤 H A W
-        .typed f₁ _ fed-is .0)) $
+        assigns ! (agg ! (and-then ! (load ! (from ! (fld ! {τ = tyInt w64} {d = 16} refl (stop !))) (look-in ! 49 (sub ! {τs =
+        Places.fieldsIn E′.mir} 1 {τ = tyInt w64} {d = 16} refl (whole !)))) (and-then ! (load ! (from ! (fld ! {τ = P′.mir} {d =
+        24} refl (stop !))) (look-in ! 49 {τ = P′.mir} (sub ! {τs = Places.fieldsIn E′.mir} 2 {τ = P′.mir} {d = 24} refl (whole
+        !)))) (and-then ! (load ! (from ! (fld ! {τ = Y′.mir} {d = 56} refl (stop !))) (look-in ! 49 {τ = Y′.mir} (sub ! {τs =
+        Places.fieldsIn E′.mir} 4 {τ = Y′.mir} {d = 56} refl (whole !)))) (and-then ! (load ! (from ! (fld ! {τ = Z′.mir} {d = 88}
+        refl (stop !))) (look-in ! 49 {τ = Z′.mir} (sub ! {τs = Places.fieldsIn E′.mir} 5 {τ = Z′.mir} {d = 88} refl (whole !))))
+        (and-then ! (lit ! tt) (no-more !))))))) (from ! (stop !)) (init ! 67 {τ = F′.mir} refl (LL.lawful F.the-type F′.the-laws 𝓤
+        H A W .typed f₁ _ fed-is .0)) $
         move ! (2 ∷ []) $ use1 W (‵ (finally u8 ((xc γc (D₁ .carry)) .name) ((xc γc (D₁ .carry)) .now))) (last-of 𝓤 H A W (named 2) κb
         u8 (xc γc (D₁ .carry)) (tc ∷ [])) $
         move ! (2 ∷ []) $ use1 W (‵ (finally u8 ((xs γs (D₁ .scratch)) .name) ((xs γs (D₁ .scratch)) .now))) (last-of 𝓤 H A W (named 2)
@@ -558,8 +560,14 @@ module _ {M : Type 1} (𝓤 : URA M) (H : Heap 𝓤) (A : Atoms 𝓤) (W : Given
         keep ! (0 ∷ 1 ∷ 2 ∷ 3 ∷ 6 ∷ 5 ∷ 4 ∷ []) $ by ! (exits h₁ f₁ (D₁ .carry) (D₁ .scratch) (yy .now) (in-place-unread h (yp .now)
         (yy .now) (four h was) c₀ s₀ (is-true (d₁ .unread) yes)) lc ls refl fed-is))
         (λ no.
-        assigns ! (of-opd ! (load ! (from ! (fld ! {τ = tyInt w64} {d = 280} refl (stop !))) (look-in ! 49 (sub ! 7 {τ = tyInt w64} {d
-        = 280} refl (whole !))))) (from ! (stop !)) (init ! 47 refl (tt, record { fits = told₁ .1 .1 .1 .1 .1 .1 .1 .0 .1 })) $
+        assigns ! (of-opd ! (load ! (from ! (fld ! {τ = tyInt w64} {d = 280} refl (stop !))) (look-in ! 49 (sub ! {τs = Places.fieldsIn
+        E′.mir} 7 {τ = tyInt w64} {d = 280} refl (whole !))))) (from ! (stop !)) (init ! 47 refl (
+          tt,
+          record {
+            fits = told₁ .1 .1
+                .1 .1 .1 .1 .1 .0 .1;
+          },
+        )) $
         assigns ! (bin ! (load ! (from ! (stop !)) (look ! 47 refl)) (Places.big ! (record { fits = omega arith })) (record {
           fits =
               fits;
@@ -676,14 +684,15 @@ module _ {M : Type 1} (𝓤 : URA M) (H : Heap 𝓤) (A : Atoms 𝓤) (W : Given
             ),
           ),
         ) in
-        assigns ! (agg ! (and-then ! (load ! (from ! (fld ! {τ = tyInt w64} {d = 16} refl (stop !))) (look-in ! 48 (sub ! 1 {τ = tyInt
-        w64} {d = 16} refl (whole !)))) (and-then ! (load ! (from ! (fld ! {τ = P′.mir} {d = 24} refl (stop !))) (look-in ! 48 {τ =
-        P′.mir} (sub ! 2 {τ = P′.mir} {d = 24} refl (whole !)))) (and-then ! (load ! (from ! (fld ! {τ = Y′.mir} {d = 2168} refl
-        (stop !))) (look-in ! 44 {τ = Y′.mir} (sub ! 2 {τ = Y′.mir} {d = 2168} refl (whole !)))) (and-then ! (load ! (from ! (fld !
-        {τ = Z′.mir} {d = 88} refl (stop !))) (look-in ! 48 {τ = Z′.mir} (sub ! 5 {τ = Z′.mir} {d = 88} refl (whole !)))) (and-then
-        ! (load ! (from ! (fld ! {τ = tyInt w64} {d = 2200} refl (stop !))) (look-in ! 44 (sub ! 3 {τ = tyInt w64} {d = 2200} refl
-        (whole !)))) (no-more !))))))) (from ! (stop !)) (init ! 66 {τ = F′.mir} refl (LL.lawful F.the-type F′.the-laws 𝓤 H A W
-        .typed f₂ _ fed-is .0)) $
+        assigns ! (agg ! (and-then ! (load ! (from ! (fld ! {τ = tyInt w64} {d = 16} refl (stop !))) (look-in ! 48 (sub ! {τs =
+        Places.fieldsIn E′.mir} 1 {τ = tyInt w64} {d = 16} refl (whole !)))) (and-then ! (load ! (from ! (fld ! {τ = P′.mir} {d =
+        24} refl (stop !))) (look-in ! 48 {τ = P′.mir} (sub ! {τs = Places.fieldsIn E′.mir} 2 {τ = P′.mir} {d = 24} refl (whole
+        !)))) (and-then ! (load ! (from ! (fld ! {τ = Y′.mir} {d = 2168} refl (stop !))) (look-in ! 44 {τ = Y′.mir} (sub ! 2 {τ =
+        Y′.mir} {d = 2168} refl (whole !)))) (and-then ! (load ! (from ! (fld ! {τ = Z′.mir} {d = 88} refl (stop !))) (look-in ! 48
+        {τ = Z′.mir} (sub ! {τs = Places.fieldsIn E′.mir} 5 {τ = Z′.mir} {d = 88} refl (whole !)))) (and-then ! (load ! (from !
+        (fld ! {τ = tyInt w64} {d = 2200} refl (stop !))) (look-in ! 44 (sub ! 3 {τ = tyInt w64} {d = 2200} refl (whole !))))
+        (no-more !))))))) (from ! (stop !)) (init ! 66 {τ = F′.mir} refl (LL.lawful F.the-type F′.the-laws 𝓤 H A W .typed f₂ _
+        fed-is .0)) $
         owned ! T.the-row (Is T.the-row) (LL.makes T.the-type T′.the-plain 𝓤 H A) h′ _ (anew h was (d₁ .framing) i₀ (d₂ .session) (d₂
         .owed) (told₁ .0) (told₂ .0) (told₂ .1 .0)) $
         move ! (5 ∷ 0 ∷ 6 ∷ 7 ∷ 8 ∷ []) $ closes ! tt T.the-row h′ (vals h′) b o $
