@@ -37,6 +37,7 @@ module _ (w : World) (id reply : List ℕ) where
   answer-receiver Told.Nothing = refl
   answer-receiver (Told.Refused n) = refl
   answer-receiver Told.Ignored = refl
+  answer-receiver Told.DragDrop = refl
   answer-receiver Told.Asked = refl
   answer-receiver Told.Naming = refl
   answer-receiver Told.Path = refl
@@ -51,6 +52,7 @@ module _ (w : World) (id reply : List ℕ) where
   answer-carry Told.Nothing = refl
   answer-carry (Told.Refused n) = refl
   answer-carry Told.Ignored = refl
+  answer-carry Told.DragDrop = refl
   answer-carry Told.Asked = refl
   answer-carry Told.Naming = refl
   answer-carry Told.Path = refl
@@ -72,6 +74,7 @@ module _ (w : World) (id reply : List ℕ) where
     answer-bytes Told.Nothing = refl
     answer-bytes (Told.Refused n) = refl
     answer-bytes Told.Ignored = refl
+    answer-bytes Told.DragDrop = refl
     answer-bytes Told.Asked = allow-bytes
     answer-bytes Told.Naming = refl
     answer-bytes Told.Path = refl
@@ -86,6 +89,7 @@ module _ (w : World) (id reply : List ℕ) where
     answer-kept Told.Nothing = ok
     answer-kept (Told.Refused n) = ok
     answer-kept Told.Ignored = ok
+    answer-kept Told.DragDrop = ok
     answer-kept Told.Asked = steps w ok (Call.allow id reply) tt .kept
     answer-kept Told.Naming = ok
     answer-kept Told.Path = ok

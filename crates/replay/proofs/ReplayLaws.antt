@@ -41,6 +41,7 @@ unfolding allowOf doneOf
 replayed-alike r Told.Nothing id a b e = refl
 replayed-alike r (Told.Refused n) id a b e = refl
 replayed-alike r Told.Ignored id a b e = refl
+replayed-alike r Told.DragDrop id a b e = refl
 replayed-alike r Told.Asked id a b e = guarded-alike r _ a b e
 replayed-alike r Told.Naming id a b e = refl
 replayed-alike r Told.Path id a b e = refl
@@ -56,6 +57,7 @@ replayed-over : (r : Receiver) (told : Told) (id a : List ℕ) → isOver told �
 replayed-over r Told.Nothing id a e = refl
 replayed-over r (Told.Refused n) id a e = refl
 replayed-over r Told.Ignored id a e = refl
+replayed-over r Told.DragDrop id a e = refl
 replayed-over r Told.Asked id a e = absurd (true≢false (sym e))
 replayed-over r Told.Naming id a e = refl
 replayed-over r Told.Path id a e = refl
@@ -72,6 +74,7 @@ unfolding calledOf
 replayed-on r Told.Nothing id a e = absurd (true≢false e)
 replayed-on r (Told.Refused n) id a e = absurd (true≢false e)
 replayed-on r Told.Ignored id a e = absurd (true≢false e)
+replayed-on r Told.DragDrop id a e = absurd (true≢false e)
 replayed-on r Told.Asked id a e = refl
 replayed-on r Told.Naming id a e = absurd (true≢false e)
 replayed-on r Told.Path id a e = absurd (true≢false e)

@@ -16,6 +16,7 @@ abbrev pub isOver : Told → Bool
 isOver Told.Nothing = true
 isOver (Told.Refused n) = true
 isOver Told.Ignored = true
+isOver Told.DragDrop = true
 isOver Told.Asked = false
 isOver Told.Naming = true
 isOver Told.Path = true
@@ -31,6 +32,7 @@ abbrev pub callFor : Told → Call
 callFor Told.Nothing = Call.Done
 callFor (Told.Refused n) = Call.Done
 callFor Told.Ignored = Call.Done
+callFor Told.DragDrop = Call.Done
 callFor Told.Asked = Call.Allow
 callFor Told.Naming = Call.Done
 callFor Told.Path = Call.Done
