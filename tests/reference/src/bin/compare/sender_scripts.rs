@@ -349,7 +349,7 @@ mod tests {
     use crate::sender_coverage::SenderCoverage;
     use reference::sender::script::encode;
 
-    const SEEDS: u64 = 150;
+    const SEEDS: u64 = 300;
 
     /// Without the special scripts.
     #[test]

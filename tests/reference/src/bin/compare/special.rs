@@ -10,7 +10,7 @@ use crate::judge::{Case, Tally, RECEIVER, REPLAYER};
 use crate::{receive_special, sequences, sizes};
 use reference::console::{Console, LONGEST_SCRIPT};
 use reference::receiver::Place;
-use reference::script::{encode, Op};
+use reference::script::{encode, Buffer, Op};
 
 /// Judges them all, each in a run of its own.
 pub fn judge(tally: &mut Tally) {
@@ -48,7 +48,7 @@ pub fn scripts() -> Vec<Case> {
     all.extend([8191, 8192, 8193, 8300, 20_000].map(|len| in_pieces(&dragging::long(len))));
     all.extend([1, 2, 3, 4, 5, 7, 11, 300].map(dragged));
     all.push(dragged_while_owed());
-    all.extend([values(), full_room()]);
+    all.extend([values(), full_room(), short_replies()]);
     all.extend(receive_special::scripts());
     named("script", all)
 }
@@ -143,6 +143,19 @@ fn full_room() -> Vec<u8> {
     ops.extend(with(of("send"), Op::Allow(b"m".to_vec())));
     ops.extend(with(of("finish"), Op::Done));
     encode(&ops)
+}
+
+/// Allow and deny with a reply buffer that is too short, though the reply would fit in most of them, then again.
+fn short_replies() -> Vec<u8> {
+    let id = || b"m".to_vec();
+    let with = |call: Op, len| {
+        let send = Op::Feed(framed(&Fields::new("send", b"m").text()));
+        let (short, whole) = (Op::Lend(Buffer::Reply, len), Op::Lend(Buffer::Reply, 124));
+        [Op::Anew, send, short, call.clone(), whole, call]
+    };
+    let lens = [0, 30, 60, 100, 123];
+    let ops = lens.iter().flat_map(|&len| [with(Op::Allow(id()), len), with(Op::Deny(id()), len)]);
+    encode(&ops.flatten().collect::<Vec<Op>>())
 }
 
 /// A script of the given length: one long feed of noise, then starts anew, then two calls.

@@ -1,6 +1,7 @@
 //! Generated streams: what a program on the line might send, as a list of chunks.
 
 use crate::bad_texts;
+use crate::dragging::dragged;
 use crate::fields::{adorn, cast, encoded, random_bytes, Fields, ACTIONS, GOOD_INTEGERS};
 use crate::framing::{damaged, fragments, framed, noise};
 use crate::names;
@@ -21,7 +22,7 @@ pub struct Shape {
     pub commands: usize,
     /// Frames with a fault, in a hundred.
     pub damage: usize,
-    /// Frames with noise before them, in a hundred.
+    /// Frames with noise before them, in a hundred; half as many with a text of drag and drop.
     pub noise: usize,
     /// Parts of about 4,096 bytes, in a hundred.
     pub big: usize,
@@ -50,10 +51,13 @@ pub fn stream_of(rng: &mut Rng, shape: &Shape, ids: &[Vec<u8>]) -> Vec<Vec<u8>> 
     }
 }
 
-/// A command's text as chunks: in a good frame or a damaged one, with noise or without.
+/// A command's text as chunks: in a good frame or a damaged one, with noise or without, with a text of drag and drop or without.
 pub fn emit(rng: &mut Rng, shape: &Shape, fields: Fields, chunks: &mut Vec<Vec<u8>>) {
     if rng.chance(shape.noise) {
         chunks.push(noise(rng));
+    }
+    if rng.chance(shape.noise / 2) {
+        chunks.push(dragged(rng));
     }
     let fields = adorn(rng, fields);
     if !rng.chance(shape.damage) {

@@ -291,7 +291,7 @@ mod tests {
     #[test]
     fn everything_comes_up() {
         let mut coverage = WindowCoverage::default();
-        for seed in 0..250 {
+        for seed in 0..400 {
             let script = script_case(seed).input;
             coverage.room(&script);
             coverage.script(&WINDOWS.expected(&script));

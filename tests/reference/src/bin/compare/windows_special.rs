@@ -73,7 +73,8 @@ fn dragged() -> Vec<Pair> {
         let frames = plain.split_inclusive(|&byte| byte == b'\\');
         frames.flat_map(|frame| [text, frame].concat()).collect::<Vec<u8>>()
     };
-    let pairs = texts.iter().map(|text| (mixed(text), plain.clone()));
+    let unfinished = |text: &Vec<u8>| [mixed(text), b"\x1b]72;t=a".to_vec()].concat();
+    let pairs = texts.iter().map(|text| (unfinished(text), plain.clone()));
     pairs.flat_map(|(mixed, plain)| [(mixed.clone(), plain.clone()), (plain, mixed)]).collect()
 }
 
