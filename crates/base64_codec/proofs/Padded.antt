@@ -8,7 +8,7 @@ use lib.ListN.{length, get_or, take, drop, take-append-drop, length-drop}
 use lib.Seq.{get_or-drop}
 use lib.Dec.{eqb}
 use borrow.Author.Tests.{eq-eqb, ne_eqb}
-use Rattle.bytes.specs.Bytes.{index_of, index_after}
+use Rattle.octets.specs.Search.{index_of, index_after}
 use Rattle.octets.specs.Bytes.{Bytes}
 use Rattle.base64_codec.specs.Alphabet.{pad}
 use Rattle.base64_codec.specs.Decode.{verdict_of}

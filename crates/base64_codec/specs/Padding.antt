@@ -1,6 +1,6 @@
 -- The choice of padding: required, or "optional, all or none". What a text means by it is what the text means with its padding.
 use Rattle.std.specs.Prelude.{ℕ, ◌-◌, ◌%◌, cond, List, [], ◌∷◌, ◌++◌, length, get_or, take, eqb}
-use Rattle.bytes.specs.Bytes.{index_of}
+use Rattle.octets.specs.Search.{index_of}
 use Rattle.octets.specs.Outcome.{Outcome}
 use Rattle.base64_codec.specs.Alphabet.{pad}
 use Rattle.base64_codec.specs.Decode.{decode_of}

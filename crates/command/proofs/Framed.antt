@@ -8,7 +8,7 @@ use lib.ListN.{length, take, drop, length-append}
 use lib.Seq.{sets-eq, take-append_seam}
 use lib.Dec.{ltb}
 use borrow.Author.Tests.{ltb-false, leb-true, eq-eqb, ne_eqb}
-use Rattle.bytes.specs.Bytes.{index_of, index_after}
+use Rattle.octets.specs.Search.{index_of, index_after}
 use Rattle.octets.specs.Ascii.{ascii}
 use Rattle.octets.specs.Members.{every}
 use Rattle.octets.specs.Outcome.{outcome}

@@ -7,7 +7,7 @@ use native.Mathlib.Omega.{arith}
 use lib.ListN.{length, set, length-append}
 use lib.Seq.{append_snoc, set_at, get_or_at, take-append_seam, drop-append-add}
 use borrow.Author.Tests.{ne_eqb, lt-ltb, eqb-false, not_true}
-use Rattle.bytes.specs.Bytes.{index_of, index_after}
+use Rattle.octets.specs.Search.{index_of, index_after}
 use Rattle.octets.specs.Members.{every}
 use Rattle.octets.proofs.Below.{both_test}
 use Rattle.command.specs.Keys.{Key, keys}

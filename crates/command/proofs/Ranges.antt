@@ -1,7 +1,7 @@
 -- Keys and safe strings by ranges of bytes: the same, for every byte, as the definitions say.
 use Prim.Native.Nat.{ℕ, ◌<◌}
 use mathlib.Core.Path.{◌≡◌, refl}
-use Rattle.bytes.specs.Bytes.{index_of, index_after}
+use Rattle.octets.specs.Search.{index_of, index_after}
 use Rattle.octets.proofs.Below.{at}
 use Rattle.base64_codec.proofs.Ranges.{alike, alike_same}
 use Rattle.command.specs.Letters.{key_byte, safe_byte}

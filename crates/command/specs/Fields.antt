@@ -1,7 +1,7 @@
 -- The fields of a command text, left to right. What is done with a known key's value is a parameter, so that reading into values
 -- and reading into places go by the same rule.
 use Rattle.std.specs.Prelude.{ℕ, ◌+◌, Bool, cond, ◌&&◌, List, [], ◌∷◌, length, take, drop, ltb}
-use Rattle.bytes.specs.Bytes.{index_of}
+use Rattle.octets.specs.Search.{index_of}
 use Rattle.octets.specs.Members.{every}
 use Rattle.octets.specs.Ascii.{ascii}
 use Rattle.octets.specs.Slices.{starts_with}

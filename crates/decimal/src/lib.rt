@@ -1,6 +1,8 @@
 // Integers as a command writes them: an optional `-`, then 1 to 19 digits, within signed 64 bits.
 //
 // An integer is a sign and a magnitude. Not here: other bases, `+`, blanks, fractions.
+#![tactic(auto)]
+
 mod reader;
 mod writer;
 

@@ -8,7 +8,7 @@ use lib.ListN.{length}
 use lib.Seq.{append_snoc}
 use lib.Dec.{eqb, leb}
 use borrow.Author.Tests.{le-leb, eqb-true}
-use Rattle.bytes.specs.Bytes.{index_of, index_after}
+use Rattle.octets.specs.Search.{index_of, index_after}
 use Rattle.frames.specs.Stream.{Mode, Told, is_command, is_drag_drop, text_tells, text_limit, closed_tells, read_byte, stream}
 use Rattle.frames.specs.Claims.{FramedTells}
 use Rattle.frames.specs.DragDrop.{DraggedTells}

@@ -1,6 +1,6 @@
 -- Bytes that change nothing but a count. No part of what a call answers: how it is answered fast.
 use Rattle.std.specs.Prelude.{cond, ℕ, ◌+◌, List, length, ltb}
-use Rattle.bytes.specs.Bytes.{index_of}
+use Rattle.octets.specs.Search.{index_of}
 use Rattle.frames.specs.Stream.{mark}
 use Rattle.frames.specs.declared.Framing.{Framing}
 use Rattle.frames.specs.declared.Framing.TheVariants.{Plain, Escape, Text, TextEscape}

@@ -6,7 +6,7 @@ use native.Mathlib.Omega.{arith}
 use native.Mathlib.Decide.{dec_lt}
 use lib.ListN.{length, take, drop, length-take, length-drop}
 use lib.Seq.{take_all, drop-drop}
-use Rattle.bytes.specs.Bytes.{index_of}
+use Rattle.octets.specs.Search.{index_of}
 use Rattle.octets.specs.Split.{split}
 use Rattle.octets.proofs.Finds.{index_le}
 use Rattle.octets.proofs.Splits.{split_at, split-end}

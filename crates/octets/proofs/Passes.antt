@@ -9,7 +9,7 @@ use lib.ListN.{length, get_or, take, drop, length-drop}
 use lib.Seq.{drop-drop}
 use lib.Dec.{eqb}
 use borrow.Author.Tests.{eq-eqb, ne_eqb, eqb-true, eqb-false}
-use Rattle.bytes.specs.Bytes.{index_of, index_after}
+use Rattle.octets.specs.Search.{index_of, index_after}
 use Rattle.octets.specs.Slices.{lacks}
 use Rattle.octets.proofs.Lists.{drop_at, drop-end}
 
@@ -57,3 +57,20 @@ block-past b k s i l h =
     let m : k ≤ length (drop i s) = simp length-drop (omega arith) in
     let e : index_of b (drop i s) ≡ k + index_of b (drop k (drop i s)) = index-past b k (drop i s) m (rw add-sub_cancel_left at h) in
     rw (← drop-drop k i s) (rw e (add_assoc i k (index_of b (drop k (drop i s)))))
+
+-- ---- a search byte by byte
+-- a place of another byte is passed
+pub other-past : (b : ℕ) (s : List ℕ) (i : ℕ) → i < length s → (get_or s i 0 ≡ b → ⊥)
+    → (i + 1) + index_of b (drop (i + 1) s) ≡ i + index_of b (drop i s)
+unfolding index_of index_after
+other-past b s i l n = rw (drop_at s i l, ne_eqb (get_or s i 0) b n) (omega arith)
+
+-- at a place of the byte it is found
+pub found_here : (b : ℕ) (s : List ℕ) (i : ℕ) → i < length s → get_or s i 0 ≡ b → i + index_of b (drop i s) ≡ i
+unfolding index_of index_after
+found_here b s i l e = rw (drop_at s i l, eq-eqb (get_or s i 0) b e) (omega arith)
+
+-- at the end there is none
+pub found_end : (b : ℕ) (s : List ℕ) (i : ℕ) → length s ≤ i → i + index_of b (drop i s) ≡ i
+unfolding index_of
+found_end b s i l = rw (drop-end s i l) (omega arith)

@@ -8,7 +8,7 @@ use native.Mathlib.Numerals.{add-one}
 use lib.ListN.{length, take, drop}
 use lib.Dec.{eqb}
 use borrow.Author.Tests.{eq-eqb, ne_eqb, eqb-true, eqb-false}
-use Rattle.bytes.specs.Bytes.{index_of, index_after}
+use Rattle.octets.specs.Search.{index_of, index_after}
 use Rattle.octets.specs.Members.{every}
 use Rattle.octets.specs.Slices.{lacks}
 use Rattle.octets.specs.Split.{onto, split, join}

@@ -8,6 +8,7 @@ use native.Mathlib.Nat.{add-zero}
 use lib.ListN.{length, take, drop, set, length-drop}
 use lib.Seq.{sets, sets-eq, drop-drop, set_comm, take-length, length-take-le, take-append_seam, drop-set-add, take-set-le}
 use lib.Seq.{drop_at as drop-seam}
+use borrow.Rule.Slice.PartMut.{put_mid, Post-is}
 use Rattle.octets.proofs.Lists.{drop-end, part-rest}
 
 -- ---- stores from a place on: the stored bytes are had from the equation e
@@ -36,14 +37,11 @@ sets_last (x ∷ xs) l i a =
     let e : i + suc (length xs) ≡ suc i + length xs = omega arith in
     rw (e, set_comm l (suc i + length xs) i a x (λ q. omega arith)) (sets_last xs (set l i x) (suc i) a)
 
--- a string copied over the front of the part from a place on, which a slice lends, is stored at that place
+-- a string copied over the part of its length from a place on, which a slice lends, is stored at that place
 pub sets-part : (src dst : List ℕ) (at : ℕ) → at + length src ≤ length dst
-    → take at dst
-    ++ ((take (length src) src ++ drop (length src) (take (length dst - at) (drop at dst))) ++ drop (length dst - at) (drop at dst))
-    ≡ sets dst at src
+    → put_mid at (at + length src - at) dst src ≡ sets dst at src
 sets-part src dst at h =
-    let over : drop (length dst - at) (drop at dst) ≡ [] = drop-end (drop at dst) (length dst - at) (omega (arith, length-drop at dst)) in
-    rw (over, append-nil, take-length, part-rest, drop-drop (length src) at dst) (sym (sets-eq src dst at h ∙ rw append_assoc))
+    ap (λ (r : List ℕ). take at dst ++ (src ++ r)) (Post-is at (at + length src) dst (omega arith)) ∙ sym (sets-eq src dst at h ∙ rw append_assoc)
 
 -- ---- parts of a buffer after stores
 -- the part in which a string was stored is that string

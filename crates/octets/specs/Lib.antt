@@ -6,3 +6,4 @@ pub mod Slices
 pub mod Split
 pub mod Claims
 pub mod Little
+pub mod Search

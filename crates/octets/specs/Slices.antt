@@ -1,6 +1,6 @@
 -- Byte strings compared, and copied to a place.
 use Rattle.std.specs.Prelude.{ℕ, ◌+◌, Bool, true, false, cond, List, [], ◌∷◌, length, take, drop, leb, eqb}
-use Rattle.bytes.specs.Bytes.{index_of}
+use Rattle.octets.specs.Search.{index_of}
 use Rattle.octets.specs.Outcome.{Outcome, stored_at}
 use Rattle.octets.specs.declared.Stored.{Stored}
 use Rattle.octets.specs.declared.Stored.TheVariants.{End, NoRoom}

@@ -1,7 +1,7 @@
 // A search passes bytes by blocks: a block is tested whole, with no early way out, so that many bytes
 // are tested at once.
 ghost use Rattle.std.specs.Prelude.{◌≡◌, ◌+◌, ◌≤◌, ◌<◌, length, drop};
-ghost use Rattle.bytes.specs.Bytes.{index_of};
+ghost use Rattle.octets.specs.Search.{index_of};
 ghost use Rattle.octets.specs.Slices.{lacks};
 
 // Passes blocks of n bytes without b: a place from which on the search for b finds what it finds from
@@ -33,4 +33,19 @@ fn clear(s: &[u8], b: u8) -> bool
         k += 1;
     }
     !hit
+}
+
+// The first place from `from` on where b stands, and the end of s where there is none.
+pub(crate) fn first(s: &[u8], from: usize, b: u8) -> usize
+    requires { from ≤ length s.now }
+    ensures { result ≡ from + index_of b (drop from s.now) }
+{
+    let mut i = from;
+    while i < s.len() {
+        if s[i] == b {
+            break;
+        }
+        i += 1;
+    }
+    i
 }

@@ -3,11 +3,13 @@
 // No function here has a `requires`: any slices, any positions and any lengths are answered. What
 // later crates share besides (choices by a test, laws on lists, splitting at a byte) stands in
 // specs/ and proofs/.
+#![tactic(auto)]
+
 mod blocks;
 pub mod size;
 
 ghost use Rattle.std.specs.Prelude.{◌≡◌, ◌+◌, leb, drop};
-ghost use Rattle.bytes.specs.Bytes.{index_of};
+ghost use Rattle.octets.specs.Search.{index_of};
 ghost use Rattle.octets.specs.Outcome.{outcome};
 ghost use Rattle.octets.specs.Slices.{equals, starts_with, part_of, copy_at};
 
@@ -57,7 +59,7 @@ pub fn find(s: &[u8], from: usize, b: u8) -> usize
     let far = blocks::pass(s, from, b, 128);
     let near = blocks::pass(s, far, b, 32);
     let last = blocks::pass(s, near, b, 8);
-    bytes::scan::find(s, last, s.len(), b)
+    blocks::first(s, last, b)
 }
 
 // The n bytes of s from place `start` on, and none where they pass its end.
@@ -92,6 +94,7 @@ pub fn copy_at(src: &[u8], dst: &mut [u8], at: usize) -> Stored
     if !fits(at, src.len(), dst.len()) {
         return Stored::NoRoom;
     }
-    bytes::copy(src, &mut dst[at..]);
-    Stored::End(at + src.len())
+    let end = at + src.len();
+    dst[at..end].copy_from_slice(src);
+    Stored::End(end)
 }

@@ -1,6 +1,6 @@
 -- The starred cases hold: each by computing the definitions.
 use mathlib.Core.Path.{refl}
-use Rattle.bytes.specs.Bytes.{index_of, index_after}
+use Rattle.octets.specs.Search.{index_of, index_after}
 use Rattle.octets.specs.Members.{every}
 use Rattle.octets.specs.Slices.{equals, starts_with, part_of}
 use Rattle.octets.specs.Split.{split, onto, join}

@@ -1,7 +1,7 @@
 -- What the functions under `mend` answer: what stands next in a recording, one turn of the walk over it, and the whole walk.
 use Rattle.std.specs.Prelude.{ℕ, ◌+◌, ◌-◌, ◌*◌, ◌≤◌, ◌≡◌, cond, List, [], ◌∷◌, length, take, drop, get_or, ltb, leb, eqb}
 use Rattle.std.proofs.lemmas.List.Edits.{sets}
-use Rattle.bytes.specs.Bytes.{index_of}
+use Rattle.octets.specs.Search.{index_of}
 use Rattle.octets.specs.Outcome.{Outcome, outcome}
 use Rattle.octets.specs.Slices.{part_of, copy_at}
 use Rattle.frames.specs.Stream.{is_command}

@@ -1,5 +1,5 @@
 -- What computing a comparison opens, crate by crate: who names one of these on an `unfolding` line opens all that its own line names.
-use Rattle.bytes.specs.Bytes.{index_of, index_after}
+use Rattle.octets.specs.Search.{index_of, index_after}
 use Rattle.octets.specs.Members.{every}
 use Rattle.octets.specs.Slices.{equals, starts_with, part_of}
 use Rattle.octets.specs.Split.{split, onto}

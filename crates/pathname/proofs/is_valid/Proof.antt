@@ -4,7 +4,7 @@ use native.Mathlib.Omega.{arith}
 use lib.ListN.{length}
 use borrow.Author.Rules.{rules}
 use borrow.Author.Tests.{le-leb, lt-leb, eq-eqb, ne_eqb, not_true, not-false}
-use Rattle.bytes.specs.Bytes.{index_of}
+use Rattle.octets.specs.Search.{index_of}
 use Rattle.octets.specs.Slices.{lacks}
 use Rattle.pathname.specs.Utf8.{utf8}
 use Rattle.pathname.specs.Name.{name_limit, rooted, valid_components, valid_name}
