@@ -7,7 +7,7 @@ use native.Mathlib.Omega.{arith}
 use native.Mathlib.Nat.{add-zero}
 use lib.ListN.{length, get_or, take, drop}
 use lib.Dec.{eqb}
-use borrow.Author.Tests.{eq-eqb, ne_eqb, not_true}
+use borrow.Author.Tests.{eq-eqb, ne_eqb, not-true}
 use Rattle.octets.specs.Members.{every}
 use Rattle.octets.proofs.Lists.{drop_at, drop-end}
 use Rattle.octets.proofs.Below.{both_test}
@@ -33,7 +33,7 @@ before-next t i = let e : (i + 1) - 1 ≡ i = omega arith in rw (ne_eqb (i + 1) 
 
 letter-past : (t : List ℕ) (i : ℕ) → i < length t → is_letter (get_or t i 0) ≡ true
     → scan (value_before t i) (drop i t) ≡ scan (value_before t (i + 1)) (drop (i + 1) t)
-letter-past t i h e = scan-at t i (value_before t i) h ∙ rw (not_true (eqb (value_of (get_or t i 0)) 64) e, before-next t i)
+letter-past t i h e = scan-at t i (value_before t i) h ∙ rw (not-true (eqb (value_of (get_or t i 0)) 64) e, before-next t i)
 
 pub letters-past : (n : ℕ) (t : List ℕ) (i : ℕ) → i + n ≤ length t → every is_letter (take n (drop i t)) ≡ true
     → scan (value_before t i) (drop i t) ≡ scan (value_before t (i + n)) (drop (i + n) t)

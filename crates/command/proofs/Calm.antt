@@ -8,7 +8,7 @@ use mathlib.Core.List.{List, [], ◌∷◌}
 use native.Mathlib.Omega.{arith}
 use lib.ListN.{length}
 use lib.Dec.{leb, eqb}
-use borrow.Author.Tests.{le-leb, leb-true, ne_eqb, eqb-false, not_true}
+use borrow.Author.Tests.{le-leb, leb-true, ne_eqb, eqb-false, not-true}
 use Rattle.octets.specs.Search.{index_of}
 use Rattle.octets.specs.Ascii.{ascii}
 use Rattle.octets.specs.Members.{every}
@@ -56,7 +56,7 @@ between_test l u c e = let h = both_test (leb l c) (leb c u) e in (leb-true l c 
 -- one of some plain bytes
 among-plain : (s : List ℕ) → every plain s ≡ true → (c : ℕ) → among s c ≡ true → plain c ≡ true
 among-plain s p c e =
-    let i : index_of c s < length s = omega (arith, index_le c s, eqb-false (index_of c s) (length s) (not_true _ e)) in
+    let i : index_of c s < length s = omega (arith, index_le c s, eqb-false (index_of c s) (length s) (not-true _ e)) in
     rw (index-found c s i) at (every-at plain s (index_of c s) p i)
 
 -- digits, letters and some plain bytes besides
@@ -110,7 +110,7 @@ unfolding calm
 free [] h = tt
 free (c ∷ t) h =
     let q = every_cons calm c t h in
-    (eqb-false c 59 (not_true _ (both_test (text_byte c) _ q.0).1), free t q.1)
+    (eqb-false c 59 (not-true _ (both_test (text_byte c) _ q.0).1), free t q.1)
 
 all-free : (fs : List (List ℕ)) → every (every calm) fs ≡ true → AllFree 59 fs
 all-free [] h = tt

@@ -6,7 +6,7 @@ use mathlib.Core.List.{List, [], ◌∷◌, ◌++◌}
 use native.Mathlib.Omega.{arith}
 use lib.ListN.{length, set, length-append}
 use lib.Seq.{append_snoc, set_at, get_or_at, take-append_seam, drop-append-add}
-use borrow.Author.Tests.{ne_eqb, lt-ltb, eqb-false, not_true}
+use borrow.Author.Tests.{ne_eqb, lt-ltb, eqb-false, not-true}
 use Rattle.octets.specs.Search.{index_of, index_after}
 use Rattle.octets.specs.Members.{every}
 use Rattle.octets.proofs.Below.{both_test}
@@ -25,7 +25,7 @@ unfolding index_of index_after plain
 equals-sign [] v e = refl
 equals-sign (c ∷ a) v e =
     let h = every_cons key_byte c a e in
-    rw (ne_eqb c 61 (eqb-false c 61 (not_true _ (both_test (calm c) _ (key-plain c h.0)).1))) (ap suc (equals-sign a v h.1))
+    rw (ne_eqb c 61 (eqb-false c 61 (not-true _ (both_test (calm c) _ (key-plain c h.0)).1))) (ap suc (equals-sign a v h.1))
 
 -- a key that has not stood takes its value
 pub field_at : (k : Key) (n : ℕ) → Named n k → (us ws : List Field) → length us ≡ n → (at : ℕ) (v : List ℕ)

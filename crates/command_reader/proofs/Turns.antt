@@ -9,7 +9,7 @@ use native.Mathlib.Nat.{zero-sub, sub-zero, suc-sub-suc}
 use lib.ListN.{length, get_or, take, drop, length-take, length-drop}
 use lib.Seq.{take-nil, take-take, drop-drop, get_or-drop, get_or-take}
 use lib.Dec.{ltb, eqb}
-use borrow.Author.Tests.{lt-ltb, le-ltb, le-leb, lt-leb, ltb-true, not_true}
+use borrow.Author.Tests.{lt-ltb, le-ltb, le-leb, lt-leb, ltb-true, not-true}
 use Rattle.octets.specs.Search.{index_of, index_after}
 use Rattle.octets.specs.Members.{every}
 use Rattle.octets.specs.Split.{split}
@@ -32,7 +32,7 @@ key_apart : (x : ℕ) → key_byte x ≡ true → (eqb x 59 ≡ false) × (eqb x
 unfolding plain calm
 key_apart x e =
     let p = both_test (calm x) _ (key-plain x e) in
-    (not_true (eqb x 59) (both_test (text_byte x) (not (eqb x 59)) p.0).1, not_true (eqb x 61) p.1)
+    (not-true (eqb x 59) (both_test (text_byte x) (not (eqb x 59)) p.0).1, not-true (eqb x 61) p.1)
 
 abbrev field_in : List ℕ → List ℕ
 field_in l = take (index_of 59 l) l

@@ -62,9 +62,9 @@ pub record Good (w : World) (c : Call) : Type 0 where
   pub right : Right w c
   pub inv : Inv (step w c)
 
-not_true : (b : Bool) → not b ≡ true → b ≡ false
-not_true true e = no_way (sym e)
-not_true false e = refl
+not-true : (b : Bool) → not b ≡ true → b ≡ false
+not-true true e = no_way (sym e)
+not-true false e = refl
 
 -- fewer bytes than a call consumes tell nothing: it would consume them all, and report nothing
 nothing-told : (f : Framing) (c : List ℕ) (m : Mode) (xs : List ℕ) (k : ℕ) → text_limit ≤ length c → Follows f c m
@@ -130,7 +130,7 @@ module _ (w : World) (v : Inv w) where
       go (FileWay.refused r) = record { follows = v.follows; kept = v.kept }
       go (FileWay.written n l o r) =
           let x = room (leb file_room t.count) refl (find_file t id) refl o in
-          let idle = not_true (is_sending (current_file t).stage) (both_test (is_open t.stage) _ r).1 in
+          let idle = not-true (is_sending (current_file t).stage) (both_test (is_open t.stage) _ r).1 in
           record { follows = v.follows; kept = kept-filed id v.kept l x.0 x.1 (sending-told v.kept ∙ idle) }
 
   finish-good : (out : List ℕ) → Good w (Call.finish out)

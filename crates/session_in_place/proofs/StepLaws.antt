@@ -4,7 +4,7 @@ use mathlib.Core.Path.{◌≡◌, refl, sym, ◌∙◌, ap}
 use mathlib.Core.Bool.{Bool, true, false, cond, ◌&&◌}
 use mathlib.Core.List.{List}
 use native.Mathlib.Omega.{arith}
-use borrow.Author.Tests.{ltb-false, lt-ltb, le-leb, not_true}
+use borrow.Author.Tests.{ltb-false, lt-ltb, le-leb, not-true}
 use lib.ListN.{length, get_or, set}
 use lib.Seq.{set_out, set-get_or}
 use lib.Dec.{ltb}
@@ -158,7 +158,7 @@ module _ (t : Table) (c : Command) (text scratch : List ℕ) (e : length t.sessi
       → by k (Found.At i) ≡ put t i (new_in k i (session_at t i) t.owed asked c.size)
   new-at k i q =
       let at = first-at is_absent no_session t.sessions i q in
-      seated-at t c text scratch k i false (omega (arith, at.0, e)) (not_true _ at.1)
+      seated-at t c text scratch k i false (omega (arith, at.0, e)) (not-true _ at.1)
 
   sends : (f : Found) → first is_absent t.sessions ≡ f → by Kind.Ask f ≡ send_room t asked f
   unfolding turned_away

@@ -2,7 +2,7 @@ use Prim.Native.Nat.{◌+◌, ◌-◌, ◌*◌, ◌/◌, ◌%◌}
 use mathlib.Core.Path.{◌≡◌, refl, sym, ◌∙◌}
 use native.Mathlib.Omega.{arith}
 use lib.ListN.{length}
-use borrow.Author.Tests.{leb-true, not_true, not-false}
+use borrow.Author.Tests.{leb-true, not-true, not-false}
 use Rattle.base64_codec.specs.Alphabet.{value_of}
 use Rattle.base64_codec.specs.Decode.{verdict_of, bytes_of, decode_of}
 use Rattle.base64_codec.specs.Values.{values_from}
@@ -56,7 +56,7 @@ unfolding decode_of
 returns c =
     let k = c.before.before in
     let f = c.before.fits2 in
-    (rw (valid k, size k, ← f.ensures, not_true f.result c.if1.true), decode-encode)
+    (rw (valid k, size k, ← f.ensures, not-true f.result c.if1.true), decode-encode)
 
 fill-requires : tie.Need-fill-requires
 unfolding values_from value_of

@@ -2,7 +2,7 @@ use Prim.Native.Nat.{◌+◌, ◌≤◌}
 use mathlib.Core.Path.{sym, ◌∙◌}
 use native.Mathlib.Omega.{arith}
 use lib.ListN.{length}
-use borrow.Author.Tests.{leb-true, not_true, not-false}
+use borrow.Author.Tests.{leb-true, not-true, not-false}
 use Rattle.base64_codec.specs.Encode.{text_of, encode_of}
 use Rattle.base64_codec.proofs.Lengths.{length-text}
 use borrow.Author.Rules.{rules}
@@ -33,7 +33,7 @@ unfolding encode_of
 returns c =
     let f = c.before.fits2 in
     let d = c.before.before.before.before.args.«data».now in
-    (rw (length-text d, ← f.ensures, not_true f.result c.if1.true), encode-decode)
+    (rw (length-text d, ← f.ensures, not-true f.result c.if1.true), encode-decode)
 
 fill-requires : tie.Need-fill-requires
 fill-requires c κs = room c.before

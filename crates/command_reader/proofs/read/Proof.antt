@@ -5,7 +5,7 @@ use lib.ListN.{length, drop, length-append}
 use Rattle.octets.specs.Ascii.{ascii}
 use Rattle.octets.specs.Split.{split}
 use Rattle.octets.proofs.Compare.{starts-sound}
-use borrow.Author.Tests.{lt-ltb, le-ltb, not_true, not-false}
+use borrow.Author.Tests.{lt-ltb, le-ltb, not-true, not-false}
 use Rattle.command.specs.Fields.{Turn, fields_read, text_read}
 use Rattle.command.specs.Read.{kept, begun, finished, read_of, ReadMeans}
 use Rattle.command.specs.RoundTrips.{ReadThenWritten}
@@ -33,7 +33,7 @@ returns-3 c =
     let all = c.before in
     let short = all.before in
     let room = short.before in
-    let bad = not_true all.all.result c.if3.true in
+    let bad = not-true all.all.result c.if3.true in
     (rw (le-ltb _ _ room.if1.false, le-ltb _ _ short.if2.false, ← all.all.ensures, bad), claims)
 
 -- a scratch with room and a text that passes the other tests: its mark decides
@@ -59,7 +59,7 @@ left c =
 returns-4 : tie.Need-returns-4
 returns-4 c =
     let starts = c.before in
-    (sym (left starts ∙ rw (not_true starts.starts_with.result c.if4.true)), claims)
+    (sym (left starts ∙ rw (not-true starts.starts_with.result c.if4.true)), claims)
 
 read-fields-requires : tie.Need-read-fields-requires
 read-fields-requires c κs =

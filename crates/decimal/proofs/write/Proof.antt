@@ -6,7 +6,7 @@ use native.Mathlib.Omega.{arith}
 use lib.ListN.{length}
 use lib.Seq.{sets}
 use borrow.Author.Rules.{rules}
-use borrow.Author.Tests.{lt-ltb, le-ltb, eq-eqb, ne_eqb, leb-true, not_true, not-false}
+use borrow.Author.Tests.{lt-ltb, le-ltb, eq-eqb, ne_eqb, leb-true, not-true, not-false}
 use Rattle.octets.specs.Outcome.{outcome}
 use Rattle.decimal.specs.Write.{text_of, writable, write_of}
 use Rattle.decimal.specs.declared.Written.TheVariants.{End, NoRoom}
@@ -62,7 +62,7 @@ fits-requires : tie.Need-fits-requires
 fits-requires c κs = search rules
 
 returns-4 : tie.Need-returns-4
-returns-4 c = (sym (stored c.before ∙ rw (not_true c.before.fits2.result c.if5.true)), claims)
+returns-4 c = (sym (stored c.before ∙ rw (not-true c.before.fits2.result c.if5.true)), claims)
 
 fill-requires : tie.Need-fill-requires
 fill-requires c κs = omega (arith, room c.before, c.before.before.before.text-length.ensures)

@@ -6,7 +6,7 @@ use lib.ListN.{length, drop, length-drop}
 use Rattle.octets.proofs.Finds.{index_le}
 use Rattle.octets.proofs.Splits.{divides}
 use borrow.Author.Rules.{rules}
-use borrow.Author.Tests.{le-leb, lt-leb, not_true, not-false}
+use borrow.Author.Tests.{le-leb, lt-leb, not-true, not-false}
 use Rattle.pathname.specs.Name.{valid_components}
 use Rattle.pathname.proofs.Alone.{cuts-nowhere}
 use Rattle.pathname.proofs.Components.{rest_valid, rest_at}
@@ -56,7 +56,7 @@ is-valid-component-requires : tie.Need-is-valid-component-requires invariant-loo
 is-valid-component-requires c κs = search rules
 
 returns : tie.Need-returns invariant-loop decreases-loop
-returns c = (sym (turn c.before ∙ rw (not_true c.before.is-valid-component.result c.if1.true)), (divides, cuts-nowhere))
+returns c = (sym (turn c.before ∙ rw (not-true c.before.is-valid-component.result c.if1.true)), (divides, cuts-nowhere))
 
 add_at : tie.Need-overflow-add-at invariant-loop decreases-loop
 add_at c = omega (arith, within c.before.before.before)

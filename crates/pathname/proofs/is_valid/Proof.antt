@@ -3,7 +3,7 @@ use mathlib.Core.Path.{◌≡◌, sym, ◌∙◌}
 use native.Mathlib.Omega.{arith}
 use lib.ListN.{length}
 use borrow.Author.Rules.{rules}
-use borrow.Author.Tests.{le-leb, lt-leb, eq-eqb, ne_eqb, not_true, not-false}
+use borrow.Author.Tests.{le-leb, lt-leb, eq-eqb, ne_eqb, not-true, not-false}
 use Rattle.octets.specs.Search.{index_of}
 use Rattle.octets.specs.Slices.{lacks}
 use Rattle.pathname.specs.Utf8.{utf8}
@@ -49,7 +49,7 @@ is-valid-requires c κs = search rules
 returns-3 : tie.Need-returns-3
 returns-3 c =
     let v = c.before in
-    sym (sized v.before ∙ rw (← v.is-valid.ensures, not_true v.is-valid.result c.if3.true))
+    sym (sized v.before ∙ rw (← v.is-valid.ensures, not-true v.is-valid.result c.if3.true))
 
 find-requires : tie.Need-find-requires
 find-requires c κs = search rules
@@ -65,7 +65,7 @@ is-rooted-requires c κs = search rules
 returns-5 : tie.Need-returns-5
 returns-5 c =
     let r = c.before in
-    sym (whole r.before ∙ rw (← r.is-rooted.ensures, not_true r.is-rooted.result c.if5.true))
+    sym (whole r.before ∙ rw (← r.is-rooted.ensures, not-true r.is-rooted.result c.if5.true))
 
 has-valid-components-requires : tie.Need-has-valid-components-requires
 has-valid-components-requires c κs = search rules

@@ -3,7 +3,7 @@ use Prim.Native.Nat.{ℕ}
 use mathlib.Core.List.{List}
 use native.Mathlib.Omega.{arith}
 use lib.ListN.{length, length-map, length-take}
-use borrow.Author.Tests.{not_true, not-false}
+use borrow.Author.Tests.{not-true, not-false}
 use Rattle.protocol.specs.Replies.{replied_of}
 use Rattle.protocol.proofs.StatusText.{every-status}
 use Rattle.reply.specs.Parts.{written}
@@ -15,7 +15,7 @@ use Rattle.reply.proofs.send.Tie as tie
 
 returns : tie.Need-returns
 unfolding replied_of
-returns c = (rw (not-due c.before.before.args.t1 (not_true _ c.if1.true)) (written_none _), every-status)
+returns c = (rw (not-due c.before.before.args.t1 (not-true _ c.if1.true)) (written_none _), every-status)
 
 is-held-requires : tie.Need-is-held-requires
 is-held-requires c κs = search rules

@@ -3,7 +3,7 @@ use mathlib.Core.Path.{◌≡◌, refl, sym, ◌∙◌}
 use mathlib.Core.List.{List, ◌++◌}
 use native.Mathlib.Omega.{arith}
 use lib.ListN.{length}
-use borrow.Author.Tests.{leb-true, not_true, not-false}
+use borrow.Author.Tests.{leb-true, not-true, not-false}
 use borrow.Author.Rules.{rules}
 use Rattle.base64_codec.specs.Alphabet.{value_of}
 use Rattle.base64_codec.specs.Decode.{verdict_of, bytes_of, decode_of}
@@ -95,7 +95,7 @@ unfolding decode_of
 returns c =
     let k = c.before.before in
     let f = c.before.fits2 in
-    rw (together k, count k, ← f.ensures, not_true f.result c.if1.true)
+    rw (together k, count k, ← f.ensures, not-true f.result c.if1.true)
 
 fill-requires : tie.Need-fill-requires
 unfolding values_from value_of

@@ -2,7 +2,7 @@ use Prim.Native.Nat.{◌+◌, ◌-◌}
 use mathlib.Core.Path.{◌≡◌, refl, sym, ◌∙◌}
 use native.Mathlib.Omega.{arith}
 use lib.ListN.{length, drop}
-use borrow.Author.Tests.{not_true, not-false}
+use borrow.Author.Tests.{not-true, not-false}
 use borrow.Author.Rules.{rules}
 use Rattle.command.specs.Classes.{byte_of, run}
 use Rattle.command.proofs.Runs.{run_on, run-off, run_end}
@@ -21,7 +21,7 @@ returns c =
     let turn = told.before.before in
     let l = turn.before.loop in
     let a = turn.before.before.before.args in
-    let e = sym told.is.ensures ∙ not_true _ c.if1.true in
+    let e = sym told.is.ensures ∙ not-true _ c.if1.true in
     omega (arith, l.invariant, run-off (byte_of a.class) a.s.now l.i (omega arith) e)
 
 loop-again : tie.Need-loop-preserved invariant-loop decreases-loop

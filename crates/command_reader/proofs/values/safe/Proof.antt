@@ -1,4 +1,4 @@
-use borrow.Author.Tests.{not_true, not-false}
+use borrow.Author.Tests.{not-true, not-false}
 use Rattle.command.specs.Values.{safe_read, value_read}
 use borrow.Author.Rules.{rules}
 use Rattle.command_reader.proofs.values.safe.Statement.{statement}
@@ -6,7 +6,7 @@ use Rattle.command_reader.proofs.values.safe.Tie as tie
 
 returns : tie.Need-returns
 unfolding value_read safe_read
-returns c = λ scratch used n slots. rw (← c.before.all.ensures, not_true c.before.all.result c.if1.true)
+returns c = λ scratch used n slots. rw (← c.before.all.ensures, not-true c.before.all.result c.if1.true)
 
 returns-2 : tie.Need-returns-2
 unfolding value_read safe_read

@@ -4,7 +4,7 @@ use mathlib.Core.Bool.{true}
 use native.Mathlib.Omega.{arith}
 use lib.ListN.{length}
 use lib.Dec.{leb}
-use borrow.Author.Tests.{not_true, not-false}
+use borrow.Author.Tests.{not-true, not-false}
 use Rattle.octets.specs.Members.{every}
 use Rattle.octets.specs.Slices.{part_of}
 use Rattle.base64_codec.specs.Encode.{text_of}
@@ -25,7 +25,7 @@ unfolding shown
 returns c =
     let fits = c.before in
     let a = fits.before.before.before.before.args in
-    rw (place_out a.scratch.now a.place (sym fits.fits2.ensures ∙ not_true fits.fits2.result c.if1.true))
+    rw (place_out a.scratch.now a.place (sym fits.fits2.ensures ∙ not-true fits.fits2.result c.if1.true))
 
 returns-2 : tie.Need-returns-2
 unfolding shown base64_shown every text_of part_of

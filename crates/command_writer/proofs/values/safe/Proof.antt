@@ -4,7 +4,7 @@ use mathlib.Core.Bool.{true, cond}
 use mathlib.Core.List.{List}
 use lib.ListN.{length}
 use lib.Dec.{leb}
-use borrow.Author.Tests.{not_true, not-false}
+use borrow.Author.Tests.{not-true, not-false}
 use Rattle.command.specs.Keys.{Kind}
 use Rattle.command.specs.Values.{unshown, over, text_or, safe_shown, shown}
 use Rattle.command.specs.Slots.{bytes_at}
@@ -49,10 +49,10 @@ unfolding shown
 returns c =
     let fits = c.before in
     let a = fits.before.before.before.before.args in
-    rw (place_out a.text.now a.place (sym fits.fits2.ensures ∙ not_true fits.fits2.result c.if1.true))
+    rw (place_out a.text.now a.place (sym fits.fits2.ensures ∙ not-true fits.fits2.result c.if1.true))
 
 returns-2 : tie.Need-returns-2
-returns-2 c = let all = c.before in rw (shown_by all, not_true all.all.result c.if2.true)
+returns-2 c = let all = c.before in rw (shown_by all, not-true all.all.result c.if2.true)
 
 returns-3 : tie.Need-returns-3
 returns-3 c = let over = c.before in rw (shown-here over.before, ← over.over.ensures, c.if3.true)

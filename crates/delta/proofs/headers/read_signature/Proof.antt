@@ -1,5 +1,5 @@
 use native.Mathlib.Omega.{arith}
-use borrow.Author.Tests.{lt-ltb, le-ltb, le-leb, lt-leb, eq-eqb, ne_eqb, not_true, not-false}
+use borrow.Author.Tests.{lt-ltb, le-ltb, le-leb, lt-leb, eq-eqb, ne_eqb, not-true, not-false}
 use Rattle.delta.specs.Read.{signature_of}
 use borrow.Author.Rules.{rules}
 use Rattle.delta.proofs.headers.read_signature.Statement.{statement}
@@ -29,7 +29,7 @@ returns-4 c =
     let two = three.before in
     let p = c.before.plain in
     rw (le-ltb _ _ two.before.if1.false, le-leb _ _ two.if2.false, eq-eqb _ _ three.if3.false)
-    (rw (← p.ensures, not_true p.result c.if4.true))
+    (rw (← p.ensures, not-true p.result c.if4.true))
 
 field-requires : tie.Need-field-requires
 field-requires c κs = search rules

@@ -2,7 +2,7 @@ use Prim.Native.Nat.{◌+◌, ◌-◌, ◌≤◌, ◌<◌}
 use mathlib.Core.Path.{◌≡◌, sym, ◌∙◌}
 use native.Mathlib.Omega.{arith}
 use lib.ListN.{length, drop, length-drop}
-use borrow.Author.Tests.{le-leb, lt-leb, leb-true, leb-false, not_true, not-false}
+use borrow.Author.Tests.{le-leb, lt-leb, leb-true, leb-false, not-true, not-false}
 use Rattle.delta.specs.Read.{field_in, payload_at}
 use borrow.Author.Rules.{rules}
 use Rattle.delta.proofs.operations.sized.Statement.{statement}
@@ -45,7 +45,7 @@ returns-2 c =
     let n = c.before.before.field in
     let r = drop (a.at + 1) a.delta.now in
     let h : length a.delta.now < a.at + 1 + a.width + n.result =
-    leb-false _ _ (sym f.ensures ∙ not_true f.result c.if2.true) in
+    leb-false _ _ (sym f.ensures ∙ not-true f.result c.if2.true) in
     rw (← n.ensures.0, lt-leb (a.width + n.result) (length r) (omega (arith, length-drop (a.at + 1) a.delta.now)))
 
 add-t6 : tie.Need-overflow-add-t6

@@ -1,4 +1,4 @@
-use borrow.Author.Tests.{not_true, not-false}
+use borrow.Author.Tests.{not-true, not-false}
 use Rattle.hearing.specs.Steps.{start_noted}
 use borrow.Author.Rules.{rules}
 use Rattle.hearing.proofs.noting.start.Statement.{statement}
@@ -9,7 +9,7 @@ is-regular-requires c κs = search rules
 
 returns : tie.Need-returns
 unfolding start_noted
-returns c = let s = c.before.is-regular in rw (← s.ensures, not_true s.result c.if1.true)
+returns c = let s = c.before.is-regular in rw (← s.ensures, not-true s.result c.if1.true)
 
 put-row-requires : tie.Need-put-row-requires
 put-row-requires c κs = search rules

@@ -2,7 +2,7 @@ use Prim.Native.Nat.{◌+◌, ◌≤◌}
 use mathlib.Core.Path.{◌≡◌, sym, ◌∙◌}
 use native.Mathlib.Omega.{arith}
 use lib.ListN.{length}
-use borrow.Author.Tests.{leb-true, not_true, not-false, eq-eqb, ne_eqb}
+use borrow.Author.Tests.{leb-true, not-true, not-false, eq-eqb, ne_eqb}
 use Rattle.recordings.specs.Texts.{escape_text}
 use borrow.Author.Rules.{rules}
 use Rattle.recordings.proofs.texts.next_text.Statement.{statement}
@@ -20,7 +20,7 @@ fits-requires c κs = search rules
 
 returns : tie.Need-returns
 unfolding escape_text
-returns c = rw (← c.before.before.find.ensures, ← c.before.fits2.ensures, not_true c.before.fits2.result c.if1.true)
+returns c = rw (← c.before.before.find.ensures, ← c.before.fits2.ensures, not-true c.before.fits2.result c.if1.true)
 
 add-if2 : tie.Need-overflow-add-if2
 add-if2 c = omega (arith, room c)

@@ -2,7 +2,7 @@ use Prim.Native.Nat.{◌+◌, ◌≤◌}
 use mathlib.Core.Path.{◌≡◌, sym, ◌∙◌}
 use native.Mathlib.Omega.{arith}
 use lib.ListN.{length}
-use borrow.Author.Tests.{leb-true, not_true, not-false, eq-eqb, ne_eqb}
+use borrow.Author.Tests.{leb-true, not-true, not-false, eq-eqb, ne_eqb}
 use Rattle.recordings.specs.Texts.{text_from}
 use borrow.Author.Rules.{rules}
 use Rattle.recordings.proofs.texts.text.Statement.{statement}
@@ -23,7 +23,7 @@ fits-requires c κs = search rules
 
 returns : tie.Need-returns
 unfolding text_from
-returns c = rw (← c.before.before.find.ensures, ← c.before.fits2.ensures, not_true c.before.fits2.result c.if1.true)
+returns c = rw (← c.before.before.find.ensures, ← c.before.fits2.ensures, not-true c.before.fits2.result c.if1.true)
 
 add-after : tie.Need-overflow-add-after
 add-after c = omega (arith, room c)

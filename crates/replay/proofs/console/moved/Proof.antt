@@ -1,7 +1,7 @@
 use mathlib.Core.Path.{sym, ◌∙◌}
 use mathlib.Core.Bool.{true≢false}
 use native.Mathlib.Omega.{arith}
-use borrow.Author.Tests.{not_true}
+use borrow.Author.Tests.{not-true}
 use borrow.Author.Rules.{rules}
 use Rattle.replay.proofs.console.moved.Statement.{statement}
 use Rattle.replay.proofs.console.moved.Tie as tie
@@ -12,7 +12,7 @@ is-well-requires c κs = search rules
 returns : tie.Need-returns
 returns c =
     let w = c.before.is-well in
-    (omega arith, λ well. absurd (true≢false (sym well ∙ (sym w.ensures ∙ not_true w.result c.if1.true))))
+    (omega arith, λ well. absurd (true≢false (sym well ∙ (sym w.ensures ∙ not-true w.result c.if1.true))))
 
 returns-2 : tie.Need-returns-2
 returns-2 c = (omega arith, λ well. absurd (true≢false (sym well)))

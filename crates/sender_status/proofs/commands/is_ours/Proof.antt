@@ -1,4 +1,4 @@
-use borrow.Author.Tests.{not_true, not-false}
+use borrow.Author.Tests.{not-true, not-false}
 use Rattle.sending.specs.Heeding.{is_ours}
 use borrow.Author.Rules.{rules}
 use Rattle.sender_status.proofs.commands.is_ours.Statement.{statement}
@@ -11,7 +11,7 @@ returns : tie.Need-returns
 unfolding is_ours
 returns c =
     let status = c.before.is-status in
-    rw (← status.ensures, not_true status.result c.if1.true)
+    rw (← status.ensures, not-true status.result c.if1.true)
 
 is-fresh-requires : tie.Need-is-fresh-requires
 is-fresh-requires c κs = search rules

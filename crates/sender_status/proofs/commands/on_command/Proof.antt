@@ -1,4 +1,4 @@
-use borrow.Author.Tests.{not_true, not-false}
+use borrow.Author.Tests.{not-true, not-false}
 use Rattle.sending.specs.Heeding.{heed_of}
 use borrow.Author.Rules.{rules}
 use Rattle.sender_status.proofs.commands.on_command.Statement.{statement}
@@ -21,7 +21,7 @@ returns c =
       c.still.ensures,
       ← ours.before.part.ensures,
       ← ours.is_ours.ensures,
-      not_true ours.is_ours.result c.before.if1.true,
+      not-true ours.is_ours.result c.before.if1.true,
     )
 
 part-requires-2 : tie.Need-part-requires-2

@@ -19,7 +19,7 @@ use Rattle.sending.specs.Arrives.{Arrived, AllArrived, Whole}
 use Rattle.sending.specs.declared.FileStage.TheVariants as FileStage
 use Rattle.sending.specs.declared.SentFile.{SentFile}
 use Rattle.sending.specs.declared.Transfer.{Transfer}
-use Rattle.sending.proofs.arrival.lists.Members.{not_true}
+use Rattle.sending.proofs.arrival.lists.Members.{not-true}
 use Rattle.sending.proofs.arrival.path.Points.{Sent, Point}
 use Rattle.sending.proofs.arrival.path.States.{sent_record, transfer_of}
 use Rattle.sending.proofs.arrival.path.PlanPaths.{sent_of}
@@ -52,7 +52,7 @@ unfolding every first
 placed-later g l [] fit e a = a
 placed-later g l (f ∷ fs) fit e a =
     let b = both_test (not (equals g.id f.id)) _ e in
-    let n = has-id FileStage.Closed (sent_of g) f.id refl fit.id.short ∙ not_true (equals g.id f.id) b.0 in
+    let n = has-id FileStage.Closed (sent_of g) f.id refl fit.id.short ∙ not-true (equals g.id f.id) b.0 in
     (after n, placed-later g l fs fit b.1 a.1)
   where
     after : has_file_id f.id (closed_record g) ≡ false → Placed (closed_record g ∷ l) f

@@ -16,7 +16,7 @@ use Rattle.protocol.proofs.Marks.{file-other, part-other, starts_other}
 use Rattle.sending.specs.Commands.{file_values}
 use Rattle.sending.specs.Plans.{File, joined_with, contents_of}
 use Rattle.sending.specs.Arrives.{closes_by, closed_in}
-use Rattle.sending.proofs.arrival.lists.Members.{not_true}
+use Rattle.sending.proofs.arrival.lists.Members.{not-true}
 use Rattle.sending.proofs.arrival.history.Marks.{done_by, piece_marks, start_marks, file_marks}
 
 -- ---- what the history has since the start of a file by the command c: parts, and whether the last one is among them
@@ -88,7 +88,7 @@ module _ (id k : List ℕ) where
   files-later [] e s = commit _ s
   files-later (f ∷ fs) e s =
       let b = both_test (not (equals k f.id)) _ e in
-      let n = not_true (equals k f.id) b.0 in
+      let n = not-true (equals k f.id) b.0 in
       files-later fs b.1
       (pieces-other f.id n f.pieces f.last (other _ _ (file-other key (file_values id f.id f.name f.size) n) s))
 

@@ -7,8 +7,8 @@ use lib.ListN.{get_or, replicate}
 use Rattle.octets.specs.Members.{every}
 use Rattle.command.proofs.Every.{every_cons}
 
-pub not_true : (b : Bool) → not b ≡ true → b ≡ false
-not_true b e = sym (not-not b) ∙ ap not e
+pub not-true : (b : Bool) → not b ≡ true → b ≡ false
+not-true b e = sym (not-not b) ∙ ap not e
 
 module _ {A : Type 0} (p : A → Bool) where
   -- ---- in two parts

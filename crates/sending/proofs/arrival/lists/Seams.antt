@@ -11,7 +11,7 @@ use Rattle.octets.specs.Members.{every}
 use Rattle.command.proofs.Every.{every_cons}
 use Rattle.protocol.specs.Table.{first, total}
 use Rattle.protocol.specs.declared.Found.TheVariants as Found
-use Rattle.sending.proofs.arrival.lists.Members.{not_true}
+use Rattle.sending.proofs.arrival.lists.Members.{not-true}
 
 -- ---- what stands and is stored at the seam, the place i
 -- free room with a record fewer
@@ -51,7 +51,7 @@ module _ {A : Type 0} (p : A → Bool) where
   none-past [] ys h e = e
   none-past (x ∷ xs) ys h e =
       let c = every_cons (λ (y : A). not (p y)) x xs h in
-      rw (not_true (p x) c.0, none-past xs ys c.1 e)
+      rw (not-true (p x) c.0, none-past xs ys c.1 e)
 
   pub first_past : (xs : List A) (y : A) (ys : List A) → every (λ (x : A). not (p x)) xs ≡ true → p y ≡ true
       → first p (xs ++ y ∷ ys) ≡ Found.At (length xs)
@@ -59,7 +59,7 @@ module _ {A : Type 0} (p : A → Bool) where
   first_past [] y ys h e = rw e
   first_past (x ∷ xs) y ys h e =
       let c = every_cons (λ (y : A). not (p y)) x xs h in
-      rw (not_true (p x) c.0, first_past xs y ys c.1 e)
+      rw (not-true (p x) c.0, first_past xs y ys c.1 e)
 
   module _ (xs : List A) (none : every (λ (x : A). not (p x)) xs ≡ true) where
     -- the new record; none, where it holds of no free one; and the first free one

@@ -20,7 +20,7 @@ use Rattle.sending.specs.declared.FileStage.{FileStage}
 use Rattle.sending.specs.declared.FileStage.TheVariants as FileStage
 use Rattle.sending.specs.declared.SentFile.{SentFile}
 use Rattle.sending.specs.declared.Transfer.{Transfer}
-use Rattle.sending.proofs.arrival.lists.Members.{not_true, every_append, every_replicate, every-at}
+use Rattle.sending.proofs.arrival.lists.Members.{not-true, every_append, every_replicate, every-at}
 use Rattle.sending.proofs.arrival.lists.Seams.{seam_getD, seam_set, free_set, first_past, seam-none}
 use Rattle.sending.proofs.arrival.path.Points.{Sent, sent, longer, NotIn, AllIds}
 use Rattle.sending.proofs.arrival.path.States.{sent_record, sent_files, shaped}
@@ -95,7 +95,7 @@ module _ (closed others : List Sent) where
       (quiet FileStage.Sent refl others) in
       let q : every is_quiet (sent_files closed others []) ≡ true =
       rw (append-nil ended) (every_append is_quiet ended _ e (every_replicate is_quiet free_file refl (file_room - (many + 0)))) in
-      not_true _ (every-at is_quiet free_file refl (sent_files closed others []) q i)
+      not-true _ (every-at is_quiet free_file refl (sent_files closed others []) q i)
 
   -- one more whose last piece is written
   one_more : (f : Sent)

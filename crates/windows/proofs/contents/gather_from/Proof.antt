@@ -3,7 +3,7 @@ use mathlib.Core.Path.{ap, sym, ◌∙◌}
 use native.Mathlib.Omega.{arith}
 use lib.ListN.{length}
 use borrow.Author.Rules.{rules}
-use borrow.Author.Tests.{not_true, not-false}
+use borrow.Author.Tests.{not-true, not-false}
 use Rattle.windows.specs.Steps.{side, key_with}
 use Rattle.windows.proofs.ContentLaws.{Gathering, gather-starts, gather-past, gather_stops, gather-part, gather-ends, part-fits}
 use Rattle.windows.proofs.contents.gather_from.Statement.{statement}
@@ -45,7 +45,7 @@ loop-again c =
     let k = key_with a.id.now a.file.now in
     let h : l.at + 7 ≤ length a.events.now = omega (arith, l.invariant.within) in
     gather-past s k a.from a.into.now l.at l.n l.into l.invariant h
-    (sym c.before.of_pair.ensures ∙ not_true _ c.if1.true)
+    (sym c.before.of_pair.ensures ∙ not-true _ c.if1.true)
 
 mul-if2 : tie.Need-overflow-mul-if2 invariant-loop decreases-loop
 mul-if2 c = omega (arith, c.before.before.before.loop.invariant.within)

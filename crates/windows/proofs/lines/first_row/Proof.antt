@@ -1,5 +1,5 @@
 use mathlib.Core.Path.{sym, ap, ◌∙◌}
-use borrow.Author.Tests.{leb-true, eq-eqb, ne_eqb, not_true, not-false}
+use borrow.Author.Tests.{leb-true, eq-eqb, ne_eqb, not-true, not-false}
 use Rattle.octets.specs.Outcome.{outcome}
 use Rattle.windows.specs.Steps.{first_row, with_line}
 use borrow.Author.Rules.{rules}
@@ -29,7 +29,7 @@ returns-2 : tie.Need-returns-2
 unfolding first_row with_line
 returns-2 c =
     let fit = c.before.fits2 in
-    rw (ne_eqb _ _ c.before.before.if1.false, ← fit.ensures, not_true fit.result c.if2.true)
+    rw (ne_eqb _ _ c.before.before.if1.false, ← fit.ensures, not-true fit.result c.if2.true)
 
 judge-requires : tie.Need-judge-requires
 judge-requires c κs = search rules

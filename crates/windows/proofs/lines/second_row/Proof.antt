@@ -1,5 +1,5 @@
 use mathlib.Core.Path.{sym, ap, ◌∙◌}
-use borrow.Author.Tests.{leb-true, eq-eqb, ne_eqb, not_true, not-false}
+use borrow.Author.Tests.{leb-true, eq-eqb, ne_eqb, not-true, not-false}
 use Rattle.octets.specs.Outcome.{outcome}
 use Rattle.windows.specs.Steps.{second_row, with_line}
 use borrow.Author.Rules.{rules}
@@ -27,7 +27,7 @@ returns-2 c =
     rw (
       ne_eqb _ _ c.before.before.if1.false,
       ← only.ensures s.first-bytes.now s.second-bytes.now,
-      not_true only.result c.if2.true,
+      not-true only.result c.if2.true,
     )
 
 mul-place : tie.Need-overflow-mul-place
@@ -51,7 +51,7 @@ returns-3 c =
       ← only.ensures s.first-bytes.now s.second-bytes.now,
       not-false only.result told.if2.false,
       ← fit.ensures,
-      not_true fit.result c.if3.true,
+      not-true fit.result c.if3.true,
     )
 
 put-row-requires : tie.Need-put-row-requires

@@ -5,7 +5,7 @@ use native.Mathlib.Omega.{arith}
 use native.Mathlib.Nat.{zero-add}
 use lib.ListN.{length}
 use borrow.Author.Rules.{rules}
-use borrow.Author.Tests.{not_true, not-false}
+use borrow.Author.Tests.{not-true, not-false}
 use Rattle.windows.specs.Ranks.{count_of}
 use Rattle.windows.specs.Steps.{Side, side, key_with, starts_from, starts_in}
 use Rattle.windows.proofs.SearchLaws.{count_past, count-here, count-end}
@@ -41,7 +41,7 @@ loop-again c =
     let l = told.before.before.loop in
     let a = told.before.before.before.before.before.before.before.args in
     let s : List ℕ → Side = λ parts. side a.recording.now parts a.events.now in
-    let e = sym told.starts-pair.ensures ∙ not_true _ c.if1.true in
+    let e = sym told.starts-pair.ensures ∙ not-true _ c.if1.true in
     let h : l.at + 7 ≤ length a.events.now = omega arith in
     (omega arith, omega arith, λ parts. count_past (s parts) l.at (key_with a.id.now a.file.now) l.n h e (l.invariant.2 parts))
 

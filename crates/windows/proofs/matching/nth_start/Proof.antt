@@ -4,7 +4,7 @@ use mathlib.Core.List.{List}
 use native.Mathlib.Omega.{arith}
 use lib.ListN.{length}
 use borrow.Author.Rules.{rules}
-use borrow.Author.Tests.{not_true, not-false}
+use borrow.Author.Tests.{not-true, not-false}
 use Rattle.windows.specs.Ranks.{nth}
 use Rattle.windows.specs.Steps.{Side, side, key_with, starts_from, starts_in, RowPlace}
 use Rattle.windows.proofs.SearchLaws.{nth_past, nth-later, nth-found, nth_end}
@@ -41,7 +41,7 @@ loop-again c =
     let a = told.before.before.before.before.before.before.before.args in
     let s : List ℕ → Side = λ parts. side a.recording.now parts a.events.now in
     let k = key_with a.id.now a.file.now in
-    let e = sym told.starts-pair.ensures ∙ not_true _ c.if1.true in
+    let e = sym told.starts-pair.ensures ∙ not-true _ c.if1.true in
     let h : l.at + 7 ≤ length a.events.now = omega arith in
     (omega arith, (suc l.invariant.1.0, omega (arith, l.invariant.1.1)), λ parts. nth_past (s parts) l.at k l.left h e (l.invariant.2 parts))
 

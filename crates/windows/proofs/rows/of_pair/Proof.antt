@@ -1,4 +1,4 @@
-use borrow.Author.Tests.{not_true, not-false}
+use borrow.Author.Tests.{not-true, not-false}
 use borrow.Author.Rules.{rules}
 use Rattle.windows.proofs.rows.of_pair.Statement.{statement}
 use Rattle.windows.proofs.rows.of_pair.Tie as tie
@@ -10,7 +10,7 @@ equal-requires : tie.Need-equal-requires
 equal-requires c κs = search rules
 
 returns : tie.Need-returns
-returns c = rw (← c.before.before.id-at.ensures, ← c.before.equal.ensures, not_true c.before.equal.result c.if1.true)
+returns c = rw (← c.before.before.id-at.ensures, ← c.before.equal.ensures, not-true c.before.equal.result c.if1.true)
 
 file-at-requires : tie.Need-file-at-requires
 file-at-requires c κs = search rules

@@ -1,5 +1,5 @@
 use mathlib.Core.Path.{sym, ◌∙◌}
-use borrow.Author.Tests.{leb-true, not_true, not-false}
+use borrow.Author.Tests.{leb-true, not-true, not-false}
 use borrow.Author.Rules.{rules}
 use Rattle.windows.proofs.verdicts.judge.Statement.{statement}
 use Rattle.windows.proofs.verdicts.judge.Tie as tie
@@ -17,7 +17,7 @@ returns c =
     rw (
       ← c.before.before.partner.ensures.1 s.first-bytes.now s.second-bytes.now,
       ← fit.ensures,
-      not_true fit.result c.if1.true,
+      not-true fit.result c.if1.true,
     )
 
 compared-requires : tie.Need-compared-requires
