@@ -1,6 +1,6 @@
 -- Each way of a command in a session keeps the invariant.
 use Prim.Native.Nat.{ℕ, ◌<◌}
-use mathlib.Core.Path.{◌≡◌, refl, sym, ap, ◌∙◌}
+use mathlib.Core.Path.{◌≡◌, refl, sym, ap, ◌∙◌, subst}
 use mathlib.Core.Bool.{Bool, true, false, not, cond}
 use mathlib.Core.Option.{Option}
 use mathlib.Core.List.{List, [], ◌∷◌}
@@ -207,8 +207,8 @@ module _ {ss : List Session} {c : PlacedCommand} {text scratch : List ℕ} {d : 
       part_content false k = rw (brings_as ∙ p.brings)
 
       part-stands : (v : Bool) → StandsFor (Option.some d) (write_heard v (Meaning.data_of d)) (Mark.read d ∷ m)
-      part-stands true = rw (ends_not, ← h.id) (stands-still s-ok.stand)
-      part-stands false = rw (ends_not, ← h.id) (stands-still s-ok.stand)
+      part-stands true = rw ends_not (subst (λ (x : List ℕ). stands x m ≡ true) h.id (stands-still s-ok.stand))
+      part-stands false = rw ends_not (subst (λ (x : List ℕ). stands x m ≡ true) h.id (stands-still s-ok.stand))
 
       hears-part : (v : Bool)
           → hearing (Told.Ask (ask_of c.payload (write_due v j q.long))) scratch ≡ Option.some (write_heard v (Meaning.data_of d))

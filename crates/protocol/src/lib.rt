@@ -3,6 +3,8 @@
 //
 // No feed or console call has code here: specs/ says what each gives, for any receiver and any lent
 // buffers, and proofs/ shows what every list of calls from a fresh receiver keeps.
+#![tactic(auto)]
+
 mod actions;
 
 ghost use Rattle.std.specs.Prelude.{◌≡◌};
@@ -25,7 +27,7 @@ use decimal::Number;
 use frames::{Framing, Report};
 
 // ---- The receiver: nested arrays by value.
-#[derive(Drop)]
+#[derive(Clone, Copy)]
 pub enum FileState {
     Free,
     Opening,
@@ -38,7 +40,7 @@ pub enum FileState {
 
 // A file record: its id is the first id_len bytes of id, and a length of 0 was not declared. It holds no
 // file type: what was opened is told from the command read.
-#[derive(Drop)]
+#[derive(Clone, Copy)]
 pub struct FileRecord {
     pub state: FileState,
     pub id: [u8; 32],
@@ -49,7 +51,7 @@ pub struct FileRecord {
 
 // A send session is asked and then open. A receive session names its paths, waits for the user, and is
 // then open: it lists, and after the home path it serves.
-#[derive(Drop)]
+#[derive(Clone, Copy)]
 pub enum SessionState {
     Absent,
     Asked,
@@ -62,7 +64,7 @@ pub enum SessionState {
 
 // A session, with how many paths a receive session asks for, and two numbers that are kept of its files:
 // how many are started, and the sum of the counts of those that are done.
-#[derive(Drop)]
+#[derive(Clone, Copy)]
 pub struct Session {
     pub state: SessionState,
     pub quiet: u64,
@@ -76,7 +78,7 @@ pub struct Session {
 
 // What the console was asked to do for a session and has not answered, with the place of the file in
 // the session and the part's length. The file of a request is the session's first.
-#[derive(Drop)]
+#[derive(Clone, Copy)]
 pub enum Due {
     OpenFile(usize),
     OpenDirectory(usize),
@@ -87,20 +89,20 @@ pub enum Due {
 }
 
 // What the console owes an answer to: nothing, or what is due for the session at a place.
-#[derive(Drop)]
+#[derive(Clone, Copy)]
 pub enum Owed {
     Nothing,
     For(usize, Due),
 }
 
-#[derive(Drop)]
+#[derive(Clone, Copy)]
 pub struct Table {
     pub sessions: [Session; Table::SESSIONS],
     pub owed: Owed,
 }
 
 // What a command does, by the action table.
-#[derive(Drop)]
+#[derive(Clone, Copy)]
 pub enum Kind {
     Ignore,
     Ask,
@@ -117,7 +119,7 @@ pub enum Kind {
 }
 
 // What the console keeps between calls, beside the carry.
-#[derive(Drop)]
+#[derive(Clone, Copy)]
 pub struct Receiver {
     pub framing: Framing,
     pub table: Table,
@@ -126,7 +128,7 @@ pub struct Receiver {
 // ---- What a call tells the console.
 // What the console is asked to do: to open the command's file, to write a part of it or its last
 // part (the part's place in the scratch), to commit the session, or to supply the command's file.
-#[derive(Drop)]
+#[derive(Clone, Copy)]
 pub enum Ask {
     Open,
     Write(Place),
@@ -136,7 +138,7 @@ pub enum Ask {
 }
 
 // The status words of replies.
-#[derive(Drop)]
+#[derive(Clone, Copy)]
 pub enum Status {
     Ok,
     Started,
@@ -155,7 +157,7 @@ pub enum Status {
 }
 
 // Why the console failed an ask.
-#[derive(Drop)]
+#[derive(Clone, Copy)]
 pub enum Failure {
     Eperm,
     Eio,
@@ -164,7 +166,7 @@ pub enum Failure {
 }
 
 // What the console decides of a session.
-#[derive(Drop)]
+#[derive(Clone, Copy)]
 pub enum Decision {
     Allow,
     Deny,
@@ -172,7 +174,7 @@ pub enum Decision {
 }
 
 // What a call tells.
-#[derive(Drop)]
+#[derive(Clone, Copy)]
 pub enum Told {
     Nothing,
     // A refusal, by its number in document 01.
@@ -200,7 +202,7 @@ pub enum Told {
 
 // A reply that is due, or none. Its ids are the first so many bytes of their arrays; a size of 0 is
 // left out, as is an empty file id.
-#[derive(Drop)]
+#[derive(Clone, Copy)]
 pub struct Reply {
     pub due: bool,
     pub status: Status,
@@ -215,7 +217,7 @@ pub struct Reply {
 // ---- What a step makes of one session.
 // The session is as it was, is in another state, has a file record put at a place, waits for the user
 // with no file left, or is dropped.
-#[derive(Drop)]
+#[derive(Clone, Copy)]
 pub enum Edit {
     Same,
     Turned(SessionState),
@@ -226,7 +228,7 @@ pub enum Edit {
 
 // What the console hears of a step: something told while what is owed stays, something told while what
 // the session owed is cleared, or an ask, which is owed from then on.
-#[derive(Drop)]
+#[derive(Clone, Copy)]
 pub enum News {
     Tells(Told),
     Clears(Told),
@@ -235,7 +237,7 @@ pub enum News {
 
 // What becomes of a session at a step, by an edit with the file record that it puts, what the console
 // hears, and the reply. It names no place in the table.
-#[derive(Drop)]
+#[derive(Clone, Copy)]
 pub struct Change {
     pub edit: Edit,
     pub file: FileRecord,
@@ -244,7 +246,7 @@ pub struct Change {
 }
 
 // What a step gives: the table afterwards, what is told, and the reply.
-#[derive(Drop)]
+#[derive(Clone, Copy)]
 pub struct Stepped {
     pub table: Table,
     pub told: Told,
@@ -254,7 +256,7 @@ pub struct Stepped {
 // What feed answers: the receiver, how many bytes of the piece it consumed, where the reported text
 // stands, what is told, and the reply's length. What is told of a command is told of `command`, whose
 // places are in that text and in the scratch; it is `Command::NONE` where none was read.
-#[derive(Drop)]
+#[derive(Clone, Copy)]
 pub struct Fed {
     pub receiver: Receiver,
     pub consumed: usize,
@@ -267,7 +269,7 @@ pub struct Fed {
 // A file of a listing: its type, times and sizes; the ids of its session, of the path that it is listed
 // for and of its parent, at places of one slice; its name, its own id and the target of a link, at places
 // of another.
-#[derive(Drop)]
+#[derive(Clone, Copy)]
 pub struct Entry {
     pub file_type: FileType,
     pub modified: Number,
@@ -283,7 +285,7 @@ pub struct Entry {
 
 // What a console call answers: the receiver, what is told, and the length of the reply, or of what it
 // wrote. What done and failed tell, they tell of the ask that they answer.
-#[derive(Drop)]
+#[derive(Clone, Copy)]
 pub struct Answered {
     pub receiver: Receiver,
     pub told: Told,
@@ -291,7 +293,7 @@ pub struct Answered {
 }
 
 // Where something stands in an array.
-#[derive(Drop)]
+#[derive(Clone, Copy)]
 pub enum Found {
     Nowhere,
     At(usize),

@@ -8,10 +8,9 @@ use Rattle.protocol.proofs.Cuts.{cuts-alike}
 use Rattle.protocol.proofs.SoundCalls.{every-sound, every-count}
 use Rattle.protocol.proofs.isolation.Runs.{isolated}
 use Rattle.protocol.proofs.Starred.{starred_hold}
-use Rattle.protocol.proofs.Receiver.fresh.Statement.{statement}
-use Rattle.protocol.proofs.Receiver.fresh.Tie as tie
+use Rattle.protocol.proofs.Receiver.fresh.Goals as goal
 
-returns : tie.Need-returns
+pub returns : goal.returns
 returns c = (
   refl,
   every-history,
@@ -26,6 +25,3 @@ returns c = (
   leaks,
   starred_hold,
 )
-
-pub fresh-spec : {M : Type 1} → statement M
-fresh-spec = tie.close (tie.spec returns)
