@@ -8,7 +8,7 @@ use native.Mathlib.Nat.{div-div-eq-div-mul, pow-suc, pow-succ', mod-lt}
 use native.Mathlib.Numerals.{sub-one}
 use lib.ListN.{length, set}
 use lib.Seq.{sets}
-use lib.Arith.{mod_mul}
+use lib.Arith.{mod-mul}
 use lib.Dec.{ltb, lit<}
 use borrow.Author.Tests.{le-ltb, ltb-false}
 use Rattle.octets.proofs.Stores.{sets_last}
@@ -50,7 +50,7 @@ read-fixed zero a n = unfold digits_of in ap Value (omega arith)
 read-fixed (suc w) a n =
     digits_cons a (n / 10 ^ w % 10) (fixed w n) (mod-lt _ (lit< tt))
     ∙ read-fixed w (a * 10 + n / 10 ^ w % 10) n
-    ∙ ap Value (rw (pow-succ' 10 w, mod_mul n {m = 10} {c = 10 ^ w} (lit< tt) (ten_pos w)) (omega arith))
+    ∙ ap Value (rw (pow-succ' 10 w, mod-mul n {m = 10} {c = 10 ^ w} (lit< tt) (ten_pos w)) (omega arith))
 
 -- what reads begins with a digit, and the others read after it
 pub digits-first : (a c : ℕ) (r : List ℕ) (m : ℕ) → digits_of a (c ∷ r) ≡ Value m

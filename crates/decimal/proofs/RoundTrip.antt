@@ -81,7 +81,8 @@ magnitude-is s t n e = go (eqb (length t) 0) (ltb most_digits (length t)) refl (
     go false false ey (Value m) ed q = ranged m ey ed (ltb (limit s) m) refl q
 
 -- digits without leading zeros are those of their value, which is not 0
-digits_are : (c : ℕ) (r : List ℕ) (m : ℕ) → 49 ≤ c → length r < 20 → digits_of 0 (c ∷ r) ≡ Value m → (fixed (width_of m) m ≡ c ∷ r) × (1 ≤ m)
+digits_are : (c : ℕ) (r : List ℕ) (m : ℕ) → 49 ≤ c → length r < 20
+    → digits_of 0 (c ∷ r) ≡ Value m → (fixed (width_of m) m ≡ c ∷ r) × (1 ≤ m)
 digits_are c r m h l e =
     let f = fixed-read (c ∷ r) 0 m e in
     let g = fixed-read r (0 * 10 + (c - 48)) m (digits-first 0 c r m e).2 in

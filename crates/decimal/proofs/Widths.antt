@@ -39,7 +39,8 @@ least-from zero w last n q =
     record { first = omega arith; upto = omega arith; holds = λ h. rw e h; least = λ j h k. h }
 least-from (suc f) w last n q = go (ltb n (10 ^ w)) refl (least-from f (suc w) last n (omega arith))
   where
-    go : (b : Bool) → ltb n (10 ^ w) ≡ b → Least (suc w) last n (width_from f (suc w) n) → Least w last n (cond b w (width_from f (suc w) n))
+    go : (b : Bool) → ltb n (10 ^ w) ≡ b → Least (suc w) last n (width_from f (suc w) n)
+        → Least w last n (cond b w (width_from f (suc w) n))
     go true e l = record { first = omega arith; upto = omega arith; holds = λ h. ltb-true n (10 ^ w) e; least = λ j h k. h }
     go false e l =
         record {

@@ -12,7 +12,7 @@ ghost use Rattle.decimal.specs.Claims.{FixedReads, ReadsFixed, WrittenReads, Rea
 ghost use Rattle.decimal.specs.Read.{parse_of};
 ghost use Rattle.decimal.specs.Write.{text_of, write_of};
 
-#[derive(Drop)]
+#[derive(Clone, Copy)]
 pub struct Number {
     pub negative: bool,
     pub magnitude: u64,
@@ -30,7 +30,7 @@ impl Number {
 }
 
 // What reading answers. Malformed is told before out of range.
-#[derive(Drop)]
+#[derive(Clone, Copy)]
 pub enum Parsed {
     Integer(Number),
     Malformed,
@@ -38,7 +38,7 @@ pub enum Parsed {
 }
 
 // What writing answers: where the text ends, or why there is none.
-#[derive(Drop)]
+#[derive(Clone, Copy)]
 pub enum Written {
     End(usize),
     NegativeZero,

@@ -6,7 +6,7 @@ ghost use Rattle.decimal.specs.Read.{digits_of, magnitude_of, ranged_of};
 use crate::{Number, Parsed};
 
 // What a run of digits is.
-#[derive(Drop)]
+#[derive(Clone, Copy)]
 pub enum Run {
     Value(u64),
     NotDigits,
