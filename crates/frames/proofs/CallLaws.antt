@@ -127,7 +127,8 @@ used-first f i (suc k) u [] h = refl
 used-first f i (suc k) u (b ∷ xs) h = by (step_of f b) (λ g. used-first g (i + 1) k u xs) h
   where
     by : (r : Event)
-        → ((g : Framing) → (i + 1) + k < (walk_from g (i + 1) xs).used → report_of (walk_from g (i + 1) (take k xs)).event u ≡ Report.Nothing)
+        → ((g : Framing) → (i + 1) + k < (walk_from g (i + 1) xs).used
+        → report_of (walk_from g (i + 1) (take k xs)).event u ≡ Report.Nothing)
         → i + suc k < (after r (i + 1) (λ (g : Framing). walk_from g (i + 1) xs)).used
         → report_of (after r (i + 1) (λ (g : Framing). walk_from g (i + 1) (take k xs))).event u ≡ Report.Nothing
     by (On g) q l = q g (omega (arith, l))

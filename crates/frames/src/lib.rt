@@ -5,6 +5,8 @@
 // first bytes of a text that began in an earlier piece, which stand in the carry. A text that lies
 // wholly in its piece is not copied. No function has a `requires`: a framing that no call gave is
 // answered by the same definitions.
+#![tactic(auto)]
+
 mod carry;
 mod step;
 mod walk;
@@ -25,7 +27,7 @@ use walk::walk_piece;
 // mark and the count of its bytes, and whether they end in a 1B. A text known to start with no mark
 // behaves as plain bytes do. The empty text may start with either mark, and is given the first. Once a
 // text has its mark whole nothing depends on which it is, so after a 1B it is not kept.
-#[derive(Drop)]
+#[derive(Clone, Copy)]
 pub enum Framing {
     Plain,
     Escape,
@@ -35,7 +37,7 @@ pub enum Framing {
 
 // What a reported text starts with: `5113;`, and it is a command of file transfer, or `72;`, and it is
 // one of drag and drop.
-#[derive(Drop)]
+#[derive(Clone, Copy)]
 pub enum Mark {
     Transfer,
     DragDrop,
@@ -48,7 +50,7 @@ impl Framing {
 }
 
 // What a call reports.
-#[derive(Drop)]
+#[derive(Clone, Copy)]
 pub enum Report {
     Nothing,
     // A text with a mark in the piece: where it starts, and its length.
@@ -63,7 +65,7 @@ pub enum Report {
 
 // What a call answers: how many bytes of the piece it consumed, the framing for the next call, and
 // what it reports.
-#[derive(Drop)]
+#[derive(Clone, Copy)]
 pub struct Scanned {
     pub consumed: usize,
     pub framing: Framing,

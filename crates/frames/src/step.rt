@@ -8,7 +8,7 @@ use crate::{Framing, Mark};
 use octets::size::least;
 
 // The bytes go on, or a text of so many bytes that has its mark ends.
-#[derive(Drop)]
+#[derive(Clone, Copy)]
 pub(crate) enum Event {
     On(Framing),
     Closed(usize),
