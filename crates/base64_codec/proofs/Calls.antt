@@ -18,7 +18,6 @@ use Rattle.base64_codec.specs.Encode.{text_of, encode_of}
 use Rattle.base64_codec.specs.Padding.{padded, decode_with}
 use Rattle.base64_codec.specs.Claims.{EncodedDecodes, DecodedEncodes, UnpaddedDecodes}
 use Rattle.base64_codec.specs.declared.Verdict.{Verdict}
-use Rattle.base64_codec.specs.declared.Verdict.TheVariants as Verdict
 use Rattle.base64_codec.specs.declared.Decoded.TheVariants as Decoded
 use Rattle.base64_codec.proofs.Lengths.{length-text}
 use Rattle.base64_codec.proofs.RoundTrip.{padding_of, valid-text, bytes-text, text-bytes}

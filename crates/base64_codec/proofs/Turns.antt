@@ -84,7 +84,8 @@ module _ (t : List ℕ) (i : ℕ) where
 
 -- they are one, two or three, by its padding
 module _ (t : List ℕ) (i : ℕ) (h : i + 4 ≤ length t) where
-  bytes-at : bytes_of (drop i t) ≡ group (get_or t i 0) (get_or t (i + 1) 0) (get_or t (i + 2) 0) (get_or t (i + 3) 0) (bytes_of (drop (i + 4) t))
+  bytes-at : bytes_of (drop i t)
+      ≡ group (get_or t i 0) (get_or t (i + 1) 0) (get_or t (i + 2) 0) (get_or t (i + 3) 0) (bytes_of (drop (i + 4) t))
   unfolding bytes_of
   bytes-at = rw (drop-at-4 t i h)
 
@@ -124,8 +125,8 @@ no_bytes t i h = rw (drop-end t i h)
 module _ (s : List ℕ) (i : ℕ) where
   pub text-group : i + 3 ≤ length s
       → text_of (drop i s)
-      ≡ char1 (get_or s i 0) ∷ char2 (get_or s i 0) (get_or s (i + 1) 0) ∷ char3 (get_or s (i + 1) 0) (get_or s (i + 2) 0) ∷ char4 (get_or s (i + 2) 0)
-      ∷ text_of (drop (i + 3) s)
+      ≡ char1 (get_or s i 0) ∷ char2 (get_or s i 0) (get_or s (i + 1) 0) ∷ char3 (get_or s (i + 1) 0) (get_or s (i + 2) 0)
+      ∷ char4 (get_or s (i + 2) 0) ∷ text_of (drop (i + 3) s)
   unfolding text_of
   text-group h = rw (drop-at-3 s i h)
 

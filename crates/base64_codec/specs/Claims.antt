@@ -7,7 +7,6 @@ use Rattle.octets.specs.declared.Stored.TheVariants as Stored
 use Rattle.base64_codec.specs.Padding.{padded, unpadded, decode_with}
 use Rattle.base64_codec.specs.Encode.{text_of, encode_of}
 use Rattle.base64_codec.specs.declared.Padding.{Padding}
-use Rattle.base64_codec.specs.declared.Padding.TheVariants as Padding
 use Rattle.base64_codec.specs.declared.Decoded.TheVariants as Decoded
 
 -- the length of the text of n bytes: four characters for each group of three, and for a last group of one or two

@@ -3,11 +3,8 @@ use Rattle.std.specs.Prelude.{cond, ℕ, ◌+◌, ◌*◌, ◌/◌, ◌%◌, Lis
 use Rattle.octets.specs.Outcome.{Outcome, outcome, stored_at}
 use Rattle.base64_codec.specs.Alphabet.{pad, value_of}
 use Rattle.base64_codec.specs.declared.Fault.{Fault}
-use Rattle.base64_codec.specs.declared.Fault.TheVariants as Fault
 use Rattle.base64_codec.specs.declared.Verdict.{Verdict}
-use Rattle.base64_codec.specs.declared.Verdict.TheVariants as Verdict
 use Rattle.base64_codec.specs.declared.Decoded.{Decoded}
-use Rattle.base64_codec.specs.declared.Decoded.TheVariants as Decoded
 
 -- ---- what a text is refused for
 -- "unused bits zero": the low bits of the value before the padding

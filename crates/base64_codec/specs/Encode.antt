@@ -2,7 +2,6 @@
 use Rattle.std.specs.Prelude.{ℕ, ◌+◌, ◌*◌, ◌/◌, ◌%◌, List, [], ◌∷◌, length}
 use Rattle.octets.specs.Outcome.{Outcome, stored_at}
 use Rattle.octets.specs.declared.Stored.{Stored}
-use Rattle.octets.specs.declared.Stored.TheVariants as Stored
 use Rattle.base64_codec.specs.Alphabet.{pad, letter_of}
 
 -- the four characters of a group of bytes, each of six bits

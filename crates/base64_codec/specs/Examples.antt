@@ -6,11 +6,8 @@ use Rattle.octets.specs.Ascii.{ascii}
 use Rattle.octets.specs.Outcome.{Outcome, outcome}
 use Rattle.base64_codec.specs.Padding.{decode_with}
 use Rattle.base64_codec.specs.declared.Padding.{Padding}
-use Rattle.base64_codec.specs.declared.Padding.TheVariants as Padding
 use Rattle.base64_codec.specs.declared.Fault.{Fault}
-use Rattle.base64_codec.specs.declared.Fault.TheVariants as Fault
 use Rattle.base64_codec.specs.declared.Decoded.{Decoded}
-use Rattle.base64_codec.specs.declared.Decoded.TheVariants as Decoded
 
 -- a buffer with room for each of the texts
 abbrev pub room : List ℕ

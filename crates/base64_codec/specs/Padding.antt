@@ -8,7 +8,6 @@ use Rattle.base64_codec.specs.declared.Padding.{Padding}
 use Rattle.base64_codec.specs.declared.Padding.TheVariants.{Required, Optional}
 use Rattle.base64_codec.specs.declared.Fault.TheVariants as Fault
 use Rattle.base64_codec.specs.declared.Verdict.{Verdict}
-use Rattle.base64_codec.specs.declared.Verdict.TheVariants as Verdict
 use Rattle.base64_codec.specs.declared.Decoded.{Decoded}
 
 -- the last character, and 0 where there is none

@@ -3,6 +3,8 @@
 //
 // Not here: line breaks, other alphabets, texts in pieces. A text is checked whole before a byte is
 // written.
+#![tactic(auto)]
+
 mod alphabet;
 mod decoder;
 mod encoder;
@@ -21,7 +23,7 @@ use crate::table::VALUES;
 use octets::Stored;
 
 // What is wrong with a text: its length or padding, a character, or bits that no byte uses.
-#[derive(Drop)]
+#[derive(Clone, Copy)]
 pub enum Fault {
     Length,
     Character,
@@ -29,21 +31,21 @@ pub enum Fault {
 }
 
 // What a whole text is: valid, with that many padding characters at its end, or at fault.
-#[derive(Drop)]
+#[derive(Clone, Copy)]
 pub enum Verdict {
     Valid(usize),
     Invalid(Fault),
 }
 
 // Whether a text must have its padding, or may leave all of it out.
-#[derive(Drop)]
+#[derive(Clone, Copy)]
 pub enum Padding {
     Required,
     Optional,
 }
 
 // What decoding answers: how many bytes were stored.
-#[derive(Drop)]
+#[derive(Clone, Copy)]
 pub enum Decoded {
     Length(usize),
     Invalid(Fault),

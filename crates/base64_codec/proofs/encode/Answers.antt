@@ -1,0 +1,24 @@
+use mathlib.Core.Path.{sym, ◌∙◌}
+use borrow.Author.Tests.{leb-true}
+use Rattle.base64_codec.specs.Encode.{encode_of}
+use Rattle.base64_codec.proofs.Lengths.{length-text}
+use Rattle.base64_codec.proofs.Calls.{encode-decode}
+use Rattle.base64_codec.proofs.encode.Goals as goal
+
+pub returns-then-not-fits-clause-out_after : goal.returns-then-not-fits-clause-out_after
+unfolding encode_of
+returns-then-not-fits-clause-out_after c = rw (length-text c.args.«data».now, ← c.fits.ensures, c.if-not-fits.true)
+
+pub returns-then-not-fits-clause-encoded_decodes : goal.returns-then-not-fits-clause-encoded_decodes
+returns-then-not-fits-clause-encoded_decodes c = encode-decode
+
+-- past the test the text fits
+pub fill-requires : goal.fill-requires
+fill-requires c = rw (length-text c.args.«data».now) (leb-true _ _ (sym c.fits.ensures ∙ c.if-not-fits.false))
+
+pub returns-clause-out_after : goal.returns-clause-out_after
+unfolding encode_of
+returns-clause-out_after c = rw (length-text c.args.«data».now, ← c.fits.ensures, c.if-not-fits.false, c.fill.ensures)
+
+pub returns-clause-encoded_decodes : goal.returns-clause-encoded_decodes
+returns-clause-encoded_decodes c = encode-decode

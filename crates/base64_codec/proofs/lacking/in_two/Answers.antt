@@ -1,0 +1,101 @@
+use Prim.Native.Nat.{ℕ, ◌+◌, ◌-◌, ◌*◌, ◌/◌, ◌%◌}
+use mathlib.Core.Path.{◌≡◌, refl, sym, ◌∙◌}
+use mathlib.Core.List.{List, ◌++◌}
+use native.Mathlib.Omega.{arith}
+use lib.ListN.{length}
+use borrow.Author.Tests.{leb-true}
+use Rattle.base64_codec.specs.Alphabet.{value_of}
+use Rattle.base64_codec.specs.Decode.{verdict_of, bytes_of, decode_of}
+use Rattle.base64_codec.specs.Padding.{joined_verdict}
+use Rattle.base64_codec.specs.Values.{values_from}
+use Rattle.base64_codec.specs.declared.Verdict.TheVariants.{Valid}
+use Rattle.base64_codec.proofs.Halves.{verdict-joined, both_valid, size-first, size-last, size-both, sets-both}
+use Rattle.base64_codec.proofs.lacking.in_two.Goals as goal
+
+-- ---- where the two are valid together
+module _
+    (groups last : List ℕ) (whole : length groups % 4 ≡ 0) (four : length last ≡ 4) (padding : ℕ)
+    (joint : joined_verdict (verdict_of groups) (verdict_of last) ≡ Valid padding) where
+  first : verdict_of groups ≡ Valid 0
+  first = (both_valid (verdict_of groups) (verdict_of last) padding joint).0
+
+  second : verdict_of last ≡ Valid padding
+  second = (both_valid (verdict_of groups) (verdict_of last) padding joint).1
+
+  together : verdict_of (groups ++ last) ≡ Valid padding
+  together = verdict-joined groups last whole four ∙ joint
+
+  count-first : length (bytes_of groups) ≡ length groups / 4 * 3
+  count-first = size-first groups last whole four padding first second
+
+  count-last : length (bytes_of last) + padding ≡ 3
+  count-last = size-last groups last whole four padding first second
+
+  count : length (bytes_of (groups ++ last)) ≡ (length groups / 4 * 3 + 3) - padding
+  count = size-both groups last whole four padding first second
+
+pub check-requires : goal.check-requires
+unfolding values_from value_of
+check-requires c = refl
+
+pub check-requires-2 : goal.check-requires-2
+unfolding values_from value_of
+check-requires-2 c = refl
+
+pub overflow_sub-n : goal.overflow_sub-n
+overflow_sub-n c =
+    let joint = rw (c.check.ensures, c.check-2.ensures) at (sym c.in-Valid.ensures) in
+    omega (arith, count-last _ _ c.requires.0 c.requires.1 _ joint)
+
+pub returns-then-not-fits : goal.returns-then-not-fits
+unfolding decode_of
+returns-then-not-fits c =
+    let joint = rw (c.check.ensures, c.check-2.ensures) at (sym c.in-Valid.ensures) in
+    let q = c.requires in
+    rw (together _ _ q.0 q.1 _ joint, count _ _ q.0 q.1 _ joint, ← c.fits.ensures, c.if-not-fits.true)
+
+pub fill-requires-clause-table_value : goal.fill-requires-clause-table_value
+unfolding values_from value_of
+fill-requires-clause-table_value c = refl
+
+-- past the test there is room for both
+pub fill-requires-clause-text_value : goal.fill-requires-clause-text_value
+fill-requires-clause-text_value c =
+    let joint = rw (c.check.ensures, c.check-2.ensures) at (sym c.in-Valid.ensures) in
+    let q = c.requires in
+    let room = leb-true _ _ (sym c.fits.ensures ∙ c.if-not-fits.false) in (
+      first _ _ q.0 q.1 _ joint,
+      omega (arith, count-first _ _ q.0 q.1 _ joint, count-last _ _ q.0 q.1 _ joint, room),
+    )
+
+pub fill-requires-in-Valid-clause-table_value : goal.fill-requires-in-Valid-clause-table_value
+unfolding values_from value_of
+fill-requires-in-Valid-clause-table_value c = refl
+
+pub fill-requires-in-Valid-clause-text_value : goal.fill-requires-in-Valid-clause-text_value
+fill-requires-in-Valid-clause-text_value c =
+    let joint = rw (c.check.ensures, c.check-2.ensures) at (sym c.in-Valid.ensures) in
+    let q = c.requires in
+    let room = leb-true _ _ (sym c.fits.ensures ∙ c.if-not-fits.false) in
+    (second _ _ q.0 q.1 _ joint, omega (arith, count-last _ _ q.0 q.1 _ joint, room))
+
+pub returns-else-not-fits : goal.returns-else-not-fits
+unfolding decode_of
+returns-else-not-fits c =
+    let joint = rw (c.check.ensures, c.check-2.ensures) at (sym c.in-Valid.ensures) in
+    let q = c.requires in
+    rw (
+      together _ _ q.0 q.1 _ joint,
+      count _ _ q.0 q.1 _ joint,
+      ← c.fits.ensures,
+      c.if-not-fits.false,
+      c.fill-in-Valid.ensures,
+      c.fill.ensures,
+      sets-both _ _ q.0 q.1 _ (first _ _ q.0 q.1 _ joint) (second _ _ q.0 q.1 _ joint),
+    )
+
+pub returns-in-Invalid : goal.returns-in-Invalid
+unfolding decode_of
+returns-in-Invalid c =
+    let fault = rw (c.check.ensures, c.check-2.ensures) at (sym c.in-Invalid.ensures) in
+    rw (verdict-joined _ _ c.requires.0 c.requires.1, fault)
