@@ -14,7 +14,7 @@ ghost use Rattle.octets.specs.Outcome.{outcome};
 ghost use Rattle.octets.specs.Slices.{equals, starts_with, part_of, copy_at};
 
 // What storing bytes at a place answers: where they end, or that they do not fit.
-#[derive(Drop)]
+#[derive(Clone, Copy)]
 pub enum Stored {
     End(usize),
     NoRoom,
