@@ -13,13 +13,10 @@ use Rattle.delta.specs.Patch.{Result}
 use Rattle.delta.specs.Walk.{Makes, limited_to, answer_of}
 use Rattle.delta.specs.Calls.{Patched, inputs_of, limited, measured_in, stored_in}
 use Rattle.delta.specs.declared.Refusal.{Refusal}
-use Rattle.delta.specs.declared.Refusal.TheVariants as Refusal
 use Rattle.delta.specs.declared.Checksum.{Checksum}
 use Rattle.delta.specs.declared.Signature.{Signature}
 use Rattle.delta.specs.declared.Signed.{Signed}
-use Rattle.delta.specs.declared.Signed.TheVariants as Signed
 use Rattle.delta.specs.declared.Measured.{Measured}
-use Rattle.delta.specs.declared.Measured.TheVariants as Measured
 use Rattle.delta.specs.declared.walk.Walked.{Walked}
 use Rattle.delta.proofs.HeaderLaws.{signed-read}
 

@@ -12,7 +12,6 @@ use Rattle.delta.specs.Read.{limit, field_in, plain_in, is_signature, signature_
 use Rattle.delta.specs.declared.Refusal.TheVariants as Refusal
 use Rattle.delta.specs.declared.Signature.{Signature}
 use Rattle.delta.specs.declared.Signed.{Signed}
-use Rattle.delta.specs.declared.Signed.TheVariants as Signed
 
 pub record IsRead (s : List ℕ) (g : Signature) : Type 0 where
   pub size : g.block_size ≡ field_in s 8 4

@@ -1,5 +1,5 @@
 -- A delta is read as 001 lays it out, and only so.
-use Prim.Native.Nat.{ℕ, zero, suc, ◌+◌, ◌-◌, ◌^◌, ◌≤◌, ◌<◌}
+use Prim.Native.Nat.{ℕ, zero, suc, ◌+◌, ◌^◌, ◌≤◌, ◌<◌}
 use mathlib.Core.Path.{◌≡◌, refl, sym, ap, ◌∙◌}
 use mathlib.Core.List.{List, [], ◌∷◌, ◌++◌, append_assoc}
 use native.Mathlib.Omega.{arith}
@@ -10,7 +10,8 @@ use Rattle.octets.specs.Bytes.{Bytes}
 use Rattle.octets.specs.Little.{little, number}
 use Rattle.octets.proofs.Littles.{length-little, number-little, little-number, number_lt}
 use Rattle.delta.specs.Layout.{Op, laid, laid_all, Fits, AllFit}
-use Rattle.delta.specs.Read.{limit, Read, block_in, blocks_in, payload_in, operation_of, Delta, after, delta_from, delta_of, placed, step_of}
+use Rattle.delta.specs.Read.{limit, Read, block_in, blocks_in, payload_in, operation_of}
+use Rattle.delta.specs.Read.{Delta, after, delta_from, delta_of, placed, step_of}
 use Rattle.delta.specs.Laws.{listed, ReadsLaid, LaidReads, told_at, TellsEach}
 use Rattle.delta.proofs.OperationLaws.{HeldPayload, Held, held}
 use Rattle.delta.proofs.WalkLaws.{skip}

@@ -1,5 +1,5 @@
 -- An operation read from bytes, and by its place in the delta.
-use Prim.Native.Nat.{ℕ, ◌+◌, ◌-◌, ◌≤◌}
+use Prim.Native.Nat.{ℕ, ◌+◌, ◌≤◌}
 use mathlib.Core.Path.{◌≡◌, refl}
 use mathlib.Core.Bool.{Bool, true, false, cond}
 use mathlib.Core.List.{List}
@@ -15,9 +15,7 @@ use Rattle.delta.specs.Layout.{Op, laid}
 use Rattle.delta.specs.Read.{Read, field_in, step, block_in, blocks_in, payload_in, operation_of, placed}
 use Rattle.delta.specs.Read.{payload_at, payload_step, data_at, hash_at}
 use Rattle.delta.specs.declared.Operation.{Operation}
-use Rattle.delta.specs.declared.Operation.TheVariants as Operation
 use Rattle.delta.specs.declared.operations.Payload.{Payload}
-use Rattle.delta.specs.declared.operations.Payload.TheVariants as Payload
 
 payload-placed : (at k : ℕ) (f : List ℕ → Op) (o : ℕ → ℕ → Operation) (r : List ℕ)
     → ((bs : List ℕ) (m : ℕ) → placed at (Read.one (f bs) m) ≡ step (o (at + 1 + k) (length bs)) (at + 1 + m))

@@ -19,14 +19,11 @@ use Rattle.delta.specs.Calls.{Patched, inputs_of, limited, patched_of, patch_by,
 use Rattle.delta.specs.Laws.{listed, new_file, Taken, Made, TooLarge, Applies, OnlyApplies, TooLongFirst, TooLongOnly, KeepsOutput}
 use Rattle.delta.specs.Laws.{RefusesTooLarge, NoRoomLast, Measures}
 use Rattle.delta.specs.declared.Refusal.{Refusal}
-use Rattle.delta.specs.declared.Refusal.TheVariants as Refusal
 use Rattle.delta.specs.declared.Entry.{Entry}
 use Rattle.delta.specs.declared.Checksum.{Checksum}
 use Rattle.delta.specs.declared.Signature.{Signature}
 use Rattle.delta.specs.declared.Signed.{Signed}
-use Rattle.delta.specs.declared.Signed.TheVariants as Signed
 use Rattle.delta.specs.declared.Measured.{Measured}
-use Rattle.delta.specs.declared.Measured.TheVariants as Measured
 use Rattle.delta.proofs.Choices.{by_cond}
 use Rattle.delta.proofs.CallLaws.{inputs_read, inputs-signed}
 use Rattle.delta.proofs.LayoutLaws.{reads-laid, laid-reads}

@@ -57,7 +57,8 @@ entry-from s at e r h q =
 
 -- entry i behind the ones before it
 entries_at : (es : List Entry) (i : ℕ) → i < length es → EntriesFit es
-    → EntryFits (get_or es i no_entry) × (drop (20 * i) (laid_entries es) ≡ laid_entry (get_or es i no_entry) ++ laid_entries (drop (suc i) es))
+    → EntryFits (get_or es i no_entry)
+    × (drop (20 * i) (laid_entries es) ≡ laid_entry (get_or es i no_entry) ++ laid_entries (drop (suc i) es))
 unfolding laid_entries
 entries_at [] i h f = absurd (omega arith)
 entries_at (e ∷ es) zero h f = (f.0, refl)
@@ -150,7 +151,9 @@ entries-laid (suc n) r b l =
 
 module _ (s : List ℕ) (g : Signature) (b : Bytes s) (e : signature_of s ≡ Signed.Read g) where
   -- the four fields are zero
-  zeros : (eqb (field_in s 0 2) 0 ≡ true) × (eqb (field_in s 2 2) 0 ≡ true) × (eqb (field_in s 4 2) 0 ≡ true) × (eqb (field_in s 6 2) 0 ≡ true)
+  zeros :
+      (eqb (field_in s 0 2) 0 ≡ true) × (eqb (field_in s 2 2) 0 ≡ true) × (eqb (field_in s 4 2) 0 ≡ true)
+      × (eqb (field_in s 6 2) 0 ≡ true)
   unfolding plain_in
   zeros =
       let c = both_test _ (eqb (field_in s 6 2) 0) (signed-read s e).plain in

@@ -19,12 +19,10 @@ use Rattle.delta.specs.Read.{limit, Read, operation_of, Delta, delta_from, delta
 use Rattle.delta.specs.Patch.{within, range_of, inside, piece_of, sound, hashes, joined, hash_from, Result, result_of}
 use Rattle.delta.specs.Walk.{tally, span_of, put_of, copied_of, hashed_of, turn_of, Makes}
 use Rattle.delta.specs.declared.Checksum.{Checksum}
-use Rattle.delta.specs.declared.Checksum.TheVariants as Checksum
 use Rattle.delta.specs.declared.Step.{Step}
 use Rattle.delta.specs.declared.spans.Span.TheVariants as Span
 use Rattle.delta.specs.declared.walk.Tally.{Tally}
 use Rattle.delta.specs.declared.walk.Turn.{Turn}
-use Rattle.delta.specs.declared.walk.Turn.TheVariants as Turn
 use Rattle.delta.specs.declared.walk.Walked.TheVariants as Walked
 use Rattle.delta.proofs.Choices.{by_cond}
 use Rattle.delta.proofs.FieldLaws.{part-within, part_small}
@@ -212,7 +210,8 @@ module _ (size : ℕ) (old d out₀ : List ℕ) where
             → result_of size old d
             ≡ prefixed w.before
             (cond u (prefixed (range_of size old i n) (result_from size old next t.checksum (delta_of (drop next d)))) Result.damaged)
-            → TurnedBy t (copied_of (cond u (Span.Of (i * size) (min ((n + 1) * size) (length old - i * size))) Span.Outside) next t old out)
+            → TurnedBy t
+            (copied_of (cond u (Span.Of (i * size) (min ((n + 1) * size) (length old - i * size))) Span.Outside) next t old out)
         by true u q =
             let p = part-range size old i n (start u) in
             let few = part_small old (i * size) (min ((n + 1) * size) (length old - i * size)) in

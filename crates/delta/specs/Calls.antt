@@ -5,12 +5,9 @@ use Rattle.octets.specs.Outcome.{Outcome, outcome}
 use Rattle.delta.specs.Read.{limit, signature_of}
 use Rattle.delta.specs.Patch.{Result, result_of}
 use Rattle.delta.specs.declared.Refusal.{Refusal}
-use Rattle.delta.specs.declared.Refusal.TheVariants as Refusal
 use Rattle.delta.specs.declared.Checksum.{Checksum}
 use Rattle.delta.specs.declared.Signed.{Signed}
-use Rattle.delta.specs.declared.Signed.TheVariants as Signed
 use Rattle.delta.specs.declared.Measured.{Measured}
-use Rattle.delta.specs.declared.Measured.TheVariants as Measured
 
 abbrev pub refusal_number : Refusal → ℕ
 refusal_number Refusal.TooLong = 17

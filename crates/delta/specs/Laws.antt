@@ -10,18 +10,14 @@ use Rattle.delta.specs.Patch.{range_of, sound, hashes, joined, hash_from}
 use Rattle.delta.specs.Calls.{measure_of, apply_of}
 use Rattle.delta.specs.Weak.{weak_of, rolled_of}
 use Rattle.delta.specs.declared.Refusal.{Refusal}
-use Rattle.delta.specs.declared.Refusal.TheVariants as Refusal
 use Rattle.delta.specs.declared.Entry.{Entry}
 use Rattle.delta.specs.declared.Signature.{Signature}
 use Rattle.delta.specs.declared.Signed.{Signed}
-use Rattle.delta.specs.declared.Signed.TheVariants as Signed
 use Rattle.delta.specs.declared.Found.{Found}
-use Rattle.delta.specs.declared.Found.TheVariants as Found
 use Rattle.delta.specs.declared.Operation.TheVariants as Operation
 use Rattle.delta.specs.declared.Step.{Step}
 use Rattle.delta.specs.declared.Checksum.{Checksum}
 use Rattle.delta.specs.declared.Measured.{Measured}
-use Rattle.delta.specs.declared.Measured.TheVariants as Measured
 
 -- ---- numbers: once over the width, there and back
 pub record Numbers : Type 0 where
@@ -125,7 +121,8 @@ abbrev pub Applies : Patcher → Type 0
 Applies p =
     (s old d out : List ℕ) (size : ℕ) (es : List Entry) (os : List Op) → Taken s old d size es os → length (new_file size old os) ≤ limit
     → length (new_file size old os) ≤ length out
-    → p s old d out ≡ outcome (Measured.Length (length (new_file size old os)) (hash_from 0 (listed os))) (sets out 0 (new_file size old os))
+    → p s old d out
+    ≡ outcome (Measured.Length (length (new_file size old os)) (hash_from 0 (listed os))) (sets out 0 (new_file size old os))
 
 -- and nothing else is
 pub record Made (s old d out : List ℕ) (n : ℕ) (h : Checksum) : Type 0 where

@@ -3,7 +3,6 @@ use Rattle.std.specs.Prelude.{ℕ, zero, suc, ◌+◌, ◌*◌, Bool, true, fals
 use Rattle.delta.specs.Layout.{Op, laid}
 use Rattle.delta.specs.Read.{Delta, delta_of}
 use Rattle.delta.specs.declared.Checksum.{Checksum}
-use Rattle.delta.specs.declared.Checksum.TheVariants as Checksum
 
 -- ---- blocks: "the position of a block in the file is: index * block_size"
 -- "A block that starts at or past the old file's end" is refused

@@ -1,19 +1,15 @@
 -- What a signature and a delta say.
-use Rattle.std.specs.Prelude.{ℕ, zero, suc, ◌+◌, ◌-◌, ◌*◌, ◌/◌, ◌%◌, Bool, cond, ◌&&◌, List, [], ◌∷◌, length, take, drop, get_or, leb, ltb, eqb}
+use Rattle.std.specs.Prelude.{ℕ, zero, suc, ◌+◌, ◌-◌, ◌*◌, ◌/◌, ◌%◌, Bool, cond, ◌&&◌, leb, ltb, eqb}
+use Rattle.std.specs.Prelude.{List, [], ◌∷◌, length, take, drop, get_or}
 use Rattle.octets.specs.Little.{number}
 use Rattle.delta.specs.Layout.{Op}
 use Rattle.delta.specs.declared.Refusal.{Refusal}
-use Rattle.delta.specs.declared.Refusal.TheVariants as Refusal
 use Rattle.delta.specs.declared.Entry.{Entry}
 use Rattle.delta.specs.declared.Signed.{Signed}
-use Rattle.delta.specs.declared.Signed.TheVariants as Signed
 use Rattle.delta.specs.declared.Found.{Found}
-use Rattle.delta.specs.declared.Found.TheVariants as Found
 use Rattle.delta.specs.declared.Operation.{Operation}
-use Rattle.delta.specs.declared.Operation.TheVariants as Operation
 use Rattle.delta.specs.declared.Step.{Step}
 use Rattle.delta.specs.declared.operations.Payload.{Payload}
-use Rattle.delta.specs.declared.operations.Payload.TheVariants as Payload
 
 -- "An input over 65,536 bytes gets 17"
 abbrev pub limit : ℕ

@@ -7,18 +7,12 @@ use Rattle.delta.specs.Read.{limit}
 use Rattle.delta.specs.Patch.{Result}
 use Rattle.delta.specs.declared.Refusal.TheVariants as Refusal
 use Rattle.delta.specs.declared.Checksum.{Checksum}
-use Rattle.delta.specs.declared.Checksum.TheVariants as Checksum
 use Rattle.delta.specs.declared.Measured.{Measured}
-use Rattle.delta.specs.declared.Measured.TheVariants as Measured
 use Rattle.delta.specs.declared.Operation.{Operation}
-use Rattle.delta.specs.declared.Operation.TheVariants as Operation
 use Rattle.delta.specs.declared.spans.Span.{Span}
-use Rattle.delta.specs.declared.spans.Span.TheVariants as Span
 use Rattle.delta.specs.declared.walk.Tally.{Tally}
 use Rattle.delta.specs.declared.walk.Turn.{Turn}
-use Rattle.delta.specs.declared.walk.Turn.TheVariants as Turn
 use Rattle.delta.specs.declared.walk.Walked.{Walked}
-use Rattle.delta.specs.declared.walk.Walked.TheVariants as Walked
 
 -- ---- blocks
 -- a block and the `more` ones after it, in an old file of n bytes

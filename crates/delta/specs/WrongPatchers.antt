@@ -11,10 +11,8 @@ use Rattle.delta.specs.declared.Refusal.TheVariants as Refusal
 use Rattle.delta.specs.declared.Checksum.TheVariants as Checksum
 use Rattle.delta.specs.declared.Signed.TheVariants as Signed
 use Rattle.delta.specs.declared.Operation.{Operation}
-use Rattle.delta.specs.declared.Operation.TheVariants as Operation
 use Rattle.delta.specs.declared.Step.{Step}
 use Rattle.delta.specs.declared.Measured.{Measured}
-use Rattle.delta.specs.declared.Measured.TheVariants as Measured
 
 -- ---- readers
 -- what is damaged is the end

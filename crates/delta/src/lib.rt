@@ -2,6 +2,8 @@
 // and a delta say, a delta applied to a lent old file, and the weak sum.
 //
 // Not here: making signatures and deltas, and strong hashes. A delta's hash is told and not compared.
+#![tactic(auto)]
+
 mod fields;
 mod headers;
 mod operations;
@@ -23,7 +25,7 @@ pub use weak::{roll, weak_sum};
 
 // Why a call is refused: an input over the limit; bytes that are no signature or no delta of the old file;
 // too little room.
-#[derive(Drop)]
+#[derive(Clone, Copy)]
 pub enum Refusal {
     TooLong,
     Damaged,
@@ -43,27 +45,27 @@ impl Refusal {
 }
 
 // A signature's block size, and of how many blocks it has sums.
-#[derive(Drop)]
+#[derive(Clone, Copy)]
 pub struct Signature {
     pub block_size: u32,
     pub blocks: usize,
 }
 
-#[derive(Drop)]
+#[derive(Clone, Copy)]
 pub enum Signed {
     Read(Signature),
     Refused(Refusal),
 }
 
 // What a signature says of a block.
-#[derive(Drop)]
+#[derive(Clone, Copy)]
 pub struct Entry {
     pub index: u64,
     pub weak: u32,
     pub strong: u64,
 }
 
-#[derive(Drop)]
+#[derive(Clone, Copy)]
 pub enum Found {
     Block(Entry),
     Nothing,
@@ -72,7 +74,7 @@ pub enum Found {
 
 // An operation of a delta: a block's index; where the bytes of data or of a hash stand in the delta, and
 // how many they are; the index of the first block of a range, and how many more it has.
-#[derive(Drop)]
+#[derive(Clone, Copy)]
 pub enum Operation {
     End,
     Block(u64),
@@ -83,21 +85,21 @@ pub enum Operation {
 }
 
 // An operation, and the place after it; at the end, and where it is refused, its own place.
-#[derive(Drop)]
+#[derive(Clone, Copy)]
 pub struct Step {
     pub operation: Operation,
     pub next: usize,
 }
 
 // Where a delta's hash stands in it, and how many bytes it is.
-#[derive(Drop)]
+#[derive(Clone, Copy)]
 pub enum Checksum {
     None,
     At(usize, usize),
 }
 
 // How many bytes the new file has, and the hash.
-#[derive(Drop)]
+#[derive(Clone, Copy)]
 pub enum Measured {
     Length(usize, Checksum),
     Refused(Refusal),

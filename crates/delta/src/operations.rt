@@ -6,7 +6,7 @@ use crate::fields::field;
 use crate::{Measured, Operation, Refusal, Step};
 
 // Where a payload starts, how many bytes it is, and the place after it.
-#[derive(Drop)]
+#[derive(Clone, Copy)]
 pub enum Payload {
     Of(usize, usize, usize),
     CutOff,

@@ -6,7 +6,7 @@ ghost use Rattle.delta.specs.Walk.{span_of};
 use octets::size::least;
 
 // Where blocks start in the old file, and how many bytes they are together.
-#[derive(Drop)]
+#[derive(Clone, Copy)]
 pub enum Span {
     Of(usize, usize),
     Outside,

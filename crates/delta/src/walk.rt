@@ -10,21 +10,21 @@ use crate::spans::Span;
 use crate::{Checksum, Measured, Operation, Refusal, Step, operations, spans};
 
 // How far a walk has come: the place in the delta, how many bytes of the new file were made, and the hash.
-#[derive(Drop)]
+#[derive(Clone, Copy)]
 pub struct Tally {
     pub at: usize,
     pub total: usize,
     pub checksum: Checksum,
 }
 
-#[derive(Drop)]
+#[derive(Clone, Copy)]
 pub enum Turn {
     On(Tally),
     Damaged,
 }
 
 // What a whole walk tells: how many bytes the new file has, and the hash.
-#[derive(Drop)]
+#[derive(Clone, Copy)]
 pub enum Walked {
     Done(usize, Checksum),
     Damaged,
