@@ -1,6 +1,8 @@
 // The name rule for files: which bytes may be a file's name.
 //
 // Not here: whether such a file exists or may be opened; that is the console's.
+#![tactic(auto)]
+
 mod utf8;
 
 ghost use Rattle.std.specs.Prelude.{◌≡◌, ◌+◌, ◌-◌};

@@ -5,7 +5,7 @@ ghost use Rattle.pathname.specs.DueBytes.{lead_of};
 
 // What must follow: how many bytes, and the least and the greatest that the next one may be; each later
 // one is from 80 to BF. Four bytes: the byte before starts no sequence.
-#[derive(Drop)]
+#[derive(Clone, Copy)]
 struct Due(u8, u8, u8);
 
 // Whether the bytes are UTF-8. Between two sequences no byte is due.
