@@ -21,7 +21,6 @@ use Rattle.command.specs.Keys.{Kind}
 use Rattle.command.specs.Values.{Value, count, over}
 use Rattle.command.specs.Grammar.{CanonicalValue, a_word, a-string, an-integer, a-base64}
 use Rattle.command.proofs.WrittenValues.{Spelled, writable-nought}
-use Rattle.command.proofs.WrittenValues as Spelled
 
 -- ---- a canonical text is what a value is written as
 -- a value that is written as t

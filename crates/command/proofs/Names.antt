@@ -17,7 +17,6 @@ use Rattle.command.specs.Keys.{Alias, Key, key, keys, key_at, kind_at, names}
 use Rattle.command.specs.Keys as Keys
 use Rattle.command.specs.Rows.{kind_of, row_of, words_of, word_text, aliases_of}
 use Rattle.command.specs.declared.keys.Kind.{Kind}
-use Rattle.command.specs.declared.keys.Kind.TheVariants as Kind
 use Rattle.command.specs.declared.keys.Row.{Row}
 use Rattle.command.proofs.Cases.{by_test}
 

@@ -11,14 +11,11 @@ use Rattle.octets.specs.Members.{every}
 use Rattle.octets.specs.Slices.{equals}
 use Rattle.base64_codec.specs.Decode.{verdict_of, bytes_of}
 use Rattle.base64_codec.specs.declared.Fault.{Fault}
-use Rattle.base64_codec.specs.declared.Fault.TheVariants as Fault
 use Rattle.base64_codec.specs.declared.Verdict.{Verdict}
-use Rattle.base64_codec.specs.declared.Verdict.TheVariants as Verdict
 use Rattle.base64_codec.proofs.Lengths.{length_valid}
 use Rattle.decimal.specs.Read.{parse_of}
 use Rattle.decimal.specs.declared.Number.{Number}
 use Rattle.decimal.specs.declared.Parsed.{Parsed}
-use Rattle.decimal.specs.declared.Parsed.TheVariants as Parsed
 use Rattle.command.specs.Keys.{Alias, Kind, keys, place_in, kind_at}
 use Rattle.command.specs.Letters.{safe_byte}
 use Rattle.command.specs.Refusals.{refusal_number}
@@ -26,7 +23,6 @@ use Rattle.command.specs.Values.{Value, count, Got, refuses, alias_read, word_re
 use Rattle.command.specs.Values.{integer_read, base64_refusal, base64_read, value_read}
 use Rattle.command.specs.Read.{stored_for}
 use Rattle.command.specs.declared.Refusal.{Refusal}
-use Rattle.command.specs.declared.Refusal.TheVariants as Refusal
 use Rattle.command.proofs.Cases.{by_test}
 use Rattle.command.proofs.Names.{at_key}
 

@@ -10,14 +10,14 @@ use borrow.Author.Tests.{eqb-true}
 use Rattle.octets.specs.Split.{onto, split}
 use Rattle.octets.proofs.Below
 use Rattle.command.specs.Keys.{Alias, Kind, Key, keys, key_at}
-use Rattle.command.specs.Values.{Value, count}
+use Rattle.command.specs.Values.{Value, count, Got}
 use Rattle.command.specs.Meaning.{Field, blank, value_in, values_in}
 use Rattle.command.specs.Slots.{action_code, action_of, file_type_code, file_type_of, transmission_code, transmission_of}
 use Rattle.command.specs.Slots.{free, slots_of, command_of, value_at, values_at, values_of}
-use Rattle.command.specs.Read.{frees}
+use Rattle.command.specs.Read.{frees, stored_for, slot_for}
 use Rattle.command.specs.declared.Slot.{Slot}
 use Rattle.command.specs.declared.Refusal.{Refusal}
-use Rattle.command.proofs.ReadValues.{codes_end, as-word, as-string, as_bytes}
+use Rattle.command.proofs.ReadValues.{codes_end, Reads, as-word, as-string, as_bytes}
 use Rattle.command.proofs.SimulationValues.{Holds, empty, full, holds-value}
 
 -- ---- each key has one slot and one field, which H relates
@@ -49,6 +49,11 @@ module _ {H : Key → Slot → Field → Type 0} where
   each_map g (more {k} {ks} {s} {ss} {f} h e) = more (g k s f h) (each_map g e)
 
 -- ---- what a slot keeps, by its kind
+bytes-within : {v : List ℕ} {x : Value} {used : ℕ} (at from : ℕ) → Reads Kind.base64 v (Got.got x)
+    → from + length (stored_for Kind.base64 x) ≤ used
+    → let p = (slot_for Kind.base64 at from x).place in p.start + p.len ≤ used
+bytes-within at from (as_bytes o) w = w
+
 module _ {t scratch : List ℕ} {used : ℕ} {name : List ℕ} where
   pub word_slot : {s : Slot} {f : Field} {unknown : Refusal} {first : ℕ} {ws : List (List ℕ)} {aliases : List Alias}
       → 0 < codes_end (first + length ws) aliases
@@ -65,7 +70,7 @@ module _ {t scratch : List ℕ} {used : ℕ} {name : List ℕ} where
   pub bytes_slot : {s : Slot} {f : Field} → Holds t scratch used (record { name = name; kind = Kind.base64 }) s f
       → s.place.start + s.place.len ≤ used
   bytes_slot empty = omega arith
-  bytes_slot (full at from v a (as_bytes o) w e) = w
+  bytes_slot (full at from v a r w e) = bytes-within at from r w
 
 -- ---- the command of the slots
 module _ (t scratch : List ℕ) where

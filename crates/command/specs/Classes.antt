@@ -2,7 +2,6 @@
 use Rattle.std.specs.Prelude.{ℕ, suc, Bool, true, false, cond, List, [], ◌∷◌, leb, eqb}
 use Rattle.command.specs.Letters.{text_byte, key_byte, safe_byte}
 use Rattle.command.specs.declared.letters.Class.{Class}
-use Rattle.command.specs.declared.letters.Class.TheVariants as Class
 
 -- the bytes of a class
 abbrev pub byte_of : Class → ℕ → Bool

@@ -5,7 +5,6 @@ use Rattle.octets.specs.Ascii.{ascii}
 use Rattle.octets.specs.Slices.{equals}
 use Rattle.octets.specs.Split.{split}
 use Rattle.command.specs.declared.Refusal.{Refusal}
-use Rattle.command.specs.declared.Refusal.TheVariants as Refusal
 
 -- a word that is read as another one's code, and never written
 pub record Alias : Type 0 where

@@ -12,7 +12,6 @@ use Rattle.command.specs.declared.Place.{Place}
 use Rattle.command.specs.declared.Slot.{Slot}
 use Rattle.command.specs.declared.Command.{Command}
 use Rattle.command.specs.declared.Reading.{Reading}
-use Rattle.command.specs.declared.Reading.TheVariants as Reading
 
 -- the slots so far, the scratch, and how many of its bytes are used
 pub record Reader : Type 0 where

@@ -1,7 +1,6 @@
 -- The refusals of a text and of a command, by their numbers.
 use Rattle.std.specs.Prelude.{ℕ}
 use Rattle.command.specs.declared.Refusal.{Refusal}
-use Rattle.command.specs.declared.Refusal.TheVariants as Refusal
 
 -- the number of a refusal: document 01's table, with document 02's for what is wrong with a value
 abbrev pub refusal_number : Refusal → ℕ

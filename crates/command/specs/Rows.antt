@@ -5,7 +5,6 @@ use Rattle.octets.specs.Split.{join}
 use Rattle.command.specs.Keys.{Alias, Key}
 use Rattle.command.specs.Keys as Keys
 use Rattle.command.specs.declared.keys.Kind.{Kind}
-use Rattle.command.specs.declared.keys.Kind.TheVariants as Kind
 use Rattle.command.specs.declared.keys.Row.{Row}
 
 -- a kind: of words, the refusal of an unknown one, the first one's code and their number

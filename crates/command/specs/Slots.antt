@@ -4,11 +4,8 @@ use Rattle.decimal.specs.declared.Number.{Number}
 use Rattle.command.specs.Keys.{Kind, Key, keys}
 use Rattle.command.specs.Values.{Value, count}
 use Rattle.command.specs.declared.Action.{Action}
-use Rattle.command.specs.declared.Action.TheVariants as Action
 use Rattle.command.specs.declared.FileType.{FileType}
-use Rattle.command.specs.declared.FileType.TheVariants as FileType
 use Rattle.command.specs.declared.Transmission.{Transmission}
-use Rattle.command.specs.declared.Transmission.TheVariants as Transmission
 use Rattle.command.specs.declared.Place.{Place}
 use Rattle.command.specs.declared.Slot.{Slot}
 use Rattle.command.specs.declared.Command.{Command}

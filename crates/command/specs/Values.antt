@@ -5,9 +5,7 @@ use Rattle.octets.specs.Slices.{equals}
 use Rattle.base64_codec.specs.Decode.{verdict_of, bytes_of}
 use Rattle.base64_codec.specs.Encode as Base64
 use Rattle.base64_codec.specs.declared.Fault.{Fault}
-use Rattle.base64_codec.specs.declared.Fault.TheVariants as Fault
 use Rattle.base64_codec.specs.declared.Verdict.{Verdict}
-use Rattle.base64_codec.specs.declared.Verdict.TheVariants as Verdict
 use Rattle.decimal.specs.Read.{parse_of}
 use Rattle.decimal.specs.Write as Decimal
 use Rattle.decimal.specs.declared.Number.{Number}
@@ -17,7 +15,6 @@ use Rattle.command.specs.Refusals.{refusal_number}
 use Rattle.command.specs.Keys.{Alias, Kind, place_in}
 use Rattle.command.specs.Letters.{safe_byte, is_byte}
 use Rattle.command.specs.declared.Refusal.{Refusal}
-use Rattle.command.specs.declared.Refusal.TheVariants as Refusal
 
 -- a value: a number (a word's code is one) or bytes; or what a place that passes its buffer's end gives, which is of no kind
 pub data Value : Type 0 where

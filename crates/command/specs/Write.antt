@@ -9,7 +9,6 @@ use Rattle.command.specs.Meaning.{missing}
 use Rattle.command.specs.Canonical.{canonical}
 use Rattle.command.specs.Refusals.{refusal_number}
 use Rattle.command.specs.declared.Written.{Written}
-use Rattle.command.specs.declared.Written.TheVariants as Written
 
 -- nothing at fault, or a refusal
 pub data Checked : Type 0 where

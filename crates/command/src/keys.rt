@@ -11,7 +11,7 @@ use crate::words::{part, place_in};
 
 // The kinds of values. Of words, the refusal of an unknown one, the code of the first and how many
 // there are; of a safe string, whether it is at most 32 bytes.
-#[derive(Drop)]
+#[derive(Clone, Copy)]
 pub enum Kind {
     Integer,
     Base64,
@@ -20,7 +20,7 @@ pub enum Kind {
 }
 
 // A key's name, its length, and its kind. Blanks follow a name that is shorter.
-#[derive(Drop)]
+#[derive(Clone, Copy)]
 pub struct Row(pub [u8; 3], pub usize, pub Kind);
 
 // How many keys there are.

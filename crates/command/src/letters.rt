@@ -4,7 +4,7 @@ ghost use Rattle.octets.specs.Members.{every};
 ghost use Rattle.command.specs.Classes.{byte_of, in_ranges, run};
 
 // The bytes of a text, of a key, and of a safe string.
-#[derive(Drop)]
+#[derive(Clone, Copy)]
 pub enum Class {
     Text,
     Key,

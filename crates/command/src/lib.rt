@@ -4,6 +4,8 @@
 // (proofs/), and what reading and writing share: the table of keys (`keys`), the test of bytes (`letters`)
 // and the words of a list (`words`). The functions that read and write are in `command_reader` and
 // `command_writer`.
+#![tactic(auto)]
+
 pub mod keys;
 pub mod letters;
 pub mod words;
@@ -15,7 +17,7 @@ ghost use Rattle.command.specs.Slots as Slots;
 use decimal::Number;
 
 // "action": none is the case of a command without one, which only a writer can meet.
-#[derive(Drop)]
+#[derive(Clone, Copy)]
 pub enum Action {
     None,
     Send,
@@ -55,7 +57,7 @@ pub fn lacks(action: Action, id: Place) -> bool
 }
 
 // "file type"
-#[derive(Drop)]
+#[derive(Clone, Copy)]
 pub enum FileType {
     Regular,
     Directory,
@@ -64,14 +66,14 @@ pub enum FileType {
 }
 
 // "transmission"
-#[derive(Drop)]
+#[derive(Clone, Copy)]
 pub enum Transmission {
     Simple,
     Rsync,
 }
 
 // Where bytes stand in a buffer.
-#[derive(Drop)]
+#[derive(Clone, Copy)]
 pub struct Place {
     pub start: usize,
     pub len: usize,
@@ -85,7 +87,7 @@ pub const ZERO: Number = Number {
 
 // A command. id, file_id, bypass and parent stand in the text; name, status and data, decoded,
 // in the scratch. Compression has one word only, so that it holds nothing.
-#[derive(Drop)]
+#[derive(Clone, Copy)]
 pub struct Command {
     pub action: Action,
     pub file_type: FileType,
@@ -132,7 +134,7 @@ impl Place {
 }
 
 // Why a text is not read, or a command not written.
-#[derive(Drop)]
+#[derive(Clone, Copy)]
 pub enum Refusal {
     TextTooLong,
     BadByte,
@@ -175,14 +177,14 @@ impl Refusal {
 }
 
 // What reading a text answers.
-#[derive(Drop)]
+#[derive(Clone, Copy)]
 pub enum Reading {
     Read(Command),
     Refused(Refusal),
 }
 
 // What writing a command answers: the length of its text.
-#[derive(Drop)]
+#[derive(Clone, Copy)]
 pub enum Written {
     Length(usize),
     Refused(Refusal),
@@ -190,7 +192,7 @@ pub enum Written {
 
 // One field of a command, whichever its key: whether it has stood, a word's code or an integer,
 // and a string's place. What a key's kind does not use is zero.
-#[derive(Drop)]
+#[derive(Clone, Copy)]
 pub struct Slot {
     pub stood: bool,
     pub number: Number,
