@@ -18,7 +18,6 @@ use Rattle.frames.specs.Stream.{text_limit, stream}
 use Rattle.frames.specs.Calls.{scan_of, text_of}
 use Rattle.frames.specs.Follows.{Follows, told_of}
 use Rattle.frames.specs.declared.Report.{Report}
-use Rattle.frames.specs.declared.Report.TheVariants as Report
 use Rattle.frames.proofs.CallLaws.{call-report}
 use Rattle.frames.proofs.Follows.{call-follows}
 use Rattle.command.specs.Read.{scratch_room}
@@ -39,7 +38,6 @@ use Rattle.sending.specs.declared.Stage.TheVariants as Stage
 use Rattle.sending.specs.declared.Transfer.{Transfer}
 use Rattle.sending.specs.declared.Sender.{Sender}
 use Rattle.sending.specs.declared.Writing.{Writing}
-use Rattle.sending.specs.declared.Writing.TheVariants as Writing
 use Rattle.sending.specs.declared.Heeded.{Heeded}
 use Rattle.sending.proofs.Ours.{step, Lent, given}
 use Rattle.sending.proofs.EveryCall.{Inv, good}

@@ -12,7 +12,6 @@ use Rattle.command.specs.declared.Place.{Place}
 use Rattle.command.specs.declared.Command.{Command}
 use Rattle.protocol.specs.Sessions.{string_in, id_in, file_id_in}
 use Rattle.protocol.specs.declared.Found.{Found}
-use Rattle.protocol.specs.declared.Found.TheVariants as Found
 use Rattle.protocol.proofs.Laws.{text-taken}
 use Rattle.protocol.proofs.CutsReading.{SameReading, refused, read}
 use Rattle.sending.specs.Transfers.{file_at, find_file, is_waiting, closed_stage, with_stage, put_file, moved}
@@ -23,10 +22,8 @@ use Rattle.sending.specs.Sayings.{saying}
 use Rattle.sending.specs.declared.Stage.TheVariants as Stage
 use Rattle.sending.specs.declared.Transfer.{Transfer}
 use Rattle.sending.specs.declared.News.{News}
-use Rattle.sending.specs.declared.News.TheVariants as News
 use Rattle.sending.specs.declared.Heeded.{Heeded}
 use Rattle.sending.specs.declared.Word.{Word}
-use Rattle.sending.specs.declared.Word.TheVariants as Word
 use Rattle.sending.proofs.Hears.{or_left}
 
 -- no refusal with 9, and the same with two scratches that hold the same at the place p

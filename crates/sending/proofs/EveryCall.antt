@@ -26,7 +26,6 @@ use Rattle.protocol.specs.Table.{file_room}
 use Rattle.protocol.specs.Written.{piece_values}
 use Rattle.protocol.specs.Files.{part_limit}
 use Rattle.protocol.specs.declared.Found.{Found}
-use Rattle.protocol.specs.declared.Found.TheVariants as Found
 use Rattle.protocol.proofs.Laws.{no_way}
 use Rattle.sending.specs.Transfers.{file_at, current_file, id_of, file_id_of, find_file, is_fresh, is_open, is_sending, with_stage}
 use Rattle.sending.specs.Transfers.{asked, added}

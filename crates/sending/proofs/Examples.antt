@@ -21,8 +21,8 @@ unfolding word_of session_heed ok_heed file_heed found_heed status_heed is_ours 
 heeding = tt
 
 pub examples-run : AllRun examples
-unfolding computing writing heeding grown writes guarded send_of long_refusal file_writes file_of piece_of finish_of report_heed scanned_hear
-    hear_of
+unfolding computing writing heeding grown writes guarded send_of long_refusal file_writes file_of piece_of finish_of report_heed
+    scanned_hear hear_of
 examples-run = (
   (refl, refl, refl),
   (

@@ -7,7 +7,6 @@ use native.Mathlib.Omega.{arith}
 use lib.ListN.{length, get_or, set}
 use Rattle.protocol.specs.Table.{first, here_or}
 use Rattle.protocol.specs.declared.Found.{Found}
-use Rattle.protocol.specs.declared.Found.TheVariants as Found
 
 module _ {A : Type 0} (p : A → Bool) (d : A) where
   -- a member that passes as the one before it

@@ -11,14 +11,12 @@ use Rattle.octets.specs.Slices.{equals}
 use Rattle.frames.specs.Stream.{Told}
 use Rattle.frames.specs.Follows.{told_of}
 use Rattle.frames.specs.declared.Report.{Report}
-use Rattle.frames.specs.declared.Report.TheVariants as Report
 use Rattle.command.specs.Values.{Value}
 use Rattle.command.specs.Meaning.{Meaning, meaning_of, action_code, id_of, file_id_of, size_of, status_of}
 use Rattle.command.specs.Slots.{slots_of, values_of}
 use Rattle.command.specs.Slots as Slots
 use Rattle.command.specs.Read.{scratch_room, Answer, read_of}
 use Rattle.command.specs.declared.Action.{Action}
-use Rattle.command.specs.declared.Action.TheVariants as Action
 use Rattle.command.specs.declared.Command.{Command}
 use Rattle.command.proofs.Simulation.{read-means}
 use Rattle.protocol.specs.Readings.{read_mark, told_marks}
@@ -35,12 +33,10 @@ use Rattle.sending.specs.Story.{Mark, is_unheard}
 use Rattle.sending.specs.Telling.{session_in, equals_some, is_reply, for_session, for_file, allowed_in}
 use Rattle.sending.specs.Every.{saying_of}
 use Rattle.sending.specs.declared.Stage.{Stage}
-use Rattle.sending.specs.declared.Stage.TheVariants as Stage
 use Rattle.sending.specs.declared.Transfer.{Transfer}
 use Rattle.sending.specs.declared.News.TheVariants as News
 use Rattle.sending.specs.declared.Heeded.{Heeded}
 use Rattle.sending.specs.declared.Word.{Word}
-use Rattle.sending.specs.declared.Word.TheVariants as Word
 use Rattle.sending.proofs.Kept.{SessionOK, Kept}
 use Rattle.sending.proofs.KeptWrites.{allowed-as}
 use Rattle.sending.proofs.KeptReads.{Marked, unmoved}

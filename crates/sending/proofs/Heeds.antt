@@ -1,6 +1,6 @@
 -- A status of the session that is read: what is kept, and what is told of it.
 use Prim.Native.Nat.{ℕ, ◌<◌}
-use mathlib.Core.Path.{◌≡◌, refl, sym, ◌∙◌}
+use mathlib.Core.Path.{◌≡◌, refl, sym, ◌∙◌, subst}
 use mathlib.Core.Bool.{Bool, true, false, not, cond, ◌&&◌, ◌||◌, and-false, or-true}
 use mathlib.Core.Option.{Option, none-ne-some}
 use mathlib.Core.List.{List, ◌∷◌}
@@ -14,10 +14,10 @@ use Rattle.command.specs.Meaning.{action_code, id_of, file_id_of, size_of, statu
 use Rattle.command.specs.declared.Place.{Place}
 use Rattle.protocol.specs.Sessions.{string_in}
 use Rattle.protocol.specs.declared.Found.{Found}
-use Rattle.protocol.specs.declared.Found.TheVariants as Found
 use Rattle.protocol.proofs.Laws.{no_way, first-at}
 use Rattle.sending.specs.Transfers as Transfers
-use Rattle.sending.specs.Transfers.{free_file, is_known, has_file_id, find_file, is_waiting, is_sending, closed_stage, with_stage, sent_limit}
+use Rattle.sending.specs.Transfers.{free_file, is_known, has_file_id, find_file, is_waiting, is_sending, closed_stage, with_stage}
+use Rattle.sending.specs.Transfers.{sent_limit}
 use Rattle.sending.specs.Heeding.{heeded, word_of, session_heed, is_count, ok_heed, stop_heed, file_heed, found_heed, status_heed}
 use Rattle.sending.specs.Story.{Mark}
 use Rattle.sending.specs.Telling.{session_in, pending_in, equals_some, sum_in, is_word, is_reply, for_session, for_file}
@@ -25,14 +25,11 @@ use Rattle.sending.specs.Telling.{some_read, allowed_in, stopped_in, file_stoppe
 use Rattle.sending.specs.Telling.{agrees_for, agreed_in}
 use Rattle.sending.specs.Every.{stage_by, stage_in}
 use Rattle.sending.specs.declared.Stage.{Stage}
-use Rattle.sending.specs.declared.Stage.TheVariants as Stage
 use Rattle.sending.specs.declared.FileStage.{FileStage}
-use Rattle.sending.specs.declared.FileStage.TheVariants as FileStage
 use Rattle.sending.specs.declared.SentFile.{SentFile}
 use Rattle.sending.specs.declared.Transfer.{Transfer}
 use Rattle.sending.specs.declared.News.TheVariants as News
 use Rattle.sending.specs.declared.Word.{Word}
-use Rattle.sending.specs.declared.Word.TheVariants as Word
 use Rattle.sending.proofs.Kept.{Counted, Unknown, Says, SessionOK, found, Kept}
 use Rattle.sending.proofs.KeptWrites.{same-file, AllowedAs, allowed-as}
 use Rattle.sending.proofs.KeptReads.{Marked, unmoved, kept_put}
@@ -48,7 +45,8 @@ known-session id x m Stage.Finished o e = o.session
 known-session id x m Stage.Stopped o e = o.0
 
 -- it waits for its OK; or it has one, or is stopped
-waiting-says : (id : List ℕ) (m : List Mark) (g : Stage) → SessionOK id m g → is_waiting g ≡ true → Says m (Option.some id) false false false
+waiting-says : (id : List ℕ) (m : List Mark) (g : Stage) → SessionOK id m g → is_waiting g ≡ true
+    → Says m (Option.some id) false false false
 waiting-says id m Stage.Fresh o e = no_way (sym e)
 waiting-says id m Stage.Waiting o e = o
 waiting-says id m Stage.Open o e = no_way (sym e)
@@ -236,16 +234,19 @@ module _ {t : Transfer} {m : List Mark} (c : List Value) (k : Kept t m) (p : Pla
           closes : is_count (size_of c) (sum_in (file_id_of c) m) ≡ true → (j : List ℕ) → found t.files j ≡ Found.At i
               → closed_stage file.stage ≡ stage_in j (Mark.read c ∷ m)
           closes r j a =
-              let z = same_id j a in
-              rw (← z, quiet (file_id_of c), equals_refl (file_id_of c), of-file Word.Ok Word.Ok q, r, known.staged)
-              (closed-by (file_stopped_in (file_id_of c) m) (agreed_in (file_id_of c) m) (equals_some (file_id_of c) (pending_in m)))
+              let here : closed_stage file.stage ≡ stage_in (file_id_of c) (Mark.read c ∷ m) =
+              rw (quiet (file_id_of c), equals_refl (file_id_of c), of-file Word.Ok Word.Ok q, r, known.staged)
+              (closed-by (file_stopped_in (file_id_of c) m) (agreed_in (file_id_of c) m) (equals_some (file_id_of c) (pending_in m))) in
+              subst (λ (k : List ℕ). closed_stage file.stage ≡ stage_in k (Mark.read c ∷ m)) (same_id j a) here
 
           -- one that differs closes none
           differs : is_count (size_of c) (sum_in (file_id_of c) m) ≡ false → (j : List ℕ) → agrees_for j c m ≡ false
           differs r j = by (equals (file_id_of c) j) refl
             where
               by : (b : Bool) → equals (file_id_of c) j ≡ b → agrees_for j c m ≡ false
-              by true x = rw (← equals-sound (file_id_of c) j x, r) (all_false (equals (file_id_of c) (file_id_of c)) (for_file Word.Ok c m))
+              by true x =
+                  rw (← equals-sound (file_id_of c) j x, r)
+                  (all_false (equals (file_id_of c) (file_id_of c)) (for_file Word.Ok c m))
               by false x = rw x
 
           go : (b : Bool) → is_count (size_of c) file.sent ≡ b

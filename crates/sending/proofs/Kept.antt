@@ -1,5 +1,5 @@
 -- What the sender's session keeps of its story.
-use Prim.Native.Nat.{ℕ, zero, suc, ◌-◌, ◌≤◌, min}
+use Prim.Native.Nat.{ℕ, zero, suc, ◌≤◌, min}
 use mathlib.Core.Path.{◌≡◌, refl}
 use mathlib.Core.Bool.{Bool, true, false, not, ◌&&◌}
 use mathlib.Core.Option.{Option}
@@ -10,7 +10,6 @@ use Rattle.octets.specs.Members.{every}
 use Rattle.command.specs.Letters.{safe_byte}
 use Rattle.protocol.specs.Table.{file_room, id_room, first}
 use Rattle.protocol.specs.declared.Found.{Found}
-use Rattle.protocol.specs.declared.Found.TheVariants as Found
 use Rattle.protocol.proofs.Laws.{replicate-each}
 use Rattle.sending.specs.Transfers.{free_file, no_transfer, id_of, file_id_of, is_known, has_file_id, is_sending, sent_limit}
 use Rattle.sending.specs.Story.{Mark}
@@ -18,7 +17,6 @@ use Rattle.sending.specs.Telling.{session_in, pending_in, finished_in, files_in,
 use Rattle.sending.specs.Telling.{some_read, allowed_in, stopped_in, file_stopped_in, agreed_in}
 use Rattle.sending.specs.Every.{stage_in}
 use Rattle.sending.specs.declared.Stage.{Stage}
-use Rattle.sending.specs.declared.Stage.TheVariants as Stage
 use Rattle.sending.specs.declared.SentFile.{SentFile}
 use Rattle.sending.specs.declared.Transfer.{Transfer}
 

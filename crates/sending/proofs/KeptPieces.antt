@@ -12,7 +12,6 @@ use Rattle.octets.specs.Slices.{equals}
 use Rattle.octets.proofs.Below.{both_test}
 use Rattle.octets.proofs.Compare.{equals_refl, equals-sound}
 use Rattle.protocol.specs.declared.Found.{Found}
-use Rattle.protocol.specs.declared.Found.TheVariants as Found
 use Rattle.protocol.proofs.Laws.{no_way, first-at}
 use Rattle.sending.specs.Transfers.{free_file, current_place, id_of, file_id_of, is_known, has_file_id}
 use Rattle.sending.specs.Transfers.{is_sending, moved, sent_limit, grown, piece_stage, added}
@@ -126,7 +125,8 @@ module _ {t : Transfer} {m : List Mark} (b : List ℕ) (last : Bool) (k : Kept t
       go (yes z) =
           let p = first-at (has_file_id j) free_file fs i e in
           let q : has_file_id j file ≡ true = rw z at p.1 in
-          let w : file_id_of file ≡ j = equals-sound (file_id_of file) j (both_test (is_known file.stage) (equals (file_id_of file) j) q).1 in
+          let w : file_id_of file ≡ j =
+          equals-sound (file_id_of file) j (both_test (is_known file.stage) (equals (file_id_of file) j) q).1 in
           let s : sum_in j (Mark.pieced b last ∷ m) ≡ length b + sum_in j m = rw (pending, w, equals_refl j) in
           let v : Counted m j c file = rw z at u in
           let old : file.sent ≡ min (sum_in j m) sent_limit = v.counted in

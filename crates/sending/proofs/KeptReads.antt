@@ -8,7 +8,6 @@ use lib.ListN.{length, get_or, set, length-set}
 use lib.Seq.{get_or-set_same, get_or-set_other}
 use Rattle.command.specs.Values.{Value}
 use Rattle.protocol.specs.declared.Found.{Found}
-use Rattle.protocol.specs.declared.Found.TheVariants as Found
 use Rattle.sending.specs.Transfers as Transfers
 use Rattle.sending.specs.Transfers.{free_file, is_known, has_file_id, is_sending, put_file, moved}
 use Rattle.sending.specs.Sayings.{saying}
@@ -20,7 +19,6 @@ use Rattle.sending.specs.declared.SentFile.{SentFile}
 use Rattle.sending.specs.declared.Transfer.{Transfer}
 use Rattle.sending.specs.declared.Heeded.{Heeded}
 use Rattle.sending.specs.declared.Word.{Word}
-use Rattle.sending.specs.declared.Word.TheVariants as Word
 use Rattle.sending.proofs.Firsts.{first-same}
 use Rattle.sending.proofs.Kept.{is_sending_for, Counted, FileOK, SessionOK, found, CurrentOK, Kept}
 use Rattle.sending.proofs.KeptWrites.{found-same, not_found, same-file, AllowedAs, same-session}

@@ -14,7 +14,6 @@ use Rattle.octets.specs.Members.{every}
 use Rattle.command.specs.Letters.{safe_byte}
 use Rattle.protocol.specs.Table.{file_room, id_room, padded}
 use Rattle.protocol.specs.declared.Found.{Found}
-use Rattle.protocol.specs.declared.Found.TheVariants as Found
 use Rattle.protocol.proofs.Laws.{no_way, first-at, padded-id}
 use Rattle.sending.specs.Transfers.{free_file, id_of, file_id_of, is_known, has_file_id}
 use Rattle.sending.specs.Transfers.{is_fresh, is_open, with_stage, asked, begun}
@@ -23,7 +22,6 @@ use Rattle.sending.specs.Telling.{session_in, pending_in, finished_in, files_in,
 use Rattle.sending.specs.Telling.{equals_some, agreed_in, sending_in}
 use Rattle.sending.specs.Every.{stage_by}
 use Rattle.sending.specs.declared.Stage.{Stage}
-use Rattle.sending.specs.declared.Stage.TheVariants as Stage
 use Rattle.sending.specs.declared.FileStage.TheVariants as FileStage
 use Rattle.sending.specs.declared.SentFile.{SentFile}
 use Rattle.sending.specs.declared.Transfer.{Transfer}

@@ -10,7 +10,6 @@ use Rattle.octets.specs.Slices.{equals}
 use Rattle.octets.proofs.Compare.{equals_refl, equals-sound}
 use Rattle.protocol.specs.Table.{file_room}
 use Rattle.protocol.specs.declared.Found.{Found}
-use Rattle.protocol.specs.declared.Found.TheVariants as Found
 use Rattle.protocol.proofs.Laws.{no_way}
 use Rattle.sending.specs.Transfers.{file_at, current_place, current_file, id_of, file_id_of, find_file, is_known}
 use Rattle.sending.specs.Transfers.{is_fresh, is_open, is_sending}
@@ -19,9 +18,7 @@ use Rattle.sending.specs.Story.{Mark}
 use Rattle.sending.specs.Telling.{session_in, pending_in, files_in, equals_some, is_among, allowed_in, finished_in}
 use Rattle.sending.specs.Telling.{file_stopped_in, is_unsent, open_in, goes_on, sending_in, idle_in, busy_in, taken_in}
 use Rattle.sending.specs.declared.Stage.{Stage}
-use Rattle.sending.specs.declared.Stage.TheVariants as Stage
 use Rattle.sending.specs.declared.FileStage.{FileStage}
-use Rattle.sending.specs.declared.FileStage.TheVariants as FileStage
 use Rattle.sending.specs.declared.Transfer.{Transfer}
 use Rattle.sending.proofs.Kept.{is_sending_for, Counted, FileOK, SessionOK, PendingOK, Kept}
 

@@ -13,7 +13,6 @@ use Rattle.frames.specs.Stream.{Told, text_limit}
 use Rattle.frames.specs.Calls.{text_of}
 use Rattle.frames.specs.Follows.{told_of}
 use Rattle.frames.specs.declared.Report.{Report}
-use Rattle.frames.specs.declared.Report.TheVariants as Report
 use Rattle.command.specs.Values.{Value}
 use Rattle.command.specs.Read.{scratch_room}
 use Rattle.command.specs.Write.{Answer}
@@ -34,7 +33,6 @@ use Rattle.sending.specs.Every.{answer_in, answer_by, Answers, told_after, sayin
 use Rattle.sending.specs.Every.{stage_in, AllShown}
 use Rattle.sending.specs.Cuts.{after}
 use Rattle.sending.specs.declared.FileStage.{FileStage}
-use Rattle.sending.specs.declared.FileStage.TheVariants as FileStage
 use Rattle.sending.specs.declared.Sender.{Sender}
 use Rattle.sending.specs.declared.Wrote.{Wrote}
 
@@ -218,12 +216,12 @@ is_right m w (Call.finish out) =
     answers_right false (idle_in k) (finish_values (or_empty (session_in k))) out (m.finishes w.sender out)
 is_right m w (Call.hear bytes carry scratch) = hears_right w bytes carry scratch (m.hears w.sender bytes carry scratch)
 
-is_right : (m : Machine) (w : World) (c : Call) → Right m w c → is_right m w c ≡ true
-is_right m w (Call.send id out) r = answers-right _ _ _ _ _ r
-is_right m w (Call.file id name size out) r = answers-right _ _ _ _ _ r
-is_right m w (Call.piece contents last out) r = answers-right _ _ _ _ _ r
-is_right m w (Call.finish out) r = answers-right _ _ _ _ _ r
-is_right m w (Call.hear bytes carry scratch) r = hears-right w bytes carry scratch _ r
+is_right_lem : (m : Machine) (w : World) (c : Call) → Right m w c → is_right m w c ≡ true
+is_right_lem m w (Call.send id out) r = answers-right _ _ _ _ _ r
+is_right_lem m w (Call.file id name size out) r = answers-right _ _ _ _ _ r
+is_right_lem m w (Call.piece contents last out) r = answers-right _ _ _ _ _ r
+is_right_lem m w (Call.finish out) r = answers-right _ _ _ _ _ r
+is_right_lem m w (Call.hear bytes carry scratch) r = hears-right w bytes carry scratch _ r
 
 -- ---- the call after these is wrong
 abbrev pub right_at : Machine → List Deed → Deed → Bool
@@ -235,7 +233,7 @@ pub record WrongAt (m : Machine) (ds : List Deed) (d : Deed) : Type 0 where
 pub wrong-at : (m : Machine) (ds : List Deed) (d : Deed) → WrongAt m ds d → EverySender m → ⊥
 wrong-at m ds d e claim =
     let w = after_all m ds in
-    no_way (sym (is_right m w (call_of w d) (right-at m ds d claim)) ∙ e.wrong)
+    no_way (sym (is_right_lem m w (call_of w d) (right-at m ds d claim)) ∙ e.wrong)
 
 -- ---- or what is shown of a file after these: its stage
 abbrev stage_code : FileStage → ℕ

@@ -18,9 +18,7 @@ use Rattle.decimal.specs.Limits.{most_digits, limit}
 use Rattle.decimal.specs.Read.{digits_of, signed, ranged_of, digits_ranged, magnitude_of, parse_of}
 use Rattle.decimal.specs.declared.Number.{Number}
 use Rattle.decimal.specs.declared.reader.Run.{Run}
-use Rattle.decimal.specs.declared.reader.Run.TheVariants as Run
 use Rattle.decimal.specs.declared.Parsed.{Parsed}
-use Rattle.decimal.specs.declared.Parsed.TheVariants as Parsed
 use Rattle.command.specs.Keys.{Kind, Key, keys, kind_at, number_of}
 use Rattle.command.specs.Letters.{text_byte}
 use Rattle.command.specs.Values.{Value, Got, absent, integer_read, value_read}
@@ -168,7 +166,8 @@ pub size_small : (t : List ℕ) (d : List Value) → meaning_of t ≡ Meaning.co
 unfolding meaning_of
 size_small t d e = go (text_read meant t (blank keys)) (text-on t) e
   where
-    by : (b : Bool) (v : List Value) → (size_of v).magnitude < sent_limit → cond b (Meaning.refused 7) (Meaning.command v) ≡ Meaning.command d
+    by : (b : Bool) (v : List Value) → (size_of v).magnitude < sent_limit
+        → cond b (Meaning.refused 7) (Meaning.command v) ≡ Meaning.command d
         → (size_of d).magnitude < sent_limit
     by true v h q = let z : ◌≡◌ {A = ℕ} 0 1 = cc in absurd (omega arith)
     by false v h q = let z : v ≡ d = cc in rw (← z) h

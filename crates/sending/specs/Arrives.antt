@@ -16,7 +16,6 @@ use Rattle.sending.specs.Exchange.{Exchange, Turn, after, begin, AtRest}
 use Rattle.sending.specs.declared.Transfer.{Transfer}
 use Rattle.sending.specs.declared.FileStage.TheVariants as FileStage
 use Rattle.sending.specs.declared.News.{News}
-use Rattle.sending.specs.declared.News.TheVariants as News
 
 -- ---- what the console's history has
 -- the commands that were read, oldest first

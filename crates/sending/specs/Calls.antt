@@ -5,7 +5,6 @@ use Rattle.octets.specs.Outcome.{Outcome, outcome}
 use Rattle.frames.specs.Stream.{is_drag_drop, text_limit}
 use Rattle.frames.specs.Calls.{refusal_number, scan_of, text_of}
 use Rattle.frames.specs.declared.Report.{Report}
-use Rattle.frames.specs.declared.Report.TheVariants as Report
 use Rattle.frames.specs.declared.Scanned.{Scanned}
 use Rattle.command.specs.Letters.{safe_byte}
 use Rattle.command.specs.Refusals as Refusals
@@ -19,7 +18,6 @@ use Rattle.protocol.specs.Table.{file_room, id_room}
 use Rattle.protocol.specs.Written.{piece_values}
 use Rattle.protocol.specs.Files.{part_limit}
 use Rattle.protocol.specs.declared.Found.{Found}
-use Rattle.protocol.specs.declared.Found.TheVariants as Found
 use Rattle.sending.specs.Transfers.{current_file, id_of, file_id_of, find_file, is_fresh}
 use Rattle.sending.specs.Transfers.{is_open, is_sending, with_stage, asked, begun, added}
 use Rattle.sending.specs.Commands.{send_values, file_values, finish_values}
@@ -30,7 +28,6 @@ use Rattle.sending.specs.declared.Sender.{Sender}
 use Rattle.sending.specs.declared.Writing.TheVariants as Writing
 use Rattle.sending.specs.declared.Wrote.{Wrote}
 use Rattle.sending.specs.declared.News.{News}
-use Rattle.sending.specs.declared.News.TheVariants as News
 use Rattle.sending.specs.declared.Listened.{Listened}
 use Rattle.sending.specs.declared.Heeded.{Heeded}
 

@@ -10,7 +10,6 @@ use Rattle.sending.specs.Sayings.{Saying, saying}
 use Rattle.sending.specs.Story.{Call, World, step, start, bytes_of}
 use Rattle.sending.specs.Every.{AllLent}
 use Rattle.sending.specs.declared.Writing.{Writing}
-use Rattle.sending.specs.declared.Writing.TheVariants as Writing
 use Rattle.sending.specs.declared.Wrote.{Wrote}
 
 -- ---- what a call gives, places apart

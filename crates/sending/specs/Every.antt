@@ -21,11 +21,9 @@ use Rattle.sending.specs.Story.{Call, World, Mark, is_unheard, marks_of, mode_af
 use Rattle.sending.specs.Telling.{session_in, pending_in, or_empty, is_unsent, idle_in, busy_in, taken_in, told_saying}
 use Rattle.sending.specs.Telling.{files_in, equals_some, is_among, place_among, sum_in, file_stopped_in, agreed_in}
 use Rattle.sending.specs.declared.FileStage.{FileStage}
-use Rattle.sending.specs.declared.FileStage.TheVariants as FileStage
 use Rattle.sending.specs.declared.SentFile.{SentFile}
 use Rattle.sending.specs.declared.Sender.{Sender}
 use Rattle.sending.specs.declared.Writing.{Writing}
-use Rattle.sending.specs.declared.Writing.TheVariants as Writing
 use Rattle.sending.specs.declared.Wrote.{Wrote}
 
 -- ---- a call that writes

@@ -11,17 +11,13 @@ use Rattle.command.specs.declared.Place.{Place}
 use Rattle.sending.specs.Transfers.{fresh_sender}
 use Rattle.sending.specs.Calls.{send_of, file_of, piece_of, finish_of, hear_of}
 use Rattle.sending.specs.declared.Stage.{Stage}
-use Rattle.sending.specs.declared.Stage.TheVariants as Stage
 use Rattle.sending.specs.declared.FileStage.{FileStage}
-use Rattle.sending.specs.declared.FileStage.TheVariants as FileStage
 use Rattle.sending.specs.declared.SentFile.{SentFile}
 use Rattle.sending.specs.declared.Transfer.{Transfer}
 use Rattle.sending.specs.declared.Sender.{Sender}
 use Rattle.sending.specs.declared.Writing.{Writing}
-use Rattle.sending.specs.declared.Writing.TheVariants as Writing
 use Rattle.sending.specs.declared.Wrote.{Wrote}
 use Rattle.sending.specs.declared.News.{News}
-use Rattle.sending.specs.declared.News.TheVariants as News
 
 -- a call: send, file with its id, name and size, a piece, the last piece, finish, or one hear of a text in its frame
 pub data Item : Type 0 where

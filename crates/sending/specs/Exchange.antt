@@ -12,7 +12,6 @@ use Rattle.sending.specs.Machine.{Machine}
 use Rattle.sending.specs.Plans.{Plan, Order, orders_of}
 use Rattle.sending.specs.declared.Sender.{Sender}
 use Rattle.sending.specs.declared.Writing.{Writing}
-use Rattle.sending.specs.declared.Writing.TheVariants as Writing
 use Rattle.sending.specs.declared.Wrote.{Wrote}
 use Rattle.sending.specs.declared.News.{News}
 

@@ -4,21 +4,17 @@ use Rattle.octets.specs.Ascii.{ascii}
 use Rattle.octets.specs.Slices.{equals}
 use Rattle.decimal.specs.declared.Number.{Number}
 use Rattle.command.specs.declared.Action.{Action}
-use Rattle.command.specs.declared.Action.TheVariants as Action
 use Rattle.command.specs.declared.Place.{Place}
 use Rattle.command.specs.declared.Command.{Command}
 use Rattle.protocol.specs.Sessions.{string_in, id_in, file_id_in}
 use Rattle.protocol.specs.declared.Found.{Found}
-use Rattle.protocol.specs.declared.Found.TheVariants as Found
 use Rattle.sending.specs.Transfers.{id_of, file_at, find_file, is_fresh, is_waiting, closed_stage, with_stage, put_file, moved}
 use Rattle.sending.specs.declared.Stage.TheVariants as Stage
 use Rattle.sending.specs.declared.FileStage.TheVariants as FileStage
 use Rattle.sending.specs.declared.Transfer.{Transfer}
 use Rattle.sending.specs.declared.News.{News}
-use Rattle.sending.specs.declared.News.TheVariants as News
 use Rattle.sending.specs.declared.Heeded.{Heeded}
 use Rattle.sending.specs.declared.Word.{Word}
-use Rattle.sending.specs.declared.Word.TheVariants as Word
 
 abbrev pub heeded : Transfer → News → Heeded
 heeded t n = record { transfer = t; news = n }

@@ -3,7 +3,6 @@ use Rattle.std.specs.Prelude.{ℕ, List}
 use Rattle.decimal.specs.declared.Number.{Number}
 use Rattle.protocol.specs.Sessions.{string_in}
 use Rattle.sending.specs.declared.News.{News}
-use Rattle.sending.specs.declared.News.TheVariants as News
 
 -- news, in which a status that stopped stands by its bytes; or that a frame was written
 pub data Saying : Type 0 where

@@ -10,7 +10,6 @@ use Rattle.sending.specs.Heeding.{word_of, is_count}
 use Rattle.sending.specs.Sayings.{Saying}
 use Rattle.sending.specs.Story.{Mark}
 use Rattle.sending.specs.declared.Word.{Word}
-use Rattle.sending.specs.declared.Word.TheVariants as Word
 
 -- ---- the session and its files
 -- the session's id, once send is written

@@ -5,9 +5,7 @@ use Rattle.frames.specs.declared.Framing.TheVariants as Framing
 use Rattle.protocol.specs.Table.{file_room, zeros, padded, first}
 use Rattle.protocol.specs.declared.Found.{Found}
 use Rattle.sending.specs.declared.Stage.{Stage}
-use Rattle.sending.specs.declared.Stage.TheVariants as Stage
 use Rattle.sending.specs.declared.FileStage.{FileStage}
-use Rattle.sending.specs.declared.FileStage.TheVariants as FileStage
 use Rattle.sending.specs.declared.SentFile.{SentFile}
 use Rattle.sending.specs.declared.Transfer.{Transfer}
 use Rattle.sending.specs.declared.Sender.{Sender}

@@ -1,5 +1,5 @@
 -- Wrong senders, of each of which `Arrives` is false. A claim that held of one of them would be worth nothing.
-use Rattle.std.specs.Prelude.{ℕ, ◌+◌, ◌-◌, Bool, false, cond, List, [], ◌++◌, map, length, take}
+use Rattle.std.specs.Prelude.{ℕ, ◌-◌, Bool, false, cond, List, [], ◌++◌, map, length, take}
 use Rattle.octets.specs.Ascii.{ascii}
 use Rattle.octets.specs.Outcome.{Outcome, outcome}
 use Rattle.command.specs.Values.{count}
@@ -10,17 +10,13 @@ use Rattle.sending.specs.Plans.{Order}
 use Rattle.sending.specs.Exchange.{order_of}
 use Rattle.sending.specs.WrongSenders.{piecing_by, hearing_by, leaving_written, leaving_heard, telling, opened, last_only, encoding}
 use Rattle.sending.specs.Arrives.{Arrives}
-use Rattle.sending.specs.declared.Stage.TheVariants as Stage
 use Rattle.sending.specs.declared.FileStage.{FileStage}
-use Rattle.sending.specs.declared.FileStage.TheVariants as FileStage
 use Rattle.sending.specs.declared.SentFile.{SentFile}
 use Rattle.sending.specs.declared.Transfer.{Transfer}
 use Rattle.sending.specs.declared.Sender.{Sender}
 use Rattle.sending.specs.declared.Writing.{Writing}
-use Rattle.sending.specs.declared.Writing.TheVariants as Writing
 use Rattle.sending.specs.declared.Wrote.{Wrote}
 use Rattle.sending.specs.declared.News.{News}
-use Rattle.sending.specs.declared.News.TheVariants as News
 
 -- ---- senders that write nothing
 -- every call that writes answers alike
@@ -100,7 +96,8 @@ impatient =
 abbrev pub unmarked : Bool → Outcome Wrote → Outcome Wrote
 unmarked last o =
     let t = o.answer.sender.transfer in
-    leaving_written (λ s. with_transfer s (put_file t (current_place t) (moved (current_file t) (piece_stage last) (current_file t).sent))) o
+    leaving_written
+    (λ s. with_transfer s (put_file t (current_place t) (moved (current_file t) (piece_stage last) (current_file t).sent))) o
 
 abbrev pub last_as_data : Machine
 last_as_data = piecing_by (λ s contents last out. unmarked last (piece_of s contents false out))

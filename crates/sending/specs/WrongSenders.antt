@@ -15,15 +15,11 @@ use Rattle.sending.specs.Machine.{Machine}
 use Rattle.sending.specs.Every.{EverySender}
 use Rattle.sending.specs.Cuts.{SenderCutsAlike}
 use Rattle.sending.specs.declared.Stage.{Stage}
-use Rattle.sending.specs.declared.Stage.TheVariants as Stage
 use Rattle.sending.specs.declared.FileStage.{FileStage}
-use Rattle.sending.specs.declared.FileStage.TheVariants as FileStage
 use Rattle.sending.specs.declared.Sender.{Sender}
 use Rattle.sending.specs.declared.Writing.{Writing}
-use Rattle.sending.specs.declared.Writing.TheVariants as Writing
 use Rattle.sending.specs.declared.Wrote.{Wrote}
 use Rattle.sending.specs.declared.News.{News}
-use Rattle.sending.specs.declared.News.TheVariants as News
 use Rattle.sending.specs.declared.Listened.{Listened}
 
 -- ---- wrappers

@@ -3,6 +3,8 @@
 //
 // No call has code here: specs/ says what each gives, for any sender and any lent buffers. The calls
 // are in `sender`.
+#![tactic(auto)]
+
 ghost use Rattle.std.specs.Prelude.{◌≡◌};
 ghost use Rattle.sending.specs.Transfers.{fresh_sender};
 ghost use Rattle.sending.specs.Examples.{AllRun, examples};
@@ -20,7 +22,7 @@ use frames::{Framing, Report};
 
 // ---- The sender: an array of files by value.
 // A session: nothing written, send written, allowed by an OK, finish written, or stopped by a status.
-#[derive(Drop)]
+#[derive(Clone, Copy)]
 pub enum Stage {
     Fresh,
     Waiting,
@@ -31,7 +33,7 @@ pub enum Stage {
 
 // A file: none, its file command written, its last piece written, closed by an OK that agrees, or stopped
 // by a status.
-#[derive(Drop)]
+#[derive(Clone, Copy)]
 pub enum FileStage {
     Free,
     Sending,
@@ -42,7 +44,7 @@ pub enum FileStage {
 
 // A file of the session: its id is the first id_len bytes of id. Its contents are counted, and its name
 // is not kept.
-#[derive(Drop)]
+#[derive(Clone, Copy)]
 pub struct SentFile {
     pub stage: FileStage,
     pub id: [u8; Transfer::ID_ROOM],
@@ -52,7 +54,7 @@ pub struct SentFile {
 
 // A session and its files, in the order in which they were begun. "One file at a time": the last one is
 // the current one.
-#[derive(Drop)]
+#[derive(Clone, Copy)]
 pub struct Transfer {
     pub stage: Stage,
     pub id: [u8; Transfer::ID_ROOM],
@@ -62,7 +64,7 @@ pub struct Transfer {
 }
 
 // What the office keeps between calls, beside the carry.
-#[derive(Drop)]
+#[derive(Clone, Copy)]
 pub struct Sender {
     pub framing: Framing,
     pub transfer: Transfer,
@@ -70,21 +72,21 @@ pub struct Sender {
 
 // ---- What a call answers.
 // A refusal by its number, or the length of the frame at the buffer's start.
-#[derive(Drop)]
+#[derive(Clone, Copy)]
 pub enum Writing {
     Refused(u8),
     Written(usize),
 }
 
 // What a call that writes answers.
-#[derive(Drop)]
+#[derive(Clone, Copy)]
 pub struct Wrote {
     pub sender: Sender,
     pub writing: Writing,
 }
 
 // What a hear tells. A file is named by its place, a status by where it stands in the scratch.
-#[derive(Drop)]
+#[derive(Clone, Copy)]
 pub enum News {
     Nothing,
     // A refusal, by its number.
@@ -103,7 +105,7 @@ pub enum News {
 
 // What hear answers: the sender, how many bytes of the piece it consumed, where the reported text stands,
 // and what is told.
-#[derive(Drop)]
+#[derive(Clone, Copy)]
 pub struct Listened {
     pub sender: Sender,
     pub consumed: usize,
@@ -112,14 +114,14 @@ pub struct Listened {
 }
 
 // What a status makes of a session, and what is told.
-#[derive(Drop)]
+#[derive(Clone, Copy)]
 pub struct Heeded {
     pub transfer: Transfer,
     pub news: News,
 }
 
 // What the word of a status says: OK, that work goes on, or anything else.
-#[derive(Drop)]
+#[derive(Clone, Copy)]
 pub enum Word {
     Ok,
     Going,

@@ -1,6 +1,6 @@
 -- Exchanges that are computed: turns whose buffers have just the room, and what computing opens.
 use Prim.Native.Nat.{ℕ}
-use mathlib.Core.List.{List, []}
+use mathlib.Core.List.{List}
 use lib.ListN.{replicate}
 use Rattle.octets.specs.Ascii.{ascii}
 use Rattle.command.specs.Values.{word_shown, safe_shown, integer_shown, base64_shown, shown}

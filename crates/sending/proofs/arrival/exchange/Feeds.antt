@@ -14,7 +14,6 @@ use Rattle.protocol.specs.History.{Heard, hearing, hearing_mark, Mark, bytes_of,
 use Rattle.protocol.specs.Machine.{Call, World}
 use Rattle.protocol.specs.Cuts.{Saying, saying}
 use Rattle.protocol.specs.declared.Told.{Told}
-use Rattle.protocol.specs.declared.Told.TheVariants as Told
 use Rattle.protocol.specs.declared.Table.{Table}
 use Rattle.protocol.proofs.Ours.{step}
 use Rattle.protocol.proofs.Laws.{no_way}
@@ -27,7 +26,7 @@ use Rattle.sending.proofs.arrival.path.Texts.{order-means}
 use Rattle.sending.proofs.arrival.path.Paths.{path-append, reach-append, texts_at-append}
 use Rattle.sending.proofs.arrival.receiver.Reads.{saying_for, ReadAs, read-order}
 use Rattle.sending.proofs.arrival.receiver.Promised.{promised}
-use Rattle.sending.proofs.arrival.line.Line.{Line, Next, nothing, reads_on, taken-first, next-nothing, next-text, next-long}
+use Rattle.sending.proofs.arrival.line.Line.{Line, Next, reads_on, taken-first, next-nothing, next-text, next-long}
 use Rattle.sending.proofs.arrival.line.Line.{next-left, next-other}
 use Rattle.sending.proofs.arrival.line.Fed.{FedBy, Quiet, Acts, fed_by, consumed_of, reply_of}
 use Rattle.sending.proofs.arrival.line.Fed as Fed

@@ -105,10 +105,10 @@ module _ (p : Plan) (fit : Fit p) (e : Exchange) (i : Invariant p e) (r : Roomy 
       none-on-way = rw n (no-texts p.id _ i.unread (all_told _ _ _ _ i.console.line th))
 
       -- the reply to send is heard, if send is written
-      same : (os : List Order) → i.replied ≡ os → Silent p.id (reached i.heard) os
+      same : {os : List Order} → i.replied ≡ os → Silent p.id (reached i.heard) os
           → at_fresh (reached i.heard) ≡ at_fresh (reached all)
-      same [] s none = rw (s, none-on-way, append-nil i.heard)
-      same (Order.finish ∷ []) s (finish past h) =
+      same s none = rw (s, none-on-way, append-nil i.heard)
+      same s (finish past h) =
           let f : at_fresh (reached i.heard) ≡ false = ap at_fresh h in
           f ∙ sym (heard-sent i.office.behind f)
 
@@ -122,7 +122,7 @@ module _ (p : Plan) (fit : Fit p) (e : Exchange) (i : Invariant p e) (r : Roomy 
       goes_out : GoesOut p.id i.heard i.replied rest e.sender o e.heard e.back out
       goes_out =
           ready p.id i.heard i.replied rest e.sender o e.heard e.back out g i.office
-          (same i.replied refl quiet) (lit≤ tt)
+          (same refl quiet) (lit≤ tt)
 
       frame : List ℕ
       frame = framed (text_at p.id (reached all) o)

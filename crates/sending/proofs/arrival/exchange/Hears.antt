@@ -119,7 +119,8 @@ module _ (id : List ℕ) (heard rest : List Order) (s : Sender) (carry back : Li
       )
 
   -- any number of the bytes on their way back, with any scratch; what is told is fine
-  pub hear-turn : (replied : List Order) → Path id (reached heard) replied → (at_fresh (reached heard) ≡ true → length (replied ++ rest) ≤ 1)
+  pub hear-turn : (replied : List Order) → Path id (reached heard) replied
+      → (at_fresh (reached heard) ≡ true → length (replied ++ rest) ≤ 1)
       → Sends id heard replied rest s carry back
       → Hears id heard replied rest l.listened.sender l.carry left × (is_fine l.listened.news ≡ true)
   hear-turn replied path alone k = go (hearing replied k).by

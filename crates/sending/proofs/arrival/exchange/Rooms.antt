@@ -22,7 +22,6 @@ use Rattle.sending.specs.Exchange.{Exchange, Turn, turn, after, write_turn, afte
 use Rattle.sending.specs.declared.Sender.{Sender}
 use Rattle.sending.specs.declared.Wrote.{Wrote}
 use Rattle.sending.specs.declared.Writing.{Writing}
-use Rattle.sending.specs.declared.Writing.TheVariants as Writing
 
 -- a scan replaces bytes of it
 replaced-room : (t c : List ℕ) → text_limit ≤ length c → text_limit ≤ length (t ++ drop (length t) c)

@@ -3,13 +3,14 @@ use Prim.Native.Nat.{ℕ}
 use mathlib.Core.Path.{◌≡◌, refl, ap, ◌∙◌}
 use mathlib.Core.Bool.{true, false}
 use mathlib.Core.List.{List, [], ◌∷◌, ◌++◌, append_assoc}
+use lib.ListN.{length}
 use Rattle.command.specs.Values.{Value}
 use Rattle.protocol.specs.Written.{piece_values}
 use Rattle.protocol.specs.History.{Heard, Mark, Question}
 use Rattle.sending.specs.Commands.{file_values, finish_values}
 use Rattle.sending.specs.Plans.{File, Plan, Order, piece_orders, file_orders, orders_of, piece_commands, file_commands, commands_of}
 use Rattle.sending.specs.Arrives.{read_in, Committed}
-use Rattle.sending.proofs.arrival.path.Points.{Sent, Point}
+use Rattle.sending.proofs.arrival.path.Points.{Sent, longer, Point}
 use Rattle.sending.proofs.arrival.path.States.{marks_at}
 
 -- ---- the marks, without the points
@@ -33,7 +34,7 @@ piece-marks : (id : List ℕ) (past : List Sent) (f : Sent) (ps : List (List ℕ
     (g : List Mark → List Mark) → ((past' : List Sent) (m' : List Mark) → marks_at id (Point.idle past') os m' ≡ g m')
     → marks_at id (Point.busy past f) (piece_orders ps last os) m ≡ g (piece_marks id f.id ps last m)
 piece-marks id past f [] last os m g e = e _ _
-piece-marks id past f (p ∷ ps) last os m g e = piece-marks id past _ ps last os _ g e
+piece-marks id past f (p ∷ ps) last os m g e = piece-marks id past (longer f (length p)) ps last os _ g e
 
 file-marks : (id : List ℕ) (fs : List File) (past : List Sent) (m : List Mark)
     → marks_at id (Point.idle past) (file_orders fs) m ≡ file_marks id fs m

@@ -12,7 +12,6 @@ use Rattle.frames.specs.Stream.{Told, stream}
 use Rattle.frames.specs.Calls.{scan_of, text_of}
 use Rattle.frames.specs.Follows.{told_of}
 use Rattle.frames.specs.declared.Report.{Report}
-use Rattle.frames.specs.declared.Report.TheVariants as Report
 use Rattle.frames.proofs.CallLaws.{call-report}
 use Rattle.frames.proofs.Follows.{call-follows}
 use Rattle.command.specs.Read.{read_of}

@@ -13,7 +13,6 @@ use Rattle.frames.specs.Stream.{Mode, Told, stream, text_limit}
 use Rattle.frames.specs.Calls.{scan_of, text_of}
 use Rattle.frames.specs.Follows.{Follows, told_of}
 use Rattle.frames.specs.declared.Report.{Report}
-use Rattle.frames.specs.declared.Report.TheVariants as Report
 use Rattle.frames.specs.declared.Scanned.{Scanned}
 use Rattle.frames.proofs.CallLaws.{call-report, consumed_le}
 use Rattle.frames.proofs.Follows.{call-follows}

@@ -42,7 +42,8 @@ module _ (id : List ℕ) where
   texts_at-append p [] ys = refl
   texts_at-append p (o ∷ xs) ys = rw (texts_at-append (next p o) xs ys)
 
-  pub replies_at-append : (p : Point) (xs ys : List Order) → replies_at id p (xs ++ ys) ≡ replies_at id p xs ++ replies_at id (reach p xs) ys
+  pub replies_at-append : (p : Point) (xs ys : List Order)
+      → replies_at id p (xs ++ ys) ≡ replies_at id p xs ++ replies_at id (reach p xs) ys
   replies_at-append p xs ys = rw (says_at-append p xs ys) (map-append (said_text id) (says_at p xs) (says_at (reach p xs) ys))
 
   pub marks_at-append : (p : Point) (xs ys : List Order) (m : List Mark)

@@ -26,7 +26,6 @@ use Rattle.command.specs.Slots.{action_code}
 use Rattle.command.specs.Write.{Checked, checked_of, Answer}
 use Rattle.command.specs.Framed.{frame_room, framed_of}
 use Rattle.command.specs.declared.Action.{Action}
-use Rattle.command.specs.declared.Action.TheVariants as Action
 use Rattle.command.proofs.Accepted.{Accepted, accepted-writes}
 use Rattle.command.proofs.RoundTrip.{read-written}
 use Rattle.command.proofs.Framed.{means-framed}
@@ -35,7 +34,6 @@ use Rattle.protocol.specs.Files.{count_limit}
 use Rattle.protocol.specs.Replies.{reply_room, status_word, unless_empty, size_text}
 use Rattle.protocol.specs.Sound.{IsId}
 use Rattle.protocol.specs.declared.Status.{Status}
-use Rattle.protocol.specs.declared.Status.TheVariants as Status
 use Rattle.protocol.proofs.StatusText.{
   Shows,
   shows-none,

@@ -20,16 +20,12 @@ use Rattle.protocol.specs.Calls.{is_owed}
 use Rattle.protocol.specs.Sound.{IsId}
 use Rattle.protocol.specs.Machine.{is_refused}
 use Rattle.protocol.specs.declared.FileState.{FileState}
-use Rattle.protocol.specs.declared.FileState.TheVariants as FileState
 use Rattle.protocol.specs.declared.FileRecord.{FileRecord}
 use Rattle.protocol.specs.declared.Session.{Session}
 use Rattle.protocol.specs.declared.Due.{Due}
-use Rattle.protocol.specs.declared.Due.TheVariants as Due
 use Rattle.protocol.specs.declared.Owed.{Owed}
-use Rattle.protocol.specs.declared.Owed.TheVariants as Owed
 use Rattle.protocol.specs.declared.Table.{Table}
 use Rattle.protocol.specs.declared.Status.{Status}
-use Rattle.protocol.specs.declared.Status.TheVariants as Status
 use Rattle.protocol.specs.declared.Decision.TheVariants as Decision
 use Rattle.protocol.specs.declared.Told.TheVariants as Told
 use Rattle.protocol.specs.declared.Reply.{Reply}

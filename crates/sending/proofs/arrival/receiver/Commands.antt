@@ -7,14 +7,12 @@ use lib.ListN.{length, get_or}
 use lib.Dec.{lit≤}
 use Rattle.command.specs.Values.{Value, count}
 use Rattle.command.specs.Meaning.{Meaning, meaning_of, number_in, bytes_in, data_of}
-use Rattle.command.specs.Slots.{action_code, action_of, file_type_code, file_type_of, transmission_code, transmission_of, slots_of, values_of}
+use Rattle.command.specs.Slots.{action_code, action_of, file_type_code, file_type_of, transmission_code, transmission_of}
+use Rattle.command.specs.Slots.{slots_of, values_of}
 use Rattle.command.specs.Read.{Answer, read_of}
 use Rattle.command.specs.declared.Action.{Action}
-use Rattle.command.specs.declared.Action.TheVariants as Action
 use Rattle.command.specs.declared.FileType.{FileType}
-use Rattle.command.specs.declared.FileType.TheVariants as FileType
 use Rattle.command.specs.declared.Transmission.{Transmission}
-use Rattle.command.specs.declared.Transmission.TheVariants as Transmission
 use Rattle.command.specs.declared.Command.{Command as PlacedCommand}
 use Rattle.command.proofs.Simulation.{read-means}
 use Rattle.protocol.specs.Written.{values_with}

@@ -14,7 +14,6 @@ use Rattle.pathname.specs.Name.{valid_name}
 use Rattle.command.specs.Meaning.{Meaning, meaning_of}
 use Rattle.command.specs.Read.{read_of}
 use Rattle.command.specs.declared.Action.{Action}
-use Rattle.command.specs.declared.Action.TheVariants as Action
 use Rattle.command.specs.declared.Command.{Command as PlacedCommand}
 use Rattle.protocol.specs.Table.{no_file, first, has_id, find_session, find_file}
 use Rattle.protocol.specs.Actions.{kind_of, result_in}
@@ -34,11 +33,9 @@ use Rattle.protocol.specs.declared.FileRecord.{FileRecord}
 use Rattle.protocol.specs.declared.SessionState.TheVariants as SessionState
 use Rattle.protocol.specs.declared.Session.{Session}
 use Rattle.protocol.specs.declared.Due.{Due}
-use Rattle.protocol.specs.declared.Due.TheVariants as Due
 use Rattle.protocol.specs.declared.Owed.TheVariants as Owed
 use Rattle.protocol.specs.declared.Table.{Table}
 use Rattle.protocol.specs.declared.Edit.{Edit}
-use Rattle.protocol.specs.declared.Edit.TheVariants as Edit
 use Rattle.protocol.specs.declared.Change.{Change}
 use Rattle.protocol.specs.declared.News.TheVariants as News
 use Rattle.protocol.specs.declared.Told.TheVariants as Told

@@ -10,11 +10,10 @@ use Rattle.octets.specs.Slices.{equals}
 use Rattle.octets.proofs.Compare.{equals_refl}
 use Rattle.command.proofs.Every.{every_cons}
 use Rattle.protocol.specs.Table.{file_room, free_file, no_file, file_at, first, is_used, is_free, has_file_id}
-use Rattle.protocol.specs.Table.{total, started_share, done_share, adjusted, put_file}
+use Rattle.protocol.specs.Table.{started_share, done_share, adjusted, put_file}
 use Rattle.protocol.specs.Files.{count_limit}
 use Rattle.protocol.specs.Sound.{IsId}
 use Rattle.protocol.specs.declared.FileState.{FileState}
-use Rattle.protocol.specs.declared.FileState.TheVariants as FileState
 use Rattle.protocol.specs.declared.FileRecord.{FileRecord}
 use Rattle.protocol.specs.declared.Session.{Session}
 use Rattle.protocol.specs.declared.Found.TheVariants as Found

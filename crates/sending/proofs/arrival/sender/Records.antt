@@ -17,7 +17,6 @@ use Rattle.protocol.proofs.Laws.{padded-id}
 use Rattle.sending.specs.Transfers.{free_file, current_file, is_known, has_file_id, is_sending, put_file, begun, grown, added}
 use Rattle.sending.specs.declared.Stage.{Stage}
 use Rattle.sending.specs.declared.FileStage.{FileStage}
-use Rattle.sending.specs.declared.FileStage.TheVariants as FileStage
 use Rattle.sending.specs.declared.SentFile.{SentFile}
 use Rattle.sending.specs.declared.Transfer.{Transfer}
 use Rattle.sending.proofs.arrival.lists.Members.{not-true, every_append, every_replicate, every-at}
@@ -99,7 +98,8 @@ module _ (closed others : List Sent) where
 
   -- one more whose last piece is written
   one_more : (f : Sent)
-      → sent_files closed (others ++ f ∷ []) [] ≡ (ended ++ sent_record FileStage.Sent f ∷ []) ++ replicate (file_room - (many + 1)) free_file
+      → sent_files closed (others ++ f ∷ []) []
+      ≡ (ended ++ sent_record FileStage.Sent f ∷ []) ++ replicate (file_room - (many + 1)) free_file
   one_more f =
       let e : length (others ++ f ∷ []) ≡ length others + 1 = length-append others (f ∷ []) in
       let q : file_room - (length closed + length (others ++ f ∷ []) + 0) ≡ file_room - (many + 1) = omega (arith, e) in
@@ -170,7 +170,8 @@ module _ (closed : List Sent) (f : Sent) where
         rw (append_assoc shut (written_records (f ∷ others)) now) (append_assoc shut (written_records (f ∷ others) ++ now) room)
 
     closed-behind : (room : List SentFile)
-        → ((closed_records (closed ++ f ∷ []) ++ written_records others) ++ now) ++ room ≡ shut ++ sent_record FileStage.Closed f ∷ beyond room
+        → ((closed_records (closed ++ f ∷ []) ++ written_records others) ++ now) ++ room
+        ≡ shut ++ sent_record FileStage.Closed f ∷ beyond room
     closed-behind room =
         let x : SentFile = sent_record FileStage.Closed f in
         let ys : List SentFile = written_records others in

@@ -28,7 +28,6 @@ use Rattle.sending.specs.Machine.{ours}
 use Rattle.sending.specs.Plans.{Order}
 use Rattle.sending.specs.Exchange.{order_of}
 use Rattle.sending.specs.declared.Stage.{Stage}
-use Rattle.sending.specs.declared.Stage.TheVariants as Stage
 use Rattle.sending.specs.declared.FileStage.TheVariants as FileStage
 use Rattle.sending.specs.declared.Transfer.{Transfer}
 use Rattle.sending.specs.declared.Sender.{Sender}
@@ -148,7 +147,8 @@ module _ (id : List ℕ) (i : IsId id) (f : Framing) (out : List ℕ) (enough : 
 
     file-told : (past : List Sent) (k name : List ℕ) (size : ℕ) → past ≡ closed ++ others → Now past (sent k size 0)
         → framed_of (file_values id k name size) out ≡ outcome (Answer.written n) after
-        → file_of idle_sender k name size out ≡ told (shaped Stage.Open id closed others (sent_record FileStage.Sending (sent k size 0) ∷ []))
+        → file_of idle_sender k name size out
+        ≡ told (shaped Stage.Open id closed others (sent_record FileStage.Sending (sent k size 0) ∷ []))
     unfolding file_of file_writes
     file-told past k name size b now e =
         let t : Transfer = shaped Stage.Open id closed others [] in
@@ -194,7 +194,7 @@ write-order {id} (Goes.files past k name size i now valid bytes) h os others b r
     record {
       others' = others;
       wrote =
-          rw (open-idle h past r)
+          rw (open-idle h past r, open-busy h past (sent k size 0) r)
           (file-told id i f out enough (past_of h) others _ _ past k name size b.behind now e);
       behind = behind_more b (Order.file k name size) (Goes.files past k name size i now valid bytes) others b.behind;
     }
@@ -202,7 +202,11 @@ write-order {id} (Goes.pieces past g c i now fit long within) h os others b r f 
     record {
       others' = others;
       wrote =
-          rw (open-busy h past g r, ← added-piece (past_of h) others Stage.Open id g (length c) long)
+          rw (
+            open-busy h past g r,
+            open-busy h past (longer g (length c)) r,
+            ← added-piece (past_of h) others Stage.Open id g (length c) long,
+          )
           (piece-told id i f out enough (past_of h) others _ _ g c false now.id.short fit.short e);
       behind = behind_more b (Order.piece c false) (Goes.pieces past g c i now fit long within) others b.behind;
     }
@@ -210,7 +214,11 @@ write-order {id} (Goes.lasts past g c i now fit long whole) h os others b r f ou
     record {
       others' = others ++ longer g (length c) ∷ [];
       wrote =
-          rw (open-busy h past g r, ← added-last (past_of h) others Stage.Open id g (length c) long)
+          rw (
+            open-busy h past g r,
+            open-idle h (past ++ longer g (length c) ∷ []) r,
+            ← added-last (past_of h) others Stage.Open id g (length c) long,
+          )
           (piece-told id i f out enough (past_of h) others _ _ g c true now.id.short fit.short e);
       behind =
           behind_more b (Order.piece c true) (Goes.lasts past g c i now fit long whole) (others ++ longer g (length c) ∷ [])

@@ -17,7 +17,6 @@ use Rattle.sending.specs.Arrives.{is_fine, Arrives}
 use Rattle.sending.specs.WrongSenders.{last_only, encoding}
 use Rattle.sending.specs.WrongArrivals.{unclosing, impatient, last_as_data}
 use Rattle.sending.specs.declared.FileStage.{FileStage}
-use Rattle.sending.specs.declared.FileStage.TheVariants as FileStage
 use Rattle.sending.proofs.KeptWrites.{found-same}
 use Rattle.sending.proofs.arrival.examples.SmallPlans.{none, fit_none, one, given, fit-given}
 use Rattle.sending.proofs.arrival.examples.Trying.{write, feed, hear, done, allow, tried, exchanging}

@@ -14,7 +14,6 @@ use Rattle.sending.specs.Arrives.{Arrives, Whole}
 use Rattle.sending.specs.WrongArrivals.{mistaking}
 use Rattle.sending.specs.declared.Sender.{Sender}
 use Rattle.sending.specs.declared.Writing.{Writing}
-use Rattle.sending.specs.declared.Writing.TheVariants as Writing
 use Rattle.sending.specs.declared.Wrote.{Wrote}
 use Rattle.sending.proofs.arrival.lists.Empty.{empty_under}
 

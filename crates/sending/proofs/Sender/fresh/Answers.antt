@@ -6,11 +6,7 @@ use Rattle.sending.proofs.Teeth.{teeth}
 use Rattle.sending.proofs.LongIds.{long-id_as-written}
 use Rattle.sending.proofs.arrival.exchange.GoesOn.{arrives}
 use Rattle.sending.proofs.arrival.wrong.Teeth.{wrong-senders-fall}
-use Rattle.sending.proofs.Sender.fresh.Statement.{statement}
-use Rattle.sending.proofs.Sender.fresh.Tie as tie
+use Rattle.sending.proofs.Sender.fresh.Goals as goal
 
-returns : tie.Need-returns
+pub returns : goal.returns
 returns c = (refl, every-sender, cuts-alike, arrives, teeth, wrong-senders-fall arrives, long-id_as-written, examples-run)
-
-pub fresh-spec : {M : Type 1} → statement M
-fresh-spec = tie.close (tie.spec returns)
