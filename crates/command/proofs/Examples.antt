@@ -136,7 +136,8 @@ NoneCanonical (t ∷ ts) = (CanonicalText t → ⊥) × NoneCanonical ts
 strange-tested : every (λ (t : List ℕ). not (again (meaning_of t) t)) strange ≡ true
 unfolding again meaning_of text_read fields_read field_read is_key key_byte text_byte safe_byte every starts_with equals split onto
     index_of index_after
-    place_in value_read word_read alias_read safe_read verdict_of scan ending bytes_of group value_of parse_of magnitude_of digits_of ranged_of
+    place_in value_read word_read alias_read safe_read verdict_of scan ending bytes_of group value_of
+    parse_of magnitude_of digits_of ranged_of
     canonical fields_of shown word_shown safe_shown integer_shown base64_shown join Base64.text_of letter_of
     Decimal.text_of Decimal.fixed Decimal.width_from
 strange-tested = refl

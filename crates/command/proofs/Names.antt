@@ -25,7 +25,8 @@ nokey = key "" Keys.Kind.integer
 
 -- ---- laws of the rows, each computed over all of them
 -- what two lists have alike member by member, they have alike at every place
-at_each : {A : Type 0} (f g : Key → A) (l : List Key) (d : Key) → map f l ≡ map g l → f d ≡ g d → (k : ℕ) → f (get_or l k d) ≡ g (get_or l k d)
+at_each : {A : Type 0} (f g : Key → A) (l : List Key) (d : Key) → map f l ≡ map g l → f d ≡ g d → (k : ℕ)
+    → f (get_or l k d) ≡ g (get_or l k d)
 at_each f g l d e n k = sym (get_or-map f l k d) ∙ rw (e, n) (get_or-map g l k d)
 
 pub at_key : {A : Type 0} (f g : Key → A) → map f keys ≡ map g keys → f nokey ≡ g nokey → (k : ℕ) → f (key_at keys k) ≡ g (key_at keys k)
@@ -112,7 +113,8 @@ module _ (s n : List ℕ) (len : ℕ) (l : length s ≡ len) (z : length (take l
   same_end i h = starts-end (drop i s) (take len n) i (omega arith)
 
   same_at : (i : ℕ) → starts_with (drop i s) (drop i (take len n))
-      ≡ cond (ltb len (i + 1)) true (cond (eqb (get_or s i 0) (get_or n i 0)) (starts_with (drop (i + 1) s) (drop (i + 1) (take len n))) false)
+      ≡ cond (ltb len (i + 1)) true
+      (cond (eqb (get_or s i 0) (get_or n i 0)) (starts_with (drop (i + 1) s) (drop (i + 1) (take len n))) false)
   same_at i =
       by_test (λ (b : Bool). starts_with (drop i s) (drop i (take len n)) ≡ b) (ltb len (i + 1))
       (λ e. same_end i (omega (arith, ltb-true len (i + 1) e)))

@@ -74,7 +74,8 @@ module _ (t scratch : List ℕ) where
             once-agree enough short n from at v h a r agree (each_at n l r.each));
       }
 
-  pub read-agree : scratch_room ≤ length scratch → Agree (Alike (length t)) (text_read kept t (begun scratch)) (text_read meant t (blank keys))
+  pub read-agree : scratch_room ≤ length scratch
+      → Agree (Alike (length t)) (text_read kept t (begun scratch)) (text_read meant t (blank keys))
   read-agree enough =
       text-agree t (related enough) (record { few = omega arith; fits = omega arith; size = refl; each = each-blank (λ k. empty) keys })
 

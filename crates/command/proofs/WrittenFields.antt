@@ -58,7 +58,8 @@ module _ (k : Key) (n : ℕ) (h : Named n k) (ks : List Key) (us : List Field) (
 -- ---- the induction
 pub fields_read_lem : {ks : List Key} {c : List Value} {fs : List (List ℕ)} → Fits ks c fs → (us : List Field) (n : ℕ)
     → AllNamed n ks → length us ≡ n → ReadsAs ks us c fs
-fields_read_lem none us n t l = record { after = []; reads = λ at. (unfold fields_read in refl); values = refl; quiet = (unfold every in refl) }
+fields_read_lem none us n t l =
+    record { after = []; reads = λ at. (unfold fields_read in refl); values = refl; quiet = (unfold every in refl) }
 fields_read_lem (out {k} {ks} {x} {c} {fs} e _ r) us n t l =
     none_more k n t.0 ks us l x c fs e (fields_read_lem r (us ++ Field.unseen ∷ []) (suc n) t.1 (length-next us Field.unseen n l))
 fields_read_lem (with-text {k} {ks} {x} {c} {fs} v s r) us n t l =

@@ -79,7 +79,8 @@ scratch_room = 6144
 
 -- 9 first: "scratch under 6,144 bytes"
 unfoldable pub read_of : List ℕ → List ℕ → Outcome Answer
-read_of t scratch = cond (ltb (length scratch) scratch_room) (outcome (Answer.refused 9) scratch) (finished (text_read kept t (begun scratch)))
+read_of t scratch =
+    cond (ltb (length scratch) scratch_room) (outcome (Answer.refused 9) scratch) (finished (text_read kept t (begun scratch)))
 
 -- the code's answer, its refusal by document 01's number
 abbrev pub answered : Reading → Answer
