@@ -33,7 +33,7 @@ rowed-append (more k a b c d p n r) s = more k a b c d p n (rowed-append r s)
 apart_le : {from to : ℕ} {l : List ℕ} → Rowed l → Apart from to l → from ≤ to
 unfolding Apart
 apart_le none h = h
-apart_le (more k a b c d p n r) h = omega (arith, h.0, apart_le r h.1)
+apart_le {from = from} (more k a b c d p n r) h = omega (arith, h.0, apart_le {from = p + n} r h.1)
 
 pub apart-later : (from : ℕ) {to end : ℕ} {l : List ℕ} → to ≤ end → Rowed l → Apart from to l → Apart from end l
 unfolding Apart

@@ -66,7 +66,7 @@ leaves-append t (d ∷ ds) es = leaves-append (next t d) ds es
 -- ---- those that are refused do nothing
 refused_none : (t : Table) (text : List ℕ) (n : ℕ) → meaning_of text ≡ Meaning.refused n
     → (hears_one t (Told.command text) ≡ []) × (next t (Told.command text) ≡ t)
-refused_none t text n e = go (read_of text zeros).answer (rw e at (text-read text zeros (lit≤ tt)))
+refused_none t text n e = go (rw e at (text-read text zeros (lit≤ tt)))
   where
     after : List ℕ
     after = (read_of text zeros).buffer
@@ -74,8 +74,8 @@ refused_none t text n e = go (read_of text zeros).answer (rw e at (text-read tex
     acts : Answer → Acted
     acts a = read_act t text (record { answer = a; buffer = after })
 
-    go : (a : Answer) → Read text after a (Meaning.refused n) → (hears_of text (acts a) ≡ []) × (table_after text (acts a) ≡ t)
-    go (Answer.refused m) (refused l) = (refl, refl)
+    go : {a : Answer} → Read text after a (Meaning.refused n) → (hears_of text (acts a) ≡ []) × (table_after text (acts a) ≡ t)
+    go (refused l) = (refl, refl)
 
 pub hears-readable : (t : Table) (ds : List Told) → hears t (readable ds) ≡ hears t ds
 unfolding hears readable
