@@ -1,6 +1,6 @@
 -- What a start's contents are: settled at the pair's next start, and of the latest start what demand 3 has of the pair since.
 use Prim.Native.Nat.{ℕ}
-use mathlib.Core.Path.{◌≡◌, refl, ap, sym, ◌∙◌}
+use mathlib.Core.Path.{◌≡◌, refl, ap, sym, ◌∙◌, subst}
 use mathlib.Core.Bool.{Bool, true, false, cond, ◌&&◌}
 use mathlib.Core.Option.{Option}
 use mathlib.Core.List.{List, [], ◌∷◌, ◌++◌, append_assoc, append-nil}
@@ -48,13 +48,21 @@ latest-append : (k : Key) (o : Option (List ℕ)) (hs ms : List Happening) → l
 latest-append k o [] ms = refl
 latest-append k o (h ∷ hs) ms = latest-append k (next k o h) hs ms
 
--- that is the last of its contents: after a start that has some parts already, and from the beginning
+-- that is the last of its contents, by either name of the pair
+by-name : (k j : Key) (hs : List Happening) → k ≡ j
+    → latest k (Option.some []) hs ≡ last_of (contents_of k hs ∷ contents_for k (starts_of hs))
+    → latest k (Option.some []) hs ≡ last_of (contents_of j hs ∷ contents_for k (starts_of hs))
+by-name k j hs e =
+    subst (λ (i : Key). latest k (Option.some []) hs ≡ last_of (contents_of i hs ∷ contents_for k (starts_of hs))) e
+
+-- after a start that has some parts already, and from the beginning
 latest-since : (k : Key) (c : List ℕ) (hs : List Happening)
     → latest k (Option.some c) hs ≡ last_of ((c ++ contents_of k hs) ∷ contents_for k (starts_of hs))
 unfolding contents_of starts_of of_key
 latest-since k c [] = rw (append-nil c)
 latest-since k c (Happening.starts j p ∷ hs) =
-    by_test (same_key k j) (λ e. rw (e, ← key-sound k j e) (latest-since k [] hs)) (λ e. rw e (latest-since k c hs))
+    by_test (same_key k j) (λ e. rw e (by-name k j hs (key-sound k j e) (latest-since k [] hs)))
+    (λ e. rw e (latest-since k c hs))
 latest-since k c (Happening.hands j b ∷ hs) =
     by_test (same_key k j) (λ e. rw (e, ← append_assoc c b (contents_of k hs)) (latest-since k (c ++ b) hs))
     (λ e. rw e (latest-since k c hs))
@@ -63,7 +71,8 @@ latest-last : (k : Key) (hs : List Happening) → latest k Option.none hs ≡ la
 unfolding starts_of of_key
 latest-last k [] = refl
 latest-last k (Happening.starts j p ∷ hs) =
-    by_test (same_key k j) (λ e. rw (e, ← key-sound k j e) (latest-since k [] hs)) (λ e. rw e (latest-last k hs))
+    by_test (same_key k j) (λ e. rw e (by-name k j hs (key-sound k j e) (latest-since k [] hs)))
+    (λ e. rw e (latest-last k hs))
 latest-last k (Happening.hands j b ∷ hs) = by_test (same_key k j) (λ e. rw e (latest-last k hs)) (λ e. rw e (latest-last k hs))
 
 -- ---- and one mark after another
