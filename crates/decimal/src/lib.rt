@@ -70,6 +70,7 @@ pub fn text_length(n: Number) -> usize
 
 // Stores the text of n in `out` from place `at` on, without leading zeros. A refusal leaves `out` as
 // before; a number that is no integer of ours is told before a lack of room.
+#[tactic(auto, unfolding(crate::specs::Write::write_of))]
 pub fn write(n: Number, out: &mut [u8], at: usize) -> Written
     ensures out_after { outcome result out.new ≡ write_of n out.old at }
     ensures written_reads { WrittenReads × FixedReads }

@@ -29,6 +29,7 @@ pub(crate) fn magnitude(negative: bool, text: &[u8]) -> Parsed
 }
 
 // The integer of this sign and magnitude, if it is within signed 64 bits.
+#[tactic(auto, unfolding(crate::specs::Read::ranged_of))]
 fn ranged(negative: bool, m: u64) -> Parsed
     ensures { result ≡ ranged_of negative m }
 {

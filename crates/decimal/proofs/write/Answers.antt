@@ -1,9 +1,9 @@
 use Prim.Native.Nat.{◌≤◌}
 use mathlib.Core.Path.{◌≡◌, sym, ◌∙◌}
 use mathlib.Core.Bool.{true, false}
-use borrow.Author.Tests.{lt-ltb, le-ltb, eq-eqb, ne_eqb}
+use borrow.Author.Tests.{le-ltb, ne_eqb}
 use Rattle.decimal.specs.Limits.{limit}
-use Rattle.decimal.specs.Write.{writable, write_of}
+use Rattle.decimal.specs.Write.{writable}
 use Rattle.decimal.specs.Claims.{FixedReads, WrittenReads}
 use Rattle.decimal.specs.declared.Number.{Number}
 use Rattle.decimal.proofs.Writes.{write-stores}
@@ -24,20 +24,14 @@ above : (n : Number) → n.negative ≡ false → n.magnitude ≤ limit false �
 unfolding writable
 above n s h = rw (s, le-ltb _ _ h)
 
-pub returns-then-n-eq0 : goal.returns-then-n-eq0
-unfolding write_of
-returns-then-n-eq0 c = record { out_after = rw (c.if-n.true, eq-eqb _ _ c.if-n-eq0.true); written_reads = claims }
+pub returns-then-n-eq0-clause-written_reads : goal.returns-then-n-eq0-clause-written_reads
+returns-then-n-eq0-clause-written_reads c = claims
 
-pub returns-then-n-gt-LIMIT_BELOW : goal.returns-then-n-gt-LIMIT_BELOW
-unfolding write_of
-returns-then-n-gt-LIMIT_BELOW c = record {
-  out_after = rw (c.if-n.true, ne_eqb _ _ c.if-n-eq0.false, lt-ltb _ _ c.if-n-gt-LIMIT_BELOW.true);
-  written_reads = claims;
-}
+pub returns-then-n-gt-LIMIT_BELOW-clause-written_reads : goal.returns-then-n-gt-LIMIT_BELOW-clause-written_reads
+returns-then-n-gt-LIMIT_BELOW-clause-written_reads c = claims
 
-pub returns-then-n-gt-LIMIT : goal.returns-then-n-gt-LIMIT
-unfolding write_of
-returns-then-n-gt-LIMIT c = record { out_after = rw (c.if-n.false, lt-ltb _ _ c.if-n-gt-LIMIT.true); written_reads = claims }
+pub returns-then-n-gt-LIMIT-clause-written_reads : goal.returns-then-n-gt-LIMIT-clause-written_reads
+returns-then-n-gt-LIMIT-clause-written_reads c = claims
 
 pub returns-then-not-fits : goal.returns-then-not-fits
 returns-then-not-fits c =
