@@ -1,55 +1,66 @@
-// Reading, from standard input or another descriptor.
-ghost use Rattle.std.specs.Prelude.{length, ◌≡◌};
-ghost use Rattle.streams.specs.Streams.{Within, got_of};
+// Reading, from standard input or another reader.
+ghost use Rattle.std.specs.Prelude.{length, ◌≡◌, IfOk};
+ghost use Rattle.std.specs.Io.{ReadsAtMost};
+ghost use Rattle.streams.specs.Streams.{Within, got_of, ReadsOnce, ReadsOn, Fills};
 
 use crate::Got;
-use libc::STDIN_FILENO;
+use std::io;
+use std::io::{Read, Stdin};
 
 // One read of standard input.
-pub fn read(buf: &mut [u8]) -> Got
+pub fn read(mut input: Stdin, buf: &mut [u8]) -> Got
     ensures { Within result buf.new }
 {
-    read_from(STDIN_FILENO, buf)
+    read_from(&mut input, buf)
 }
 
 // Reads standard input until the buffer is full or the input ends.
-pub fn read_all(buf: &mut [u8]) -> Got
+pub fn read_all(mut input: Stdin, buf: &mut [u8]) -> Got
     ensures { Within result buf.new }
 {
-    read_all_from(STDIN_FILENO, buf)
+    read_all_from(&mut input, buf)
 }
 
-// One read of a descriptor.
-fn read_from(fd: i32, buf: &mut [u8]) -> Got
-    ensures { Within result buf.new }
+// One read of a reader.
+pub fn read_from<R: Read>(input: &mut R, buf: &mut [u8]) -> Got
+    ensures within { Within result buf.new }
+    ensures bytes { ReadsOnce (R.remaining input.old) (R.remaining input.new) result buf.new }
 {
-    let answer = libc::read(fd, buf);
+    let answer = input.read(buf);
     counted(answer, buf)
 }
 
-// Reads a descriptor until the buffer is full or the input ends.
-pub fn read_all_from(fd: i32, buf: &mut [u8]) -> Got
-    ensures { Within result buf.new }
+// Reads a reader until the buffer is full or the input ends.
+pub fn read_all_from<R: Read>(input: &mut R, buf: &mut [u8]) -> Got
+    ensures within { Within result buf.new }
+    ensures bytes { ReadsOn (R.remaining input.old) (R.remaining input.new) result buf.new }
+{
+    let answer = fill(input, buf);
+    counted(answer, buf)
+}
+
+// The same, with the error of a read that failed.
+pub fn fill<R: Read>(input: &mut R, buf: &mut [u8]) -> io::Result<usize>
+    ensures within { ReadsAtMost result buf.new }
+    ensures bytes { IfOk result (λ n. Fills (R.remaining input.old) (R.remaining input.new) n buf.new) }
 {
     let mut at = 0;
     while at < buf.len() {
-        let Got::Bytes(n) = read_from(fd, &mut buf[at..]) else {
-            return Got::Failed;
-        };
+        let n = input.read(&mut buf[at..])?;
         if n == 0 {
             break;
         }
         at += n;
     }
-    Got::Bytes(at)
+    Ok(at)
 }
 
-// What the C library's answer to a read means. The kit's `count` alone gives 0 for a failure too.
-fn counted(answer: isize, buf: &[u8]) -> Got
+// What the answer to a read means.
+fn counted(answer: io::Result<usize>, buf: &[u8]) -> Got
     ensures { result ≡ got_of answer (length buf.now) }
 {
-    if answer < 0 {
-        return Got::Failed;
+    match answer {
+        Ok(n) => Got::Bytes(n.min(buf.len())),
+        Err(_) => Got::Failed,
     }
-    Got::Bytes(io::count(answer, buf))
 }

@@ -1,24 +1,38 @@
 // Standard input and output, and reading of files, for the programs, so that no failure is lost.
 //
-// No contract can say what is read or written. That of `counted` says that a failed read is told from the
-// end of the input; those of the reads, that no more bytes are counted than the buffer has; and those of a
-// run, that it keeps the first thing that failed in it.
+// No contract can say what the system reads or writes. That of `counted` says that a failed read is told
+// from the end of the input; those of the reads, that no more bytes are counted than the buffer has, and
+// that the bytes of a reader that knows them stand in it in their order; and those of a run, that it keeps
+// the first thing that failed in it.
+#![tactic(auto)]
+
+mod arguments;
+mod files;
+mod hex;
 mod input;
 mod output;
+mod said;
+#[cfg(test)]
+mod tests;
 
-pub use input::{read, read_all, read_all_from};
+pub use arguments::{argument, argument_count};
+pub use files::{open_read, path_text};
+pub use input::{fill, read, read_all, read_all_from, read_from};
+pub use said::{say, say_error, say_hex, say_number};
+use std::io::Stdout;
 
 // How many bytes were read to the start of the buffer, 0 at the end of the input; or a failure.
-#[derive(Drop)]
+#[derive(Clone, Copy)]
 pub enum Got {
     Bytes(usize),
     Failed,
 }
 
-// How a run stands: well, or the first thing that failed. Nothing is written once something failed.
-#[derive(Drop)]
+// How a run stands: well, or the first thing that failed. Only a run that is well has standard output to
+// write to, so that nothing is written once something failed.
+#[derive(Clone, Copy)]
 pub enum Run {
-    Well,
+    Well(Stdout),
     NotRead,
     NotWritten,
     // A call consumed nothing of a piece that has bytes.

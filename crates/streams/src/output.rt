@@ -1,16 +1,19 @@
 // Standard output, and how a run stands.
-ghost use Rattle.std.specs.Prelude.{◌≡◌};
+ghost use Rattle.std.specs.Prelude.{◌≡◌, false, MatchOption};
 ghost use Rattle.streams.specs.Streams.{is_well, wrote, Keeps};
 
 use crate::Run;
-use libc::{STDERR_FILENO, STDOUT_FILENO};
+use crate::hex::Hex;
+use crate::said::say;
+use std::fmt::Display;
+use std::io::{Stderr, Stdout};
 
 impl Run {
     pub fn is_well(self) -> bool
         ensures { result ≡ is_well self }
     {
         match self {
-            Run::Well => true,
+            Run::Well(_) => true,
             Run::NotRead => false,
             Run::NotWritten => false,
             Run::Stuck => false,
@@ -21,66 +24,67 @@ impl Run {
     pub fn text(self, s: &[u8]) -> Run
         ensures { Keeps self result }
     {
-        if self.is_well() {
-            return written(io::write_all(STDOUT_FILENO, s));
+        match self.out() {
+            Some(out) => written(out, Print::write_all(&out, s).is_ok()),
+            None => self,
         }
-        self
     }
 
     // Writes a number in decimal.
     pub fn number(self, n: usize) -> Run
         ensures { Keeps self result }
     {
-        let mut digits = [0u8; 20];
-        let k = io::decimal(n as u64, &mut digits);
-        self.text(&digits[..k])
+        self.print(n)
     }
 
     // Writes the bytes in lower-case hex.
     pub fn hex(self, s: &[u8]) -> Run
         ensures { Keeps self result }
     {
-        if self.is_well() {
-            return written(write_hex(s));
+        self.print(Hex(s))
+    }
+
+    // Writes a value as it is printed.
+    fn print<D: Display + Drop>(self, value: D) -> Run
+        ensures { Keeps self result }
+    {
+        match self.out() {
+            Some(out) => written(out, Print::print(&out, value).is_ok()),
+            None => self,
         }
-        self
+    }
+
+    // Standard output, while nothing failed.
+    fn out(self) -> Option<Stdout>
+        ensures { MatchOption result (is_well self ≡ false) (λ out. self ≡ Run.Well out) }
+    {
+        match self {
+            Run::Well(out) => Some(out),
+            Run::NotRead => None,
+            Run::NotWritten => None,
+            Run::Stuck => None,
+        }
     }
 
     // Says on standard error what failed, if something did: a program has no exit status.
-    pub fn end(self, program: &[u8]) {
+    pub fn end(self, err: Stderr, program: &[u8]) {
         match self {
-            Run::Well => {}
-            Run::NotRead => say(program, b"cannot read standard input\n"),
-            Run::NotWritten => say(program, b"cannot write standard output\n"),
-            Run::Stuck => say(program, b"a call consumed nothing\n"),
+            Run::Well(_) => {}
+            Run::NotRead => say_of(err, program, b"cannot read standard input\n"),
+            Run::NotWritten => say_of(err, program, b"cannot write standard output\n"),
+            Run::Stuck => say_of(err, program, b"a call consumed nothing\n"),
         }
     }
 }
 
-fn written(ok: bool) -> Run
-    ensures { result ≡ wrote ok }
+fn written(out: Stdout, ok: bool) -> Run
+    ensures { result ≡ wrote out ok }
 {
-    if ok { Run::Well } else { Run::NotWritten }
+    if ok { Run::Well(out) } else { Run::NotWritten }
 }
 
-// Writes all, or stops at the first write that fails.
-fn write_hex(s: &[u8]) -> bool {
-    let mut i = 0;
-    while i < s.len() {
-        if !io::print_hex(STDOUT_FILENO, wide(s[i]), 2) {
-            return false;
-        }
-        i += 1;
-    }
-    true
-}
-
-fn say(program: &[u8], what: &[u8]) {
-    io::write_all(STDERR_FILENO, program);
-    io::write_all(STDERR_FILENO, b": ");
-    io::write_all(STDERR_FILENO, what);
-}
-
-fn wide(b: u8) -> u64 {
-    b as u64
+fn say_of(err: Stderr, program: &[u8], what: &[u8]) {
+    say(err, program);
+    say(err, b": ");
+    say(err, what);
 }
