@@ -2,6 +2,8 @@
 // of buffers.
 //
 // No function here has a `requires`: any bytes and any places are answered.
+#![tactic(auto)]
+
 mod numbers;
 mod sums;
 
