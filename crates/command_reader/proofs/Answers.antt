@@ -10,22 +10,17 @@ use Rattle.octets.specs.Slices.{equals}
 use Rattle.octets.specs.Outcome.{Outcome}
 use Rattle.base64_codec.specs.Decode.{verdict_of, bytes_of, decode_of, decoded_by}
 use Rattle.base64_codec.specs.declared.Verdict.{Verdict}
-use Rattle.base64_codec.specs.declared.Verdict.TheVariants as Verdict
 use Rattle.base64_codec.specs.declared.Decoded.{Decoded}
-use Rattle.base64_codec.specs.declared.Decoded.TheVariants as Decoded
 use Rattle.base64_codec.proofs.Lengths.{length_valid}
 use Rattle.command.specs.Keys.{Kind, finished, keys, kind_at, place_in}
 use Rattle.command.specs.Rows.{words_of}
 use Rattle.command.specs.Values.{Value, Got, count, refuses, alias_read, word_read, base64_refusal, base64_read, value_read}
 use Rattle.command.specs.Slots.{placed}
 use Rattle.command.specs.Read.{Reader, kept_by}
-use Rattle.command.specs.declared.Slot.{Slot}
 use Rattle.command.specs.declared.Refusal.{Refusal}
-use Rattle.command.specs.declared.Refusal.TheVariants as Refusal
 use Rattle.command.proofs.Names.{no-alias}
 use Rattle.command_reader.specs.Keeping.{word_at, kept_in, Keeps}
 use Rattle.command_reader.specs.declared.values.Kept.{Kept}
-use Rattle.command_reader.specs.declared.values.Kept.TheVariants as Kept
 
 -- ---- a word of key k
 module _ (k : ℕ) (unknown : Refusal) (first : ℕ) (v : List ℕ) where

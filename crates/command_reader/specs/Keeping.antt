@@ -9,7 +9,6 @@ use Rattle.command.specs.Read.{Reader, kept_by}
 use Rattle.command.specs.declared.Slot.{Slot}
 use Rattle.command.specs.declared.Refusal.{Refusal}
 use Rattle.command_reader.specs.declared.values.Kept.{Kept}
-use Rattle.command_reader.specs.declared.values.Kept.TheVariants as Kept
 
 -- words of a key's list, with its aliases
 abbrev pub word_at : ℕ → Refusal → ℕ → Keys.Kind

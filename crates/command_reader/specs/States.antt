@@ -4,7 +4,6 @@ use Rattle.octets.specs.Split.{split}
 use Rattle.command.specs.Fields.{Turn, and_then, fields_read}
 use Rattle.command.specs.Read.{Reader, kept}
 use Rattle.command_reader.specs.declared.fields.Named.{Named}
-use Rattle.command_reader.specs.declared.fields.Named.TheVariants as Named
 
 -- the fields from a place on; past the end of the text there is none
 unfoldable pub left : ℕ → List ℕ → Reader → Turn Reader

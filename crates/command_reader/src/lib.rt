@@ -2,6 +2,8 @@
 //
 // The text is not copied: strings are places in it, and Base64 values are decoded into the lent
 // scratch, one after another. Not here: frames, sessions, and what a command does.
+#![tactic(auto)]
+
 mod fields;
 mod slots;
 mod values;
@@ -18,6 +20,7 @@ use frames::Framing;
 // The command of a text, or why it has none. 9 comes first, and leaves the scratch as before; after
 // another refusal the scratch holds the values accepted before the refused field. What is read is what
 // the text means, and canonical text that is read and written again is the same text.
+#[tactic(auto, using(crate::proofs::Claims::claims), unfolding(command::specs::Read::read_of, command::specs::Fields::text_read))]
 pub fn read(text: &[u8], scratch: &mut [u8]) -> Reading
     ensures scratch_after { outcome (answered result) scratch.new ≡ read_of text.now scratch.old }
     ensures read_means { ReadMeans × ReadThenWritten }

@@ -61,6 +61,7 @@ fn place(s: Slot) -> Place
     p
 }
 
+#[tactic(auto, unfolding(command::specs::Slots::action_of))]
 fn action_of(n: u64) -> Action
     ensures { result ≡ action_of n }
 {
@@ -77,6 +78,7 @@ fn action_of(n: u64) -> Action
     }
 }
 
+#[tactic(auto, unfolding(command::specs::Slots::file_type_of))]
 fn file_type_of(n: u64) -> FileType
     ensures { result ≡ file_type_of n }
 {
@@ -88,6 +90,7 @@ fn file_type_of(n: u64) -> FileType
     }
 }
 
+#[tactic(auto, unfolding(command::specs::Slots::transmission_of))]
 fn transmission_of(n: u64) -> Transmission
     ensures { result ≡ transmission_of n }
 {
