@@ -57,8 +57,8 @@ first_field k ks v c e n = go (shown k.kind v) e n
     go (Shown.text t) e n = tails-join (k.name ++ 61 ∷ t) (fields_of ks c)
     go (Shown.refused r) e n = let z : ◌≡◌ {A = ℕ} 0 1 = cc in absurd (omega arith)
 
-pub canonical-pieces : (v : Value) (c : List Value) → checked_of keys (v ∷ c) ≡ Checked.fine → (shown (kind_at keys 0) v ≡ Shown.left_out → ⊥)
-    → canonical (v ∷ c) ≡ whole (v ∷ c)
+pub canonical-pieces : (v : Value) (c : List Value) → checked_of keys (v ∷ c) ≡ Checked.fine
+    → (shown (kind_at keys 0) v ≡ Shown.left_out → ⊥) → canonical (v ∷ c) ≡ whole (v ∷ c)
 unfolding canonical
 canonical-pieces v c e n =
     ap (λ (x : List ℕ). 53 ∷ 49 ∷ 49 ∷ 51 ∷ x) (first_field _ _ v c (fine-at keys (v ∷ c) 0 (omega arith) e) n ∙ tails-pieces keys (v ∷ c))

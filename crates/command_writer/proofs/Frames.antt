@@ -2,15 +2,16 @@
 use Prim.Native.Nat.{ℕ, suc, ◌+◌, ◌-◌, ◌≤◌, ◌<◌}
 use mathlib.Core.Path.{◌≡◌, refl, sym, ◌∙◌, ap}
 use mathlib.Core.Bool.{Bool, true, false, cond, ◌||◌}
-use mathlib.Core.List.{List, [], ◌∷◌, ◌++◌}
+use mathlib.Core.List.{List, [], ◌∷◌, ◌++◌, append_assoc, append-nil}
 use native.Mathlib.Omega.{arith}
 use native.Mathlib.Nat.{zero-add}
 use lib.ListN.{length, take, drop, set, length-take, length-drop, take-append-drop}
-use lib.Seq.{sets, sets-eq, set_comm, take-length}
+use lib.Seq.{sets, sets-eq, set_comm, drop-drop}
 use lib.Dec.{ltb}
 use borrow.Author.Tests.{le-ltb, ltb-false}
 use Rattle.octets.specs.Outcome.{Outcome, outcome}
-use Rattle.octets.proofs.Stores.{sets-append, sets-part}
+use Rattle.octets.proofs.Lists.{drop-end, part-rest}
+use Rattle.octets.proofs.Stores.{sets-append}
 use Rattle.frames.specs.Stream.{text_limit, framed}
 use Rattle.command.specs.Keys.{keys}
 use Rattle.command.specs.Values.{Value}
@@ -98,7 +99,9 @@ returned out part = take 2 out ++ (part ++ drop (length out - 2) (drop 2 out))
 stored-part : (t out : List ℕ) → 2 + length t ≤ length out → returned out (sets (lent out) 0 t) ≡ sets out 2 t
 stored-part t out h =
     let room : 0 + length t ≤ length (lent out) = simp (length-take, length-drop) (omega arith) in
-    rw (sets-eq t (lent out) 0 room, zero-add) (rw take-length at (sets-part t out 2 h))
+    let over : drop (length out - 2) (drop 2 out) ≡ [] = drop-end (drop 2 out) (length out - 2) (omega (arith, length-drop 2 out)) in
+    rw (sets-eq t (lent out) 0 room, zero-add, over, append-nil, part-rest, drop-drop (length t) 2 out)
+    (sym (sets-eq t out 2 h ∙ rw (append_assoc (take 2 out) t _)))
 
 around : (t out : List ℕ) → enclosed (sets out 2 t) (length t) ≡ sets out 0 (framed t)
 around t out =

@@ -13,7 +13,6 @@ use Rattle.octets.proofs.Stores.{sets-append}
 use Rattle.command.specs.Values.{Shown, unshown, integer_shown}
 use Rattle.command.specs.Write.{Checked, before}
 use Rattle.command.specs.declared.Written.{Written}
-use Rattle.command.specs.declared.Written.TheVariants as Written
 use Rattle.command.specs.declared.Refusal.TheVariants as Refusal
 use Rattle.decimal.specs.Write.{text_of, negative_zero, out_of_range, write_of}
 use Rattle.decimal.specs.declared.Number.{Number}

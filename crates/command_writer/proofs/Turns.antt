@@ -13,7 +13,6 @@ use Rattle.command.specs.Write.{Checked, before, checked_of}
 use Rattle.command.specs.declared.Command.{Command}
 use Rattle.command.specs.declared.Slot.{Slot}
 use Rattle.command.specs.declared.Written.{Written}
-use Rattle.command.specs.declared.Written.TheVariants as Written
 use Rattle.command_writer.specs.Stores.{Put}
 use Rattle.command_writer.specs.Pieces.{piece, pieces, FieldPut}
 use Rattle.command_writer.proofs.Puts.{put_then}

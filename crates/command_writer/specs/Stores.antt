@@ -4,7 +4,6 @@ use Rattle.std.proofs.lemmas.List.Edits.{sets}
 use Rattle.frames.specs.Stream.{text_limit}
 use Rattle.command.specs.Write.{Checked, Answer, answered}
 use Rattle.command.specs.declared.Written.{Written}
-use Rattle.command.specs.declared.Written.TheVariants as Written
 
 -- what a length leaves of one byte more than a text may have: every length over that of a text leaves nothing
 abbrev pub spare : ℕ → ℕ

@@ -2,6 +2,8 @@
 //
 // The fields are gone through twice: first with an empty buffer, which checks every field and
 // measures the text, and then, if nothing is at fault and the text fits, to store it.
+#![tactic(auto)]
+
 mod fields;
 pub mod framed;
 mod slots;
