@@ -7,12 +7,9 @@ use lib.ListN.{get_or}
 use lib.Dec.{eqb}
 use Rattle.command.specs.Slots.{action_code}
 use Rattle.command.specs.declared.Action.{Action}
-use Rattle.command.specs.declared.Action.TheVariants as Action
 use Rattle.protocol.specs.Actions.{state_number, kind_of}
 use Rattle.protocol.specs.declared.SessionState.{SessionState}
-use Rattle.protocol.specs.declared.SessionState.TheVariants as SessionState
 use Rattle.protocol.specs.declared.Kind.{Kind}
-use Rattle.protocol.specs.declared.Kind.TheVariants as Kind
 
 -- the states and the actions in the table's order
 abbrev states : List SessionState

@@ -1,6 +1,4 @@
 pub mod ArrayLaws
 pub mod SearchLaws
-pub mod CountLaws
 pub mod PadLaws
 pub mod ActionLaws
-pub mod KindLaws

@@ -9,7 +9,6 @@ use lib.ListN.{length, get_or, drop, drop_of_length-le}
 use lib.Seq.{drop-cons}
 use Rattle.protocol.specs.Table.{first, later}
 use Rattle.protocol.specs.declared.Found.{Found}
-use Rattle.protocol.specs.declared.Found.TheVariants as Found
 
 -- a place counted from i on
 abbrev pub from : ℕ → Found → Found

@@ -10,6 +10,7 @@ use crate::settling::{fail_file, settle, settle_write};
 use protocol::{Change, Due, Failure, FileState, Reply, Session, Status, Told};
 
 // The console has done what was due.
+#[tactic(auto, unfolding(protocol::specs::Rule::done_by))]
 pub fn done(session: Session, due: Due) -> Change
     ensures { result ≡ done_by session due }
 {
@@ -24,6 +25,7 @@ pub fn done(session: Session, due: Due) -> Change
 }
 
 // The console has failed to do what was due.
+#[tactic(auto, unfolding(protocol::specs::Rule::failed_by))]
 pub fn failed(failure: Failure, session: Session, due: Due) -> Change
     ensures { result ≡ failed_by failure session due }
 {
@@ -39,6 +41,7 @@ pub fn failed(failure: Failure, session: Session, due: Due) -> Change
 }
 
 // The file asked for is "a directory or not listed, which gets EINVAL".
+#[tactic(auto, unfolding(protocol::specs::Rule::unlisted_by))]
 pub fn unlisted(session: Session, due: Due) -> Change
     ensures { result ≡ unlisted_by session due }
 {

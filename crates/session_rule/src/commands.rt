@@ -16,6 +16,7 @@ use command::Command;
 use protocol::{Change, Kind, Reply, Session, SessionState, Status, Told};
 
 // A command, with its file's id and its name.
+#[tactic(auto, unfolding(protocol::specs::Rule::obeyed_by, protocol::specs::Receives::path_of))]
 pub fn obey(session: Session, command: Command, id: &[u8], name: &[u8]) -> Change
     ensures { result ≡ obeyed_by session (request command id.now name.now) }
 {

@@ -10,6 +10,7 @@ use crate::settling::fail_file;
 use protocol::{Change, Due, FileRecord, Found, Session, Status};
 
 // A part of n bytes, the last one or not, for the file with the id.
+#[tactic(auto, unfolding(protocol::specs::Files::data_of))]
 pub(crate) fn part(session: Session, last: bool, id: &[u8], n: usize) -> Change
     ensures { result ≡ data_of session last id.now n }
 {
@@ -34,6 +35,7 @@ fn part_at(session: Session, j: usize, last: bool, n: usize) -> Change
 
 // Neither the part nor the file with it may be too long, and the last part may not leave the file too
 // short; else its write is asked.
+#[tactic(auto, unfolding(protocol::specs::Files::part_asked))]
 fn ask_part(session: Session, j: usize, before: u64, declared: u64, last: bool, n: usize) -> Change
     requires { (before ≡ (file_at session j).count) × (declared ≡ (file_at session j).declared) }
     ensures { result ≡ part_asked session j last n }

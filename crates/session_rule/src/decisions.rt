@@ -8,6 +8,7 @@ use protocol::{Change, Decision, Reply, Session, SessionState, Status, Told};
 
 // Allow opens an asked session, "reply OK"; deny drops it, "reply EPERM"; any session present may be
 // dropped, "with no reply".
+#[tactic(auto, unfolding(protocol::specs::Rule::decided_by))]
 pub fn decide(decision: Decision, session: Session) -> Change
     ensures { result ≡ decided_by decision session }
 {

@@ -12,6 +12,7 @@ use command::{Command, FileType, Transmission};
 use decimal::Number;
 use protocol::{Change, Due, FileRecord, FileState, Found, Session, Status, Told};
 
+#[tactic(auto, unfolding(protocol::specs::Files::file_of))]
 pub(crate) fn file(session: Session, command: Command, id: &[u8], name: &[u8]) -> Change
     ensures { result ≡ file_of session (request command id.now name.now) }
 {
@@ -32,6 +33,7 @@ pub(crate) fn if_new(session: Session, id: &[u8], change: Change) -> Change
 }
 
 // A file whose id is new: its type, its permissions, its size and its name.
+#[tactic(auto, unfolding(protocol::specs::Files::file_checked))]
 fn checked(session: Session, command: Command, id: &[u8], name: &[u8]) -> Change
     ensures { result ≡ file_checked session (request command id.now name.now) }
 {

@@ -7,6 +7,7 @@ use crate::replies::session_reply;
 use protocol::{Change, Due, Session, Status, Told};
 
 // A file still started drops the session; else its commit is asked.
+#[tactic(auto, unfolding(protocol::specs::Files::finish_of))]
 pub(crate) fn finish(session: Session) -> Change
     ensures { result ≡ finish_of session }
 {

@@ -9,10 +9,10 @@ pub fn padded(id: &[u8]) -> [u8; 32]
 {
     let mut array = [0u8; 32];
     if id.len() <= 32 {
-        bytes::copy(id, &mut array);
+        array[..id.len()].copy_from_slice(id);
         return array;
     }
-    bytes::copy(&id[..32], &mut array);
+    array.copy_from_slice(&id[..32]);
     array
 }
 

@@ -4,6 +4,8 @@
 // what `protocol` defines, for any session. The table finds the session and takes the change back.
 //
 // Not here: which session is meant, reading a command's text, and the bytes of a reply.
+#![tactic(auto)]
+
 pub mod actions;
 pub mod answers;
 mod changes;

@@ -22,6 +22,7 @@ pub(crate) fn path(session: Session, id: &[u8], name: &[u8]) -> Change
 }
 
 // The path's name.
+#[tactic(auto, unfolding(protocol::specs::Receives::path_checked))]
 fn checked(session: Session, id: &[u8], name: &[u8]) -> Change
     ensures { result ≡ path_checked session id.now name.now }
 {
