@@ -5,6 +5,8 @@
 //
 // Not here: what the step makes of the session (`session_rule`), reading a command's text, and the
 // bytes of a reply.
+#![tactic(auto)]
+
 pub mod absent;
 mod changes;
 pub mod find;
@@ -27,6 +29,7 @@ use protocol::{Decision, Failure, Found, Owed, Session, Table, Told};
 use session_rule::{answers, commands, decisions};
 
 // What a command does, while nothing is owed; its ids stand in the text, its name in the scratch.
+#[tactic(auto, unfolding(protocol::specs::Sessions::obey_of))]
 pub fn obey(table: Table, command: Command, text: &[u8], scratch: &[u8]) -> Next
     ensures { taken table result ≡ obey_of table command text.now scratch.now }
 {
@@ -66,6 +69,7 @@ pub fn present(
 }
 
 // The console has done what it was asked.
+#[tactic(auto, unfolding(protocol::specs::Sessions::settle_done))]
 pub fn done(table: Table) -> Next
     ensures { taken table result ≡ settle_done table }
 {
@@ -81,6 +85,7 @@ pub fn done(table: Table) -> Next
 }
 
 // The console has failed to do what it was asked.
+#[tactic(auto, unfolding(protocol::specs::Sessions::settle_failed))]
 pub fn failed(table: Table, failure: Failure) -> Next
     ensures { taken table result ≡ settle_failed table failure }
 {
@@ -96,6 +101,7 @@ pub fn failed(table: Table, failure: Failure) -> Next
 }
 
 // The console calls the file that it was asked for "a directory or not listed"; 18 where nothing is owed.
+#[tactic(auto, unfolding(protocol::specs::Sessions::settle_unlisted))]
 pub fn unlisted(table: Table) -> Next
     ensures { taken table result ≡ settle_unlisted table }
 {
@@ -111,6 +117,7 @@ pub fn unlisted(table: Table) -> Next
 }
 
 // The console lets an asked session be open, turns it away, or drops one, asked or open.
+#[tactic(auto, unfolding(protocol::specs::Sessions::decided_of))]
 pub fn decide(table: Table, decision: Decision, id: &[u8]) -> Next
     ensures { taken table result ≡ decided_of table decision id.now }
 {

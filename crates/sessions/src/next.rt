@@ -9,7 +9,7 @@ use command::Place;
 use protocol::{Change, Owed, Reply, Session, Table, Told};
 
 // The session that then stands at a place, what is then owed, what is told, and the reply.
-#[derive(Drop)]
+#[derive(Clone, Copy)]
 pub struct Next {
     pub place: usize,
     pub session: Session,

@@ -58,6 +58,7 @@ fn done_share(state: FileState, count: u64) -> u64
 }
 
 // A kept number with the share of a new record for that of an old one.
+#[tactic(auto, unfolding(protocol::specs::Table::adjusted))]
 fn adjusted(kept: u64, old: u64, new: u64) -> u64
     ensures { result ≡ adjusted kept old new }
 {
