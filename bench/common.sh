@@ -6,7 +6,7 @@ mkdir -p "$out"
 
 # Proves and builds a program.
 build() {
-    rt check "$1" >"$out/check.txt" 2>&1 || { tail -5 "$out/check.txt"; exit 1; }
+    bin/build "$1" >"$out/check.txt" 2>&1 || { tail -5 "$out/check.txt"; exit 1; }
 }
 
 # Builds a Rust program of this folder; further words go to rustc.
