@@ -1,15 +1,15 @@
 -- The cut, byte by byte: it loses no byte, and tells what document 01's frames tell of commands.
 use Prim.Native.Nat.{ℕ, ◌<◌}
-use mathlib.Core.Path.{◌≡◌, refl, ap, sym, ◌∙◌}
+use mathlib.Core.Path.{◌≡◌, refl, sym, ◌∙◌}
 use mathlib.Core.Bool.{Bool, true, false, cond, ◌||◌}
 use mathlib.Core.List.{List, [], ◌∷◌, ◌++◌, append_assoc, map}
 use mathlib.Core.List.{map-append}
-use native.Mathlib.Omega.{arith}
 use lib.ListN.{length}
 use lib.Dec.{eqb, leb}
 use lib.Seq.{append_snoc}
 use borrow.Author.Tests.{lt-ltb, eqb-true, leb-false}
-use Rattle.frames.specs.Stream.{Mode, Told, is_command, is_drag_drop, text_tells, text_limit, closed_tells, abandoned_tells, read_byte, framed}
+use Rattle.frames.specs.Stream.{Mode, Told, is_command, is_drag_drop, text_tells, text_limit, closed_tells, abandoned_tells}
+use Rattle.frames.specs.Stream.{read_byte, framed}
 use Rattle.frames.specs.Stream.{after_escape as mode_after}
 use Rattle.frames.proofs.Choices.{by_cond}
 use Rattle.frames.proofs.Marks.{not_drag}
@@ -65,7 +65,8 @@ completed-bytes (Mode.inside_escape t) b = by (eqb b 0x5C) refl
         ≡ opened ((t ++ 0x1B ∷ []) ++ (b ∷ []))
     by true e = rw (closed-bytes t, eqb-true b 0x5C e) (simp append_assoc)
     by false e =
-        rw (abandoned-bytes t, append_assoc (opened t) (bytes_of (after_escape b)) (held (mode_after b)), escape-bytes b) (simp append_assoc)
+        rw (abandoned-bytes t, append_assoc (opened t) (bytes_of (after_escape b)) (held (mode_after b)), escape-bytes b)
+        (simp append_assoc)
 
 pub cut-bytes : (m : Mode) (xs : List ℕ) → bytes_of (cut m xs) ≡ held m ++ xs
 unfolding cut bytes_of

@@ -2,7 +2,7 @@
 use Prim.Native.Nat.{ℕ}
 use mathlib.Core.Path.{◌≡◌, refl, ap}
 use mathlib.Core.Bool.{Bool, cond}
-use mathlib.Core.List.{List, [], ◌∷◌}
+use mathlib.Core.List.{List}
 use native.Mathlib.Omega.{arith}
 use lib.ListN.{length, get_or}
 use Rattle.octets.specs.Search.{index_of, index_after}
@@ -28,8 +28,8 @@ use Rattle.recordings.specs.WrongMenders.{MendTeeth}
 -- ---- what computing opens: who names one of these on an `unfolding` line opens all that its own line names
 unfoldable meaning : Unit {0}
 unfolding index_of index_after every equals starts_with split onto Alphabet.value_of Decode.verdict_of Decode.bytes_of Decode.scan
-    Decode.ending Decode.group Read.parse_of Read.magnitude_of Read.digits_of Read.ranged_of place_in key_byte safe_byte text_byte alias_read
-    word_read safe_read value_read is_key field_read fields_read text_read meaning_of
+    Decode.ending Decode.group Read.parse_of Read.magnitude_of Read.digits_of Read.ranged_of place_in key_byte safe_byte text_byte
+    alias_read word_read safe_read value_read is_key field_read fields_read text_read meaning_of
 meaning = tt
 
 unfoldable pieces : Unit {0}

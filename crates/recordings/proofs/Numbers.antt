@@ -12,7 +12,6 @@ use Rattle.octets.specs.Slices.{equals, starts_with}
 use Rattle.octets.specs.Split.{split}
 use Rattle.base64_codec.specs.Decode.{verdict_of, bytes_of}
 use Rattle.base64_codec.specs.declared.Verdict.{Verdict}
-use Rattle.base64_codec.specs.declared.Verdict.TheVariants as Verdict
 use Rattle.decimal.specs.Read.{parse_of}
 use Rattle.decimal.specs.declared.Parsed.{Parsed}
 use Rattle.decimal.specs.declared.Parsed.TheVariants.{Integer, Malformed, OutOfRange}
@@ -21,10 +20,9 @@ use Rattle.command.specs.Refusals.{refusal_number}
 use Rattle.command.specs.Keys.{Alias, Kind, place_in, keys, kind_at, number_of}
 use Rattle.command.specs.Letters.{safe_byte, text_byte}
 use Rattle.command.specs.Values.{Got, alias_read, word_read, over, safe_read, integer_read, base64_refusal, base64_read, value_read}
-use Rattle.command.specs.Fields.{Turn, and_then, is_key, equals_sign, key_of, value_of, known, field_read, fields_read, text_read}
-use Rattle.command.specs.Meaning.{Field, stored, once, meant, blank, values_in, missing, Meaning, complete, finished, meaning_of}
+use Rattle.command.specs.Fields.{Turn, and_then, is_key, equals_sign, key_of, value_of, field_read, fields_read, text_read}
+use Rattle.command.specs.Meaning.{Field, stored, once, meant, blank, values_in, missing, Meaning, finished, meaning_of}
 use Rattle.command.specs.declared.Refusal.{Refusal}
-use Rattle.command.specs.declared.Refusal.TheVariants as Refusal
 use Rattle.command.proofs.Cases.{by_test}
 
 number-some : (r : Refusal) → 0 < refusal_number r

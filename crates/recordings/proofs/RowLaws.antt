@@ -1,16 +1,16 @@
 -- The list: by its rows alone the recording is taken apart, and it has few of them.
-use Prim.Native.Nat.{ℕ, suc, ◌+◌, ◌-◌, ◌*◌, ◌<◌, ◌≤◌}
+use Prim.Native.Nat.{ℕ, ◌+◌, ◌-◌, ◌*◌, ◌<◌, ◌≤◌}
 use mathlib.Core.Path.{◌≡◌, refl, ap, sym, ◌∙◌}
-use mathlib.Core.Bool.{true, false}
-use mathlib.Core.List.{List, [], ◌∷◌, ◌++◌, append_assoc, append-nil}
+use mathlib.Core.Bool.{true}
+use mathlib.Core.List.{List, [], ◌∷◌, ◌++◌, append_assoc}
 use native.Mathlib.Omega.{arith}
-use native.Mathlib.Nat.{add-zero, add-sub_cancel_left, add_assoc}
+use native.Mathlib.Nat.{add-zero, add-sub_cancel_left}
 use native.Mathlib.Decide.{dec_lt}
-use lib.ListN.{length, take, drop, length-append}
+use lib.ListN.{length, drop, length-append}
 use lib.Seq.{take_at, drop_at}
 use Rattle.octets.proofs.Compare.{starts-short}
-use Rattle.frames.specs.Stream.{mark, is_command, framed}
-use Rattle.recordings.specs.Pieces.{Piece, opened, pieces_of, bytes_of, kept_bytes, rows_from, dropped}
+use Rattle.frames.specs.Stream.{mark, is_command}
+use Rattle.recordings.specs.Pieces.{Piece, pieces_of, bytes_of, kept_bytes, rows_from, dropped}
 use Rattle.recordings.specs.Laws.{text_in, Frame, IsRefused, NoneOutside, Settled, without, ListsTheRest, FewRows}
 use Rattle.recordings.proofs.PieceLaws.{rows-length}
 use Rattle.recordings.proofs.CutLaws.{covers}

@@ -5,11 +5,10 @@ use mathlib.Core.Bool.{Bool, true, false, cond}
 use mathlib.Core.List.{List, [], ◌∷◌, ◌++◌, append_assoc, append-nil}
 use lib.Dec.{eqb}
 use lib.Seq.{append_snoc}
-use borrow.Author.Tests.{ne_eqb, eqb-true}
+use borrow.Author.Tests.{ne_eqb}
 use Rattle.octets.proofs.Splits.{Free}
 use Rattle.frames.specs.Stream.{Mode, read_byte, framed}
-use Rattle.frames.specs.Stream.{after_escape as mode_after}
-use Rattle.recordings.specs.Pieces.{Piece, opened, closed_piece, abandoned_piece, after_escape, completed, held, cut}
+use Rattle.recordings.specs.Pieces.{Piece, opened, closed_piece, abandoned_piece, completed, cut}
 use Rattle.recordings.specs.Pieces.{outside_first, joined, pieces_after}
 
 pub run_inside : (t s r : List ℕ) → Free 0x1B t → cut (Mode.inside s) (t ++ r) ≡ cut (Mode.inside (s ++ t)) r

@@ -11,13 +11,11 @@ use lib.Seq.{take_at, drop-length}
 use lib.Dec.{leb, eqb}
 use borrow.Author.Tests.{leb-true, leb-false, eqb-true, eqb-false}
 use Rattle.octets.proofs.Lists.{drop_at, drop-end, part-rest}
-use Rattle.octets.proofs.Splits.{Free}
 use Rattle.frames.specs.Stream.{Mode, is_command, framed}
 use Rattle.command.specs.Meaning.{Meaning, meaning_of}
 use Rattle.recordings.specs.Pieces.{Piece, opened, by_meaning, closed_piece, abandoned_piece, cut, outside_first, joined, pieces_after}
 use Rattle.recordings.specs.Walk.{next_escape, meant, closed_of, abandoned_of, text_at, escape_at}
 use Rattle.recordings.specs.declared.sights.Sight.{Sight}
-use Rattle.recordings.specs.declared.sights.Sight.TheVariants as Sight
 use Rattle.recordings.proofs.Escapes.{Next, next-escape}
 use Rattle.recordings.proofs.Runs.{run-outside, cut-closed, cut-abandoned, escape-on}
 use Rattle.recordings.proofs.Runs.{plain_end, escape_end, open-end, open-escape-end}
@@ -189,7 +187,8 @@ module _ (xs : List ℕ) (at i j : ℕ) (h : at < length xs) (n : Next xs at i) 
   sees-text = by (leb (j + 2) (length xs)) refl
     where
       by : (u : Bool) → leb (j + 2) (length xs) ≡ u
-          → Sees xs at (cond u (cond (eqb (get_or xs (j + 1) 0) 0x5C) (closed_of t i (j + 2)) (abandoned_of t i j)) (Sight.Outside (length xs)))
+          → Sees xs at (cond u (cond (eqb (get_or xs (j + 1) 0) 0x5C) (closed_of t i (j + 2)) (abandoned_of t i j))
+          (Sight.Outside (length xs)))
       by true e = sees-ended (leb-true (j + 2) (length xs) e) (eqb (get_or xs (j + 1) 0) 0x5C) refl
       by false e = sees-open (leb-false (j + 2) (length xs) e)
 

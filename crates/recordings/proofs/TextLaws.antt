@@ -15,9 +15,7 @@ use Rattle.recordings.specs.Laws.{text_in}
 use Rattle.recordings.specs.Walk.{next_escape, closed_of, abandoned_of, text_at, escape_at}
 use Rattle.recordings.specs.Texts.{closed_text, abandoned_text, text_from, escape_text, next_text, text_between, sight_of}
 use Rattle.recordings.specs.declared.sights.Sight.{Sight}
-use Rattle.recordings.specs.declared.sights.Sight.TheVariants as Sight
 use Rattle.recordings.specs.declared.texts.TextSight.{TextSight}
-use Rattle.recordings.specs.declared.texts.TextSight.TheVariants as TextSight
 use Rattle.recordings.proofs.SightLaws.{between, Sees, next-sees}
 
 -- ---- read, they are what `mend` sees

@@ -5,7 +5,7 @@ use mathlib.Core.Bool.{Bool, true, false, cond}
 use mathlib.Core.List.{List, [], ◌∷◌, ◌++◌, append-nil}
 use native.Mathlib.Omega.{arith}
 use native.Mathlib.Nat.{zero-add}
-use lib.ListN.{length, take, drop, length-append, length-drop}
+use lib.ListN.{length, drop, length-append, length-drop}
 use lib.Seq.{sets, length-sets, length-take-le, drop-drop, take-add}
 use lib.Dec.{ltb, leb}
 use borrow.Author.Tests.{ltb-true, ltb-false, le-leb}
@@ -19,7 +19,6 @@ use Rattle.recordings.specs.Pieces.{Piece, cut, outside_first, joined, pieces_af
 use Rattle.recordings.specs.Pieces.{mended_of, list_of}
 use Rattle.recordings.specs.Walk.{next_escape, escape_at, with_row, tallied, outside_to, refused_to, kept_to, Walk, walk, turn_of, Walked}
 use Rattle.recordings.specs.declared.sights.Sight.{Sight}
-use Rattle.recordings.specs.declared.sights.Sight.TheVariants as Sight
 use Rattle.recordings.specs.declared.walk.Tally.{Tally}
 use Rattle.recordings.proofs.PieceLaws.{rows-length}
 use Rattle.recordings.proofs.SightLaws.{between, Sees, next-sees}

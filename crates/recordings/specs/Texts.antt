@@ -4,9 +4,7 @@ use Rattle.frames.specs.Stream.{is_command}
 use Rattle.command.specs.Meaning.{meaning_of}
 use Rattle.recordings.specs.Walk.{next_escape, meant}
 use Rattle.recordings.specs.declared.sights.Sight.{Sight}
-use Rattle.recordings.specs.declared.sights.Sight.TheVariants as Sight
 use Rattle.recordings.specs.declared.texts.TextSight.{TextSight}
-use Rattle.recordings.specs.declared.texts.TextSight.TheVariants as TextSight
 
 -- a text with its closer, and one without; its piece lies from a place up to another
 unfoldable pub closed_text : List ℕ → ℕ → ℕ → TextSight

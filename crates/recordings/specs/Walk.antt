@@ -8,7 +8,6 @@ use Rattle.frames.specs.Stream.{is_command}
 use Rattle.command.specs.Meaning.{Meaning, meaning_of}
 use Rattle.recordings.specs.Pieces.{pieces_of, dropped, mended_of, list_of}
 use Rattle.recordings.specs.declared.sights.Sight.{Sight}
-use Rattle.recordings.specs.declared.sights.Sight.TheVariants as Sight
 use Rattle.recordings.specs.declared.walk.Tally.{Tally}
 
 -- ---- what stands next from a place outside texts

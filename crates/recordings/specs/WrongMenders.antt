@@ -1,6 +1,6 @@
 -- Wrong menders, most made by changing the pieces of ours, each with one error. A law that held of one of them would be worth nothing;
 -- `MendTeeth` says that the laws are false of them.
-use Rattle.std.specs.Prelude.{ℕ, ◌-◌, List, [], ◌∷◌, ◌++◌, length, take, drop}
+use Rattle.std.specs.Prelude.{◌-◌, List, [], ◌∷◌, ◌++◌, length, take, drop}
 use Rattle.frames.specs.Stream.{Mode}
 use Rattle.recordings.specs.Pieces.{Piece, cut, outside_first, joined, pieces_of}
 use Rattle.recordings.specs.Laws.{Mender, Covers, ListsTheRest, SameCommands, DropsNothingTwice, Settles, Reports, FewRows}

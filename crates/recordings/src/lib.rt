@@ -4,6 +4,8 @@
 // Where its command texts stand is found by `texts`, which any reader of a recording may call.
 //
 // Not here: sessions. A command that every session would ignore is kept.
+#![tactic(auto)]
+
 mod sights;
 pub mod texts;
 mod walk;

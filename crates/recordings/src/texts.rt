@@ -18,6 +18,7 @@ pub enum TextSight {
 }
 
 // What stands next from a place on, which is outside texts.
+#[tactic(auto, unfolding(crate::specs::Texts::escape_text))]
 pub fn next_text(recording: &[u8], at: usize) -> TextSight
     ensures { result ≡ next_text recording.now at }
 {
@@ -33,6 +34,7 @@ pub fn next_text(recording: &[u8], at: usize) -> TextSight
 }
 
 // The text whose opener stands at a place.
+#[tactic(auto, unfolding(crate::specs::Texts::text_from))]
 fn text(recording: &[u8], start: usize) -> TextSight
     requires { start + 2 ≤ length recording.now }
     ensures { result ≡ text_from recording.now start (next_escape recording.now (start + 2)) }
@@ -50,6 +52,7 @@ fn text(recording: &[u8], start: usize) -> TextSight
 }
 
 // A text with its closer, whose frame lies from a place up to another.
+#[tactic(auto, unfolding(crate::specs::Texts::closed_text))]
 fn closed(text: &[u8], start: usize, end: usize) -> TextSight
     ensures { result ≡ closed_text text.now start end }
 {
@@ -60,6 +63,7 @@ fn closed(text: &[u8], start: usize, end: usize) -> TextSight
 }
 
 // A text that is abandoned, up to the 1B that does it.
+#[tactic(auto, unfolding(crate::specs::Texts::abandoned_text))]
 fn abandoned(text: &[u8], start: usize, end: usize) -> TextSight
     ensures { result ≡ abandoned_text text.now start end }
 {

@@ -46,6 +46,7 @@ pub(crate) fn over(recording: &[u8], output: &mut [u8], list: &mut [usize]) -> T
 }
 
 // Past what stands next.
+#[tactic(auto, unfolding(crate::specs::Walk::turn_of))]
 fn turn(
     sight: Sight,
     tally: Tally,
@@ -65,6 +66,7 @@ fn turn(
 }
 
 // A stretch outside a command, from the mark up to a place; no row where it is empty.
+#[tactic(auto, unfolding(crate::specs::Walk::outside_to))]
 fn outside(tally: Tally, to: usize, list: &mut [usize]) -> Tally
     requires { tally.rows ≤ recording_limit }
     ensures { outcome result list.new ≡ Walk.outside_to tally to list.old }
@@ -78,6 +80,7 @@ fn outside(tally: Tally, to: usize, list: &mut [usize]) -> Tally
 }
 
 // A refused command, from the mark up to a place.
+#[tactic(auto, unfolding(crate::specs::Walk::refused_to))]
 fn refused(tally: Tally, to: usize, why: u8, list: &mut [usize]) -> Tally
     requires { tally.rows ≤ recording_limit + 1 }
     ensures { outcome result list.new ≡ Walk.refused_to tally to why list.old }
@@ -88,6 +91,7 @@ fn refused(tally: Tally, to: usize, why: u8, list: &mut [usize]) -> Tally
 }
 
 // A frame that is kept, from the mark up to a place.
+#[tactic(auto, unfolding(crate::specs::Walk::kept_to))]
 fn kept(tally: Tally, to: usize, recording: &[u8], output: &mut [u8]) -> Tally
     requires { (tally.kept ≤ recording_limit) × (length recording.now ≤ recording_limit) }
     ensures { outcome result output.new ≡ Walk.kept_to tally to recording.now output.old }
@@ -110,6 +114,7 @@ fn moved(to: usize, kept: usize, rows: usize) -> Tally
 }
 
 // A row of the list, where it fits.
+#[tactic(auto, unfolding(crate::specs::Walk::with_row))]
 fn put_row(list: &mut [usize], row: usize, start: usize, len: usize, why: usize)
     requires { row ≤ recording_limit + 1 }
     ensures { list.new ≡ Walk.with_row list.old row start len why }
