@@ -4,7 +4,7 @@ use delta::Operation;
 use streams::Run;
 
 // How the run stands, and the place of the next operation; or that there is none.
-#[derive(Drop)]
+#[derive(Clone, Copy)]
 pub struct Listing {
     pub run: Run,
     pub at: usize,
@@ -12,9 +12,9 @@ pub struct Listing {
 }
 
 // Each operation takes a byte at least, so this ends long before the turns do.
-pub(crate) fn show(delta: &[u8]) {
+pub(crate) fn show(rt: &HostRuntime, delta: &[u8]) {
     let mut listing = Listing {
-        run: Run::Well,
+        run: Run::Well(rt.stdout()),
         at: 0,
         more: true,
     };
@@ -23,25 +23,25 @@ pub(crate) fn show(delta: &[u8]) {
         if !listing.more {
             break;
         }
-        listing = next(listing, delta);
+        listing = next(rt, listing, delta);
         turns -= 1;
     }
     let run = listing.run;
-    run.end(b"patch");
+    run.end(rt.stderr(), b"patch");
 }
 
-fn next(listing: Listing, delta: &[u8]) -> Listing {
+fn next(rt: &HostRuntime, listing: Listing, delta: &[u8]) -> Listing {
     let run = listing.run;
     let step = delta::operation_at(delta, listing.at);
     let operation = step.operation;
     Listing {
-        run: line(run, operation),
+        run: line(rt, run, operation),
         at: step.next,
         more: goes_on(operation),
     }
 }
 
-fn line(run: Run, operation: Operation) -> Run {
+fn line(rt: &HostRuntime, run: Run, operation: Operation) -> Run {
     match operation {
         Operation::End => run,
         Operation::Block(i) => run.text(b"block ").number(i as usize).text(b"\n"),
@@ -49,7 +49,7 @@ fn line(run: Run, operation: Operation) -> Run {
         Operation::Hash(start, n) => pair(run.text(b"hash "), start, n),
         Operation::Blocks(i, n) => pair(run.text(b"blocks "), i as usize, n as usize),
         Operation::Refused(why) => {
-            report::refused(why);
+            report::refused(rt.stderr(), why);
             run
         }
     }

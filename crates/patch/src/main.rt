@@ -2,6 +2,8 @@
 //
 // The new file goes to standard output, or to NEW, and the delta's hash in hex to standard error:
 // whoever has the hash's algorithm compares it. With `patch show DELTA` its operations are listed.
+#![tactic(auto)]
+
 mod files;
 mod listing;
 mod report;
@@ -21,29 +23,30 @@ const SHOWN: usize = 2;
 // A byte more than an input may have is read, so that a longer one is refused.
 const ROOM: usize = Measured::LIMIT + 1;
 
-fn main() {
-    match os::arg_count() {
-        3 => show(),
-        4 => patch(false),
-        5 => patch(true),
-        _ => report::usage(),
+fn main(rt: HostRuntime) {
+    match streams::argument_count(&rt) {
+        3 => show(&rt),
+        4 => patch(&rt, false),
+        5 => patch(&rt, true),
+        _ => report::usage(rt.stderr()),
     }
 }
 
-fn patch(to_file: bool) {
+fn patch(rt: &HostRuntime, to_file: bool) {
     let mut signature = [0u8; ROOM];
     let mut old = [0u8; ROOM];
     let mut delta = [0u8; ROOM];
-    let Got::Bytes(s) = files::read(SIGNATURE, &mut signature) else {
+    let Got::Bytes(s) = files::read(rt, SIGNATURE, &mut signature) else {
         return;
     };
-    let Got::Bytes(o) = files::read(OLD, &mut old) else {
+    let Got::Bytes(o) = files::read(rt, OLD, &mut old) else {
         return;
     };
-    let Got::Bytes(d) = files::read(DELTA, &mut delta) else {
+    let Got::Bytes(d) = files::read(rt, DELTA, &mut delta) else {
         return;
     };
     apply(
+        rt,
         octets::part(&signature, 0, s),
         octets::part(&old, 0, o),
         octets::part(&delta, 0, d),
@@ -52,32 +55,32 @@ fn patch(to_file: bool) {
 }
 
 // The output has room for whatever a delta may make.
-fn apply<'a>(signature: &'a [u8], old: &'a [u8], delta: &'a [u8], to_file: bool) {
+fn apply<'a>(rt: &HostRuntime, signature: &'a [u8], old: &'a [u8], delta: &'a [u8], to_file: bool) {
     let mut out = [0u8; Measured::LIMIT];
     let measured = delta::apply(signature, old, delta, &mut out);
-    finish(measured, &out, delta, to_file);
+    finish(rt, measured, &out, delta, to_file);
 }
 
-fn finish<'a>(measured: Measured, out: &'a [u8], delta: &'a [u8], to_file: bool) {
+fn finish<'a>(rt: &HostRuntime, measured: Measured, out: &'a [u8], delta: &'a [u8], to_file: bool) {
     match measured {
         Measured::Length(n, h) => {
-            if files::deliver(octets::part(out, 0, n), to_file) {
-                report::hash(h, delta);
+            if files::deliver(rt, octets::part(out, 0, n), to_file) {
+                report::hash(rt.stderr(), h, delta);
             }
         }
-        Measured::Refused(why) => report::refused(why),
+        Measured::Refused(why) => report::refused(rt.stderr(), why),
     }
 }
 
 // The first argument is the word `show`.
-fn show() {
-    if !files::is_word(SIGNATURE, b"show") {
-        report::usage();
+fn show(rt: &HostRuntime) {
+    if !files::is_word(rt, SIGNATURE, b"show") {
+        report::usage(rt.stderr());
         return;
     }
     let mut delta = [0u8; ROOM];
-    let Got::Bytes(d) = files::read(SHOWN, &mut delta) else {
+    let Got::Bytes(d) = files::read(rt, SHOWN, &mut delta) else {
         return;
     };
-    listing::show(octets::part(&delta, 0, d));
+    listing::show(rt, octets::part(&delta, 0, d));
 }
