@@ -9,6 +9,7 @@ use sending::{Heeded, News, Transfer, Word};
 use session_rule::ids::same_id;
 
 // A command that was read; its ids stand in the text, its status in the scratch.
+#[tactic(auto, unfolding(sending::specs::Heeding::heed_of))]
 pub(crate) fn on_command(
     transfer: Transfer,
     command: Command,
@@ -36,6 +37,7 @@ pub(crate) fn on_command(
 }
 
 // Whether a command with this action and id is a status of the session.
+#[tactic(auto, unfolding(sending::specs::Heeding::is_ours))]
 fn is_ours(transfer: Transfer, action: Action, id: &[u8]) -> bool
     ensures { result ≡ is_ours transfer action id.now }
 {
@@ -67,6 +69,7 @@ fn is_status(action: Action) -> bool
 }
 
 // What the whole of a status says.
+#[tactic(auto, unfolding(sending::specs::Heeding::word_of))]
 fn word_of(status: &[u8]) -> Word
     ensures { result ≡ word_of status.now }
 {

@@ -2,6 +2,8 @@
 // or stops it, or closes or stops a file of it.
 //
 // Public beside `on_report` are the session's files and stages, which the calls that write need too.
+#![tactic(auto)]
+
 mod commands;
 pub mod files;
 pub mod stages;
@@ -19,6 +21,7 @@ use sending::{Heeded, News, Transfer};
 use statuses::still;
 
 // A report, given its text.
+#[tactic(auto, unfolding(sending::specs::Calls::report_heed))]
 pub fn on_report(transfer: Transfer, report: Report, text: &[u8], scratch: &mut [u8]) -> Heeded
     ensures { outcome result scratch.new ≡ report_heed transfer report text.now scratch.old }
 {

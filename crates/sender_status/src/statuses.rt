@@ -10,6 +10,7 @@ use protocol::Found;
 use sending::{FileStage, Heeded, News, SentFile, Stage, Transfer, Word};
 
 // A status of the session, by its fid, its size, its place in the scratch and what its word says.
+#[tactic(auto, unfolding(sending::specs::Heeding::status_heed))]
 pub(crate) fn on_status(
     transfer: Transfer,
     file: &[u8],
@@ -26,6 +27,7 @@ pub(crate) fn on_status(
 }
 
 // A status without fid.
+#[tactic(auto, unfolding(sending::specs::Heeding::session_heed))]
 fn session(transfer: Transfer, place: Place, word: Word) -> Heeded
     ensures { result ≡ Heeding.session_heed transfer place word }
 {
@@ -60,6 +62,7 @@ fn allowed(transfer: Transfer) -> Heeded
 }
 
 // A status for a file, where it was found.
+#[tactic(auto, unfolding(sending::specs::Heeding::found_heed))]
 fn found(transfer: Transfer, size: Number, place: Place, word: Word, found: Found) -> Heeded
     ensures { result ≡ Heeding.found_heed transfer size place word found }
 {
@@ -69,6 +72,7 @@ fn found(transfer: Transfer, size: Number, place: Place, word: Word, found: Foun
     }
 }
 
+#[tactic(auto, unfolding(sending::specs::Heeding::file_heed))]
 fn file(transfer: Transfer, i: usize, size: Number, place: Place, word: Word) -> Heeded
     ensures { result ≡ Heeding.file_heed transfer i size place word }
 {
@@ -80,6 +84,7 @@ fn file(transfer: Transfer, i: usize, size: Number, place: Place, word: Word) ->
 }
 
 // A file's OK.
+#[tactic(auto, unfolding(sending::specs::Heeding::ok_heed))]
 fn ok(transfer: Transfer, i: usize, size: Number) -> Heeded
     ensures { result ≡ Heeding.ok_heed transfer i size }
 {
