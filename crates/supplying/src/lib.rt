@@ -3,6 +3,8 @@
 // copied out of its table: what becomes of it, and the frame that is written.
 //
 // No public function has a `requires`: any session, any place and any slices are answered.
+#![tactic(auto)]
+
 mod changes;
 mod commands;
 pub mod turns;
@@ -26,7 +28,7 @@ use sessions::next::step;
 
 // What is supplied; its strings stand in two slices, the text and the contents. The text of a home path
 // is the session's id, and its contents are the path; the contents of a part are its bytes.
-#[derive(Drop)]
+#[derive(Clone, Copy)]
 pub enum Supplying {
     // The ids of an entry stand in the text, its name, its own id and a link's target in the contents.
     List(Entry),
@@ -39,7 +41,7 @@ pub enum Supplying {
 
 // What a call leaves: the session to put back, what is owed, what is told, and how many bytes of the
 // buffer were written.
-#[derive(Drop)]
+#[derive(Clone, Copy)]
 pub struct Supplied {
     pub session: Session,
     pub owed: Owed,

@@ -22,6 +22,7 @@ const HOME_ROOM: usize = Framing::TEXT_LIMIT - 2;
 
 // Writes the file command of an entry: its ids stand in the text, its name, its own id and a link's target
 // in the contents.
+#[tactic(auto, unfolding(protocol::specs::Supplies::framed_for))]
 pub(crate) fn write_entry<'a>(
     entry: Entry,
     text: &'a [u8],
@@ -35,6 +36,7 @@ pub(crate) fn write_entry<'a>(
 }
 
 // Writes why a path is not listed: "status" with its id and the code.
+#[tactic(auto, unfolding(protocol::specs::Supplies::framed_for))]
 pub(crate) fn write_error(
     text: &[u8],
     id: Place,
