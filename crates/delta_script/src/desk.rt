@@ -10,7 +10,7 @@ use streams::Run;
 
 // How the run stands, whether every append fitted, how many bytes of each input there are, how many of
 // the output are lent, and how many the last apply made.
-#[derive(Drop)]
+#[derive(Clone, Copy)]
 pub struct Desk {
     pub run: Run,
     pub good: bool,

@@ -4,7 +4,7 @@ use delta::Operation;
 use streams::Run;
 
 // How the run stands, and the place of the next operation; or that there is none.
-#[derive(Drop)]
+#[derive(Clone, Copy)]
 pub struct Listing {
     pub run: Run,
     pub at: usize,

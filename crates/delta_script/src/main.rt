@@ -1,5 +1,7 @@
 // The scripted patcher: makes the calls of a script on a signature, an old file and a delta that it
 // builds up, and prints every answer and what became of the output.
+#![tactic(auto)]
+
 mod desk;
 mod line;
 mod listing;
@@ -7,28 +9,29 @@ mod script;
 
 use desk::Desk;
 use script_parts::{SCRIPT_LIMIT, bad_script};
+use std::io::Stdout;
 use streams::{Got, Run};
 
 // One byte more is read, so that a longer script is seen.
-fn main() {
+fn main(rt: HostRuntime) {
     let mut bytes = [0u8; SCRIPT_LIMIT + 1];
-    let run = match streams::read_all(&mut bytes) {
-        Got::Bytes(n) => play(&bytes[..n]),
+    let run = match streams::read_all(rt.stdin(), &mut bytes) {
+        Got::Bytes(n) => play(rt.stdout(), &bytes[..n]),
         Got::Failed => Run::NotRead,
     };
-    run.end(b"delta_script");
+    run.end(rt.stderr(), b"delta_script");
 }
 
 // Makes the script's operations one after another, until something fails.
-fn play(bytes: &[u8]) -> Run {
+fn play(stdout: Stdout, bytes: &[u8]) -> Run {
     if bytes.len() > SCRIPT_LIMIT {
-        return bad_script(Run::Well);
+        return bad_script(Run::Well(stdout));
     }
     let mut signature = [0u8; Desk::ROOM];
     let mut old = [0u8; Desk::ROOM];
     let mut delta = [0u8; Desk::ROOM];
     let mut out = [0xA5u8; Desk::ROOM];
-    let mut state = desk::fresh(Run::Well);
+    let mut state = desk::fresh(Run::Well(stdout));
     let mut at = 0;
     while at < bytes.len() {
         let run = state.run;
