@@ -2,5 +2,3 @@ pub mod Putting
 pub mod Joined
 pub mod KeyLaws
 pub mod TextLaws
-pub mod Again
-pub mod Locals

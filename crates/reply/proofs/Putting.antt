@@ -12,7 +12,6 @@ use borrow.Author.Tests.{le-leb, lt-leb}
 use Rattle.octets.specs.Outcome.{Outcome, outcome}
 use Rattle.octets.specs.Slices.{copy_at}
 use Rattle.octets.specs.declared.Stored.{Stored}
-use Rattle.octets.specs.declared.Stored.TheVariants as Stored
 use Rattle.octets.proofs.Stores.{sets-append}
 use Rattle.reply.specs.Puts.{place_after, put, put_all}
 use Rattle.reply.specs.Parts.{joined, written}

@@ -1,4 +1,4 @@
--- Texts made in an array: what `decimal::write` and `base64::encode` store from its start on, up to where it ends.
+-- Texts made in an array: what `decimal::write` and `base64_codec::encode` store from its start on, up to where it ends.
 use Prim.Native.Nat.{ℕ, ◌+◌, ◌≤◌}
 use mathlib.Core.Path.{◌≡◌, refl, ◌∙◌, ap}
 use mathlib.Core.Bool.{Bool, true, false, not, cond, ◌&&◌}
@@ -8,13 +8,11 @@ use lib.ListN.{length, take}
 use borrow.Author.Tests.{le-leb}
 use Rattle.octets.specs.Outcome.{Outcome, outcome, stored_at}
 use Rattle.octets.specs.declared.Stored.{Stored}
-use Rattle.octets.specs.declared.Stored.TheVariants as Stored
 use Rattle.octets.proofs.Stores.{part-stored}
 use Rattle.base64_codec.specs.Encode as Base64
 use Rattle.decimal.specs.Write.{width_of, text_of, negative_zero, out_of_range, writable, write_of}
 use Rattle.decimal.specs.declared.Number.{Number}
 use Rattle.decimal.specs.declared.Written.{Written}
-use Rattle.decimal.specs.declared.Written.TheVariants as Written
 use Rattle.decimal.proofs.Widths.{width-least}
 use Rattle.decimal.proofs.Digits.{length-fixed}
 use Rattle.command.specs.Values.{count}

@@ -3,7 +3,6 @@ use Rattle.std.specs.Prelude.{ℕ, ◌+◌, List, [], ◌∷◌, length}
 use denote.Ref.{at_last}
 use Rattle.octets.specs.Outcome.{Outcome, outcome, stored_at}
 use Rattle.octets.specs.declared.Stored.{Stored}
-use Rattle.octets.specs.declared.Stored.TheVariants as Stored
 use Rattle.reply.specs.declared.writer.Writer.{Writer}
 
 -- where bytes end that were to be stored from a place on: there, where they did not fit

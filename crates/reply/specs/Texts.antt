@@ -1,7 +1,6 @@
 -- Texts that are made in an array.
 use Rattle.std.specs.Prelude.{ℕ, List, take}
 use Rattle.decimal.specs.declared.Written.{Written}
-use Rattle.decimal.specs.declared.Written.TheVariants as Written
 use Rattle.reply.specs.declared.texts.Text.{Text}
 
 -- the first so many bytes of the array

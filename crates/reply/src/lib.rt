@@ -2,6 +2,8 @@
 //
 // No exported function has a `requires`: any reply and any buffer are answered. What a reply says, and
 // whether one is due, is decided before.
+#![tactic(auto)]
+
 mod fields;
 mod texts;
 mod writer;

@@ -66,7 +66,10 @@ pub(crate) fn status_text(status: Status) -> Text
 {
     let word = word_of(status);
     let mut bytes = [0; 20];
-    let len = writer::place_after(base64_codec::encode(first(&word.0, word.1), &mut bytes, 0), 0);
+    let len = writer::place_after(
+        base64_codec::encode(first(&word.0, word.1), &mut bytes, 0),
+        0,
+    );
     Text {
         bytes: bytes,
         len: len,

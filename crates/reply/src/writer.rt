@@ -1,8 +1,6 @@
 // The writer: a borrowed buffer, and the place of the next byte in it.
 //
-// A function over a struct that holds a reference is proved by a walk, by hand, so there are two:
-// one puts a part, the other all parts of a reply. What a part does to the buffer is decided in
-// `put_at`, on slice and number.
+// What a part does to the buffer is decided in `put_at`, on slice and number.
 ghost use Rattle.std.specs.Prelude.{◌≡◌, [], ◌∷◌};
 ghost use Rattle.octets.specs.Outcome.{outcome};
 ghost use Rattle.reply.specs.Puts.{place_after, put, put_all, stored};
@@ -16,16 +14,12 @@ struct Writer<'b> {
 }
 
 impl<'b> Writer<'b> {
-    // The writer after a part is put in.
-    fn put<'s>(self, part: &'s [u8]) -> Writer<'b>
-        ensures { result ≡ stored self.entry part.now }
+    // Puts a part in; the next one goes after it.
+    fn put(&mut self, part: &[u8])
+        ensures { self.new ≡ stored self.old part.now }
     {
         let at = self.at;
-        let next = put_at(&mut *self.buf, at, part);
-        Writer {
-            buf: self.buf,
-            at: next,
-        }
+        self.at = put_at(&mut *self.buf, at, part);
     }
 }
 
@@ -47,18 +41,18 @@ pub(crate) fn put_parts<'b, 's>(
         (opening.now ∷ id_key.now ∷ id.now ∷ file_key.now ∷ file.now
         ∷ size_key.now ∷ size.now ∷ word_key.now ∷ word.now ∷ closing.now ∷ []) }
 {
-    Writer { buf: buf, at: 0 }
-        .put(opening)
-        .put(id_key)
-        .put(id)
-        .put(file_key)
-        .put(file)
-        .put(size_key)
-        .put(size)
-        .put(word_key)
-        .put(word)
-        .put(closing)
-        .at
+    let mut w = Writer { buf: buf, at: 0 };
+    w.put(opening);
+    w.put(id_key);
+    w.put(id);
+    w.put(file_key);
+    w.put(file);
+    w.put(size_key);
+    w.put(size);
+    w.put(word_key);
+    w.put(word);
+    w.put(closing);
+    w.at
 }
 
 // Stores a part from place `at` on and says where the next one goes. A part that does not fit is left
