@@ -29,10 +29,11 @@ abbrev pub ReadsOnce : (old new : Option (List ℕ)) → Got → List ℕ → Ty
 ReadsOnce old new (Bytes n) xs = Consumes old new (take n xs) × (n ≡ 0 → 0 < length xs → IsAtEnd new)
 ReadsOnce old new Failed xs = KeepsBytes old new
 
--- likewise of reads until the buffer is full: where it is not, nothing is left
+-- likewise of reads that gave n bytes until the buffer was full: where it is not, nothing is left
 abbrev pub Fills : (old new : Option (List ℕ)) → ℕ → List ℕ → Type 0
 Fills old new n xs = Consumes old new (take n xs) × (n < length xs → IsAtEnd new)
 
+-- the same of what they are answered by; of reads of which one failed nothing is said
 abbrev pub ReadsOn : (old new : Option (List ℕ)) → Got → List ℕ → Type 0
 ReadsOn old new (Bytes n) xs = Fills old new n xs
 ReadsOn old new Failed xs = Unit {0}
