@@ -12,7 +12,6 @@ use Rattle.command.specs.Meaning.{Meaning, meaning_of}
 use Rattle.command.specs.Read.{Answer, answered, scratch_room, read_of, meaning_in}
 use Rattle.command.specs.declared.Command.{Command}
 use Rattle.command.specs.declared.Reading.{Reading}
-use Rattle.command.specs.declared.Reading.TheVariants as Reading
 use Rattle.command.proofs.Simulation.{read-means}
 use Rattle.protocol.specs.Table.{empty_table}
 use Rattle.protocol.specs.Sessions.{id_in, obey_of}
@@ -20,7 +19,6 @@ use Rattle.protocol.specs.Calls.{read_act}
 use Rattle.protocol.specs.Promises.{Sized}
 use Rattle.protocol.specs.declared.Table.{Table}
 use Rattle.protocol.specs.declared.Told.{Told}
-use Rattle.protocol.specs.declared.Told.TheVariants as Told
 use Rattle.protocol.specs.declared.Decision.TheVariants as Decision
 use Rattle.protocol.proofs.Sizes.{empty-sized, obey-sized, done-sized, decided-sized}
 use Rattle.protocol.proofs.CutsReading.{SameReading, refused, read, same-reading}
@@ -30,9 +28,7 @@ use Rattle.recordings.specs.Mend.{recording_limit}
 use Rattle.recordings.specs.Walk.{meant}
 use Rattle.recordings.specs.Texts.{next_text, text_between, sight_of}
 use Rattle.recordings.specs.declared.sights.Sight.{Sight}
-use Rattle.recordings.specs.declared.sights.Sight.TheVariants as Sight
 use Rattle.recordings.specs.declared.texts.TextSight.{TextSight}
-use Rattle.recordings.specs.declared.texts.TextSight.TheVariants as TextSight
 use Rattle.recordings.proofs.SightLaws.{between, Sees}
 use Rattle.recordings.proofs.TextLaws.{text-sees, Whole, next-whole, text-between}
 use Rattle.hearing.specs.Hearing.{Sighting, sightings_from, Happening, heard_told, answered_by, heard_by, table_after}

@@ -8,5 +8,4 @@ pub mod Replaying
 pub mod Wholly
 mod RowLaws
 mod NotedLaws
-mod ToldLaws
 mod HearLaws

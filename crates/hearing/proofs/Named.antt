@@ -10,10 +10,8 @@ use Rattle.command.specs.declared.Command.{Command}
 use Rattle.protocol.specs.Table.{empty_table}
 use Rattle.protocol.specs.Calls.{Acted, read_act}
 use Rattle.protocol.specs.declared.Ask.{Ask}
-use Rattle.protocol.specs.declared.Ask.TheVariants as Ask
 use Rattle.protocol.specs.declared.Table.{Table}
 use Rattle.protocol.specs.declared.Told.{Told}
-use Rattle.protocol.specs.declared.Told.TheVariants as Told
 use Rattle.protocol.proofs.CutsRun.{zeros}
 use Rattle.recordings.specs.Pieces.{Piece, pieces_of, bytes_of}
 use Rattle.recordings.specs.Laws.{text_in, Frame, Settled}

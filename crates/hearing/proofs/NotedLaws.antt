@@ -23,9 +23,7 @@ use Rattle.command.proofs.SimulationSlots.{each_at, bytes_slot}
 use Rattle.command.proofs.Simulation.{Alike, read-agree}
 use Rattle.protocol.specs.Sessions.{string_in}
 use Rattle.protocol.specs.declared.Due.{Due}
-use Rattle.protocol.specs.declared.Due.TheVariants as Due
 use Rattle.protocol.specs.declared.Told.{Told}
-use Rattle.protocol.specs.declared.Told.TheVariants as Told
 use Rattle.protocol.proofs.Laws.{no_way}
 use Rattle.protocol.proofs.Tellings.{is_plain, Tells, tells, asks}
 use Rattle.recordings.specs.Mend.{recording_limit}

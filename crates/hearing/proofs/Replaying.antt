@@ -13,13 +13,13 @@ use Rattle.frames.proofs.Follows.{stream-append, call-follows}
 use Rattle.protocol.specs.Table.{empty_table}
 use Rattle.protocol.specs.Replies.{reply_room}
 use Rattle.protocol.specs.Sessions.{settle_done, decided_of}
-use Rattle.protocol.specs.Calls.{is_owed, Feeding, feeding, feed_refused, scanned_feed, is_short, feed_of, replied, guarded, allow_of, done_of}
+use Rattle.protocol.specs.Calls.{is_owed, Feeding, feeding, feed_refused, scanned_feed, is_short, feed_of, replied}
+use Rattle.protocol.specs.Calls.{guarded, allow_of, done_of}
 use Rattle.protocol.specs.History.{Event, bytes_of, last_ask, marks_of}
 use Rattle.protocol.specs.Machine.{ours, Call, World, is_refused, start}
 use Rattle.protocol.specs.Cuts.{after}
 use Rattle.protocol.specs.declared.Decision.TheVariants as Decision
 use Rattle.protocol.specs.declared.Told.{Told as Telling}
-use Rattle.protocol.specs.declared.Told.TheVariants as Telling
 use Rattle.protocol.specs.declared.Stepped.{Stepped}
 use Rattle.protocol.proofs.Laws.{no_way}
 use Rattle.protocol.proofs.Ours.{AllLent, step}

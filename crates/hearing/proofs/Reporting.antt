@@ -10,12 +10,10 @@ use Rattle.octets.specs.Outcome.{Outcome, outcome}
 use Rattle.frames.specs.Stream.{Told, is_drag_drop}
 use Rattle.frames.specs.Follows.{told_of}
 use Rattle.frames.specs.declared.Report.{Report}
-use Rattle.frames.specs.declared.Report.TheVariants as Report
 use Rattle.command.specs.Meaning.{Meaning, meaning_of}
 use Rattle.command.specs.Slots as Slots
 use Rattle.command.specs.Read.{scratch_room, Answer, read_of}
 use Rattle.command.specs.declared.FileType.{FileType}
-use Rattle.command.specs.declared.FileType.TheVariants as FileType
 use Rattle.command.specs.declared.Command.{Command}
 use Rattle.protocol.specs.Change.{ask_of}
 use Rattle.protocol.specs.Sessions.{string_in, id_in, settle_done}
@@ -26,10 +24,8 @@ use Rattle.protocol.specs.Stretches.{Key}
 use Rattle.protocol.specs.Machine.{is_refused}
 use Rattle.protocol.specs.Promises.{Sized}
 use Rattle.protocol.specs.declared.Due.{Due}
-use Rattle.protocol.specs.declared.Due.TheVariants as Due
 use Rattle.protocol.specs.declared.Table.{Table}
 use Rattle.protocol.specs.declared.Told.{Told as Telling}
-use Rattle.protocol.specs.declared.Told.TheVariants as Telling
 use Rattle.protocol.specs.declared.Stepped.{Stepped}
 use Rattle.protocol.proofs.Laws.{no_way}
 use Rattle.protocol.proofs.Means.{Means, Read, text-read}

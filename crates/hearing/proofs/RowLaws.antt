@@ -1,10 +1,9 @@
 -- Rows of seven numbers: what stands in them, one more of them, and bytes stored after their parts.
 use Prim.Native.Nat.{ℕ, ◌+◌, ◌*◌, ◌≤◌}
-use mathlib.Core.Path.{◌≡◌, refl, ap, sym, ◌∙◌}
+use mathlib.Core.Path.{◌≡◌, refl, ap, ◌∙◌}
 use mathlib.Core.List.{List, [], ◌∷◌, ◌++◌}
 use native.Mathlib.Omega.{arith}
-use native.Mathlib.Numerals.{towards_suc}
-use lib.ListN.{length, take, drop, set, length-append}
+use lib.ListN.{length, take, drop, length-append}
 use lib.Seq.{sets, sets-eq, length-sets, length-take-le, take_at}
 use borrow.Author.Tests.{le-leb}
 use Rattle.octets.specs.Slices.{part_of}
@@ -14,11 +13,6 @@ use Rattle.recordings.specs.Mend.{recording_limit}
 use Rattle.hearing.specs.Hearing.{Happening}
 use Rattle.hearing.specs.Rows.{happening_of, happenings_in, Apart}
 use Rattle.hearing.specs.Steps.{row_of, with_row}
-
--- seven stores one after the other; the stored numbers are had from the equation e
-pub put7 : (l : List ℕ) (o : ℕ) {ns x : List ℕ} {a b c d e f g : ℕ} {r : List ℕ} → ns ≡ a ∷ b ∷ c ∷ d ∷ e ∷ f ∷ g ∷ r → sets l o ns ≡ x
-    → sets (set (set (set (set (set (set (set l o a) (o + 1) b) (o + 2) c) (o + 3) d) (o + 4) e) (o + 5) f) (o + 6) g) (o + 7) r ≡ x
-put7 l o e p = simp towards_suc (sym (ap (sets l o) e) ∙ p)
 
 -- whole rows
 pub data Rowed : List ℕ → Type 0 where

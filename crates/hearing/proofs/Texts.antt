@@ -19,10 +19,8 @@ use Rattle.command.specs.declared.Command.{Command}
 use Rattle.protocol.specs.Calls.{Acted, read_act}
 use Rattle.protocol.specs.Table.{empty_table}
 use Rattle.protocol.specs.declared.Ask.{Ask}
-use Rattle.protocol.specs.declared.Ask.TheVariants as Ask
 use Rattle.protocol.specs.declared.Table.{Table}
 use Rattle.protocol.specs.declared.Told.{Told as Telling}
-use Rattle.protocol.specs.declared.Told.TheVariants as Telling
 use Rattle.protocol.proofs.CutsRun.{zeros, text_in, act_on}
 use Rattle.protocol.proofs.Means.{Read, refused, text-read}
 use Rattle.recordings.specs.Pieces.{Piece, pieces_of, kept_bytes}

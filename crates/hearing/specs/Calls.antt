@@ -4,7 +4,6 @@ use Rattle.recordings.specs.Mend.{recording_limit}
 use Rattle.hearing.specs.Hearing.{Happening, heard_in}
 use Rattle.hearing.specs.Rows.{happenings_in, Apart}
 use Rattle.hearing.specs.declared.Notes.{Notes}
-use Rattle.hearing.specs.declared.Notes.TheVariants as Notes
 
 pub data Account : Type 0 where
   heard : List Happening → Account

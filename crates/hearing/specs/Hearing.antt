@@ -4,16 +4,13 @@ use Rattle.octets.specs.Slices.{part_of}
 use Rattle.command.specs.Read.{scratch_room, read_of}
 use Rattle.command.specs.declared.Command.{Command}
 use Rattle.command.specs.declared.FileType.{FileType}
-use Rattle.command.specs.declared.FileType.TheVariants as FileType
 use Rattle.protocol.specs.Table.{empty_table}
 use Rattle.protocol.specs.Sessions.{id_in, file_id_in, settle_done, decided_of}
 use Rattle.protocol.specs.Calls.{Acted, read_act}
 use Rattle.protocol.specs.Stretches.{Key}
 use Rattle.protocol.specs.declared.Table.{Table}
 use Rattle.protocol.specs.declared.Ask.{Ask}
-use Rattle.protocol.specs.declared.Ask.TheVariants as Ask
 use Rattle.protocol.specs.declared.Told.{Told}
-use Rattle.protocol.specs.declared.Told.TheVariants as Told
 use Rattle.protocol.specs.declared.Decision.TheVariants as Decision
 use Rattle.recordings.specs.Pieces.{Piece, pieces_of}
 use Rattle.recordings.specs.Laws.{text_in}

@@ -2,7 +2,7 @@
 use Rattle.std.specs.Prelude.{ℕ, ◌+◌, ◌≤◌, cond, List, [], ◌∷◌, eqb}
 use Rattle.octets.specs.Slices.{part_of}
 use Rattle.protocol.specs.Stretches.{Key}
-use Rattle.hearing.specs.Hearing.{Place, Happening}
+use Rattle.hearing.specs.Hearing.{Happening}
 
 -- 0 for a part and 1 for a start; where the session's id and the file's id stand in the recording; and where its part stands in the bytes
 abbrev pub happening_of : (recording bytes : List ℕ) (kind id id_len file file_len part part_len : ℕ) → Happening

@@ -8,13 +8,10 @@ use Rattle.command.specs.declared.Command.{Command}
 use Rattle.command.specs.declared.Place.{Place}
 use Rattle.protocol.specs.Sessions.{id_in, obey_of}
 use Rattle.protocol.specs.declared.Ask.{Ask}
-use Rattle.protocol.specs.declared.Ask.TheVariants as Ask
 use Rattle.protocol.specs.declared.Told.{Told}
-use Rattle.protocol.specs.declared.Told.TheVariants as Told
 use Rattle.recordings.specs.Mend.{recording_limit}
 use Rattle.recordings.specs.Texts.{text_between}
 use Rattle.recordings.specs.declared.texts.TextSight.{TextSight}
-use Rattle.recordings.specs.declared.texts.TextSight.TheVariants as TextSight
 use Rattle.hearing.specs.Hearing.{is_regular, answered_by, heard_in}
 use Rattle.hearing.specs.Rows.{happenings_in, Apart}
 use Rattle.hearing.specs.declared.turns.Reached.{Reached}

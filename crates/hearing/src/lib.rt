@@ -3,6 +3,8 @@
 // its command's text stands in the recording: a part is shorter than its text, so none touches another.
 //
 // Its commands are heard one after another (`turns`), and what is told of each is noted (`noting`).
+#![tactic(auto)]
+
 mod noting;
 mod turns;
 
@@ -35,6 +37,7 @@ impl Notes {
 
 // What is heard in a recording. The rows that it answers, read with the recording and the bytes, say
 // which files start and which parts are handed over.
+#[tactic(auto, unfolding(crate::specs::Calls::hear_of))]
 pub fn hear(recording: &[u8], events: &mut [usize], bytes: &mut [u8]) -> Notes
     ensures bytes_after { read_back result recording.now events.new bytes.new
         ≡ hear_of recording.now (length events.new) (length bytes.new) }

@@ -10,6 +10,7 @@ use command::{Command, FileType, Place};
 use protocol::{Ask, Told};
 
 // By what is told of a command, whose text starts at a place: how many rows there are then.
+#[tactic(auto, unfolding(crate::specs::Steps::told_noted))]
 pub(crate) fn told(
     told: Told,
     command: Command,
@@ -30,6 +31,7 @@ pub(crate) fn told(
 }
 
 // By what is asked.
+#[tactic(auto, unfolding(crate::specs::Steps::ask_noted))]
 fn asked(
     ask: Ask,
     command: Command,
@@ -53,6 +55,7 @@ fn asked(
 }
 
 // "A directory has no start."
+#[tactic(auto, unfolding(crate::specs::Steps::start_noted))]
 fn start(command: Command, from: usize, rows: usize, events: &mut [usize]) -> usize
     requires { (rows ≤ recording_limit) × Steps.Near from command }
     ensures { outcome result events.new ≡ Steps.start_noted command from rows events.old }
@@ -66,6 +69,7 @@ fn start(command: Command, from: usize, rows: usize, events: &mut [usize]) -> us
 }
 
 // A part, which stands at a place of the scratch.
+#[tactic(auto, unfolding(crate::specs::Steps::part_noted))]
 fn part(
     place: Place,
     command: Command,
@@ -98,6 +102,7 @@ fn is_regular(kind: FileType) -> bool
 
 // A row, where it fits: its kind, where the ids of the command stand in the recording, and where its
 // part stands in the bytes.
+#[tactic(auto, unfolding(crate::specs::Steps::with_row))]
 fn put_row(events: &mut [usize], row: usize, kind: usize, from: usize, command: Command, len: usize)
     requires { (row ≤ recording_limit) × Steps.Near from command }
     ensures { events.new ≡ Steps.with_row events.old row kind from command len }

@@ -39,6 +39,7 @@ pub(crate) fn all(recording: &[u8], events: &mut [usize], bytes: &mut [u8]) -> u
 }
 
 // Past what stands next.
+#[tactic(auto, unfolding(crate::specs::Steps::turn_of))]
 fn turn(
     reached: Reached,
     recording: &[u8],
@@ -61,6 +62,7 @@ fn turn(
 }
 
 // A command text is read; a refused one does nothing.
+#[tactic(auto, unfolding(crate::specs::Steps::text_turn))]
 fn text(
     reached: Reached,
     recording: &[u8],
@@ -96,6 +98,7 @@ fn text(
 
 // A command, whose text starts at a place and whose frame ends at another, is obeyed, and what it tells
 // is noted and answered.
+#[tactic(auto, unfolding(crate::specs::Steps::command_turn))]
 fn obeyed(
     reached: Reached,
     command: Command,
