@@ -10,7 +10,6 @@ use borrow.Author.Tests.{le-leb}
 use Rattle.command.specs.Values.{Value}
 use Rattle.command.specs.Slots.{slots_of, bytes_at, values_of}
 use Rattle.command.specs.declared.Action.{Action}
-use Rattle.command.specs.declared.Action.TheVariants as Action
 use Rattle.command.specs.declared.Place.{Place}
 use Rattle.protocol.specs.Written.{values_with, piece_action, piece_values}
 use Rattle.sending.specs.Commands.{send_values, file_values, finish_values}

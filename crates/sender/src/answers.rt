@@ -13,6 +13,7 @@ use sending::{Heeded, Listened, News, Sender, Transfer, Writing, Wrote};
 
 // The refusal of a call that writes, before the writer's, and 0 for none: 9 of a short buffer, 17 of what
 // is over a limit, 18 of an unready call.
+#[tactic(auto, unfolding(crate::specs::Gates::gate_of))]
 pub(crate) fn gate(len: usize, over: bool, ready: bool) -> u8
     ensures { result ≡ gate_of len over ready }
 {

@@ -136,6 +136,7 @@ fn id_len(n: usize) -> usize
 }
 
 // The session's id and then the file's, where that has room.
+#[tactic(auto, unfolding(crate::specs::Places::ids_of))]
 fn ids(own: [u8; Transfer::ID_ROOM], file: &[u8]) -> [u8; 2 * Transfer::ID_ROOM]
     ensures { result ≡ ids_of own file.now }
 {
@@ -146,6 +147,7 @@ fn ids(own: [u8; Transfer::ID_ROOM], file: &[u8]) -> [u8; 2 * Transfer::ID_ROOM]
 }
 
 // The refusal of a file id that has no room.
+#[tactic(auto, unfolding(sending::specs::Calls::long_refusal))]
 pub(crate) fn long_refusal(id: &[u8]) -> u8
     ensures { result ≡ long_refusal id.now }
 {

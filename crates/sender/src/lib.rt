@@ -3,6 +3,8 @@
 // A call takes the sender by value and answers with the sender afterwards. Each is equal to its
 // definition in `sending`, for any sender and any lent buffers. Not here: reading files, and bringing
 // what is written to the line and the line's bytes to hear.
+#![tactic(auto)]
+
 mod answers;
 mod commands;
 mod files;
@@ -19,6 +21,7 @@ use sender_status::stages::is_fresh;
 use sending::{Listened, Sender, Stage, Transfer, Wrote};
 
 // Begins the session with this id.
+#[tactic(auto, using(crate::proofs::GateLaws::calls), unfolding(sending::specs::Calls::send_of))]
 pub fn send(sender: Sender, id: &[u8], out: &mut [u8]) -> Wrote
     ensures { outcome result out.new ≡ send_of sender id.now out.old }
 {
@@ -33,6 +36,7 @@ pub fn send(sender: Sender, id: &[u8], out: &mut [u8]) -> Wrote
 }
 
 // Begins a file, given its id, its name and its length; a size of 0 declares none.
+#[tactic(auto, using(crate::proofs::GateLaws::calls), unfolding(sending::specs::Calls::file_of, sending::specs::Calls::file_writes))]
 pub fn file(sender: Sender, id: &[u8], name: &[u8], size: u64, out: &mut [u8]) -> Wrote
     ensures { outcome result out.new ≡ file_of sender id.now name.now size out.old }
 {
@@ -55,6 +59,7 @@ pub fn file(sender: Sender, id: &[u8], name: &[u8], size: u64, out: &mut [u8]) -
 }
 
 // Sends the next piece of the current file; the last one ends it.
+#[tactic(auto, using(crate::proofs::GateLaws::calls), unfolding(sending::specs::Calls::piece_of))]
 pub fn piece(sender: Sender, bytes: &[u8], last: bool, out: &mut [u8]) -> Wrote
     ensures { outcome result out.new ≡ piece_of sender bytes.now last out.old }
 {
@@ -84,6 +89,7 @@ pub fn piece(sender: Sender, bytes: &[u8], last: bool, out: &mut [u8]) -> Wrote
 }
 
 // Ends the session.
+#[tactic(auto, using(crate::proofs::GateLaws::calls), unfolding(sending::specs::Calls::finish_of))]
 pub fn finish(sender: Sender, out: &mut [u8]) -> Wrote
     ensures { outcome result out.new ≡ finish_of sender out.old }
 {
@@ -105,6 +111,7 @@ pub fn finish(sender: Sender, out: &mut [u8]) -> Wrote
 }
 
 // Takes one piece of the line through the first command text that ends. 9 consumes nothing.
+#[tactic(auto, unfolding(sending::specs::Calls::hear_of, sending::specs::Calls::scanned_hear))]
 pub fn hear(sender: Sender, piece: &[u8], carry: &mut [u8], scratch: &mut [u8]) -> Listened
     ensures { listening result carry.new scratch.new
         ≡ hear_of sender piece.now carry.old scratch.old }

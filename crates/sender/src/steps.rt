@@ -60,6 +60,7 @@ pub(crate) fn added(transfer: Transfer, n: usize, last: bool) -> Transfer
 }
 
 // A count with n bytes more. It stays at its type's largest.
+#[tactic(auto, unfolding(sending::specs::Transfers::grown))]
 fn grown(sent: u64, n: usize) -> u64
     ensures { result ≡ grown sent n }
 {

@@ -1,0 +1,17 @@
+use mathlib.Core.Path.{◌≡◌}
+use lib.ListN.{length}
+use Rattle.sender.proofs.ValueLaws.{file-values}
+use borrow.Author.Rules.{rules}
+use Rattle.sender.proofs.commands.write_file.Goals as goal
+
+pub returns : goal.returns
+returns c =
+    let a = c.args in
+    let h : length a.own ≡ 32 = search rules in
+    rw (
+      ← file-values a.own a.id.now a.n h c.requires a.name.now a.size,
+      ← c.id_len.ensures,
+      ← c.ids-ids.ensures,
+      ← c.file-command.ensures,
+    )
+    c.write_framed.ensures.out_after

@@ -1,0 +1,21 @@
+use mathlib.Core.Path.{◌≡◌}
+use native.Mathlib.Omega.{arith}
+use lib.ListN.{length}
+use Rattle.sender.proofs.ValueLaws.{piece-values}
+use borrow.Author.Rules.{rules}
+use Rattle.sender.proofs.commands.write_piece.Goals as goal
+
+pub returns : goal.returns
+returns c =
+    let a = c.args in
+    -- both ids have 32 bytes
+    let h : length a.own ≡ 32 = search rules in
+    let k : length a.file_id ≡ 32 = search rules in
+    rw (
+      ← piece-values a.own a.file_id a.n h (omega arith) a.bytes.now a.last a.m k,
+      ← c.id_len.ensures,
+      ← c.id_len-2.ensures,
+      ← c.ids-ids.ensures,
+      ← c.piece-command.ensures,
+    )
+    c.write_framed.ensures.out_after
