@@ -13,7 +13,7 @@ use protocol::{Table, Told};
 use sessions::next::Next;
 
 // What a report says: a command that was read, or something told alone.
-#[derive(Drop)]
+#[derive(Clone, Copy)]
 pub struct Said {
     pub is_read: bool,
     pub told: Told,
@@ -21,13 +21,14 @@ pub struct Said {
 }
 
 // What a step leaves, and the command that was read for it.
-#[derive(Drop)]
+#[derive(Clone, Copy)]
 pub(crate) struct Acted {
     pub next: Next,
     pub command: Command,
 }
 
 // A report, given its text. It touches no table.
+#[tactic(auto, unfolding(crate::specs::Said::said_of))]
 pub fn hear(report: Report, text: &[u8], scratch: &mut [u8]) -> Said
     ensures { outcome result scratch.new ≡ said_of report text.now scratch.old }
 {

@@ -6,6 +6,8 @@
 // list of calls holds of these. The text of a report is had from `frames::text`.
 //
 // Not here: opening and writing files, and sending the reply; these are the console's.
+#![tactic(auto)]
+
 pub mod acts;
 pub mod replies;
 pub mod supplies;
@@ -50,6 +52,7 @@ pub fn feed(
 }
 
 // The user lets the asked session with this id be open: reply OK.
+#[tactic(auto, unfolding(protocol::specs::Calls::allow_of))]
 pub fn allow(receiver: Receiver, id: &[u8], reply: &mut [u8]) -> Answered
     ensures { outcome result reply.new ≡ allow_of receiver id.now reply.old }
 {
@@ -62,6 +65,7 @@ pub fn allow(receiver: Receiver, id: &[u8], reply: &mut [u8]) -> Answered
 }
 
 // The user turns the asked session with this id away: reply EPERM.
+#[tactic(auto, unfolding(protocol::specs::Calls::deny_of))]
 pub fn deny(receiver: Receiver, id: &[u8], reply: &mut [u8]) -> Answered
     ensures { outcome result reply.new ≡ deny_of receiver id.now reply.old }
 {
@@ -70,6 +74,7 @@ pub fn deny(receiver: Receiver, id: &[u8], reply: &mut [u8]) -> Answered
 }
 
 // The console drops the session with this id, asked or open, and what it owed is cleared.
+#[tactic(auto, unfolding(protocol::specs::Calls::drop_of))]
 pub fn drop(receiver: Receiver, id: &[u8]) -> Answered
     ensures { result ≡ drop_of receiver id.now }
 {
@@ -78,6 +83,7 @@ pub fn drop(receiver: Receiver, id: &[u8]) -> Answered
 }
 
 // The console has done what it was asked last.
+#[tactic(auto, unfolding(protocol::specs::Calls::done_of))]
 pub fn done(receiver: Receiver, reply: &mut [u8]) -> Answered
     ensures { outcome result reply.new ≡ done_of receiver reply.old }
 {
@@ -86,6 +92,7 @@ pub fn done(receiver: Receiver, reply: &mut [u8]) -> Answered
 }
 
 // The console has failed to do what it was asked last.
+#[tactic(auto, unfolding(protocol::specs::Calls::failed_of))]
 pub fn failed(receiver: Receiver, failure: Failure, reply: &mut [u8]) -> Answered
     ensures { outcome result reply.new ≡ failed_of receiver failure reply.old }
 {
@@ -94,6 +101,7 @@ pub fn failed(receiver: Receiver, failure: Failure, reply: &mut [u8]) -> Answere
 }
 
 // The console calls the file that it was asked for "a directory or not listed": reply EINVAL.
+#[tactic(auto, unfolding(protocol::specs::Calls::unlisted_of))]
 pub fn unlisted(receiver: Receiver, reply: &mut [u8]) -> Answered
     ensures { outcome result reply.new ≡ unlisted_of receiver reply.old }
 {

@@ -42,6 +42,7 @@ pub(crate) fn refused(receiver: Receiver, number: u8) -> Fed
 }
 
 // A feed's end, after its scan and its act.
+#[tactic(auto, unfolding(crate::specs::Fed::fed_with))]
 pub(crate) fn fed(table: Table, scanned: Scanned, acted: Acted, buffer: &mut [u8]) -> Fed
     ensures { outcome result buffer.new ≡ fed_with scanned (taken table acted.next) acted.command buffer.old }
 {
@@ -66,6 +67,7 @@ pub(crate) fn fed(table: Table, scanned: Scanned, acted: Acted, buffer: &mut [u8
 }
 
 // A console call's end: refusal 9 where the buffer is too short, else the step with its reply stored.
+#[tactic(auto, unfolding(protocol::specs::Calls::guarded))]
 pub(crate) fn guarded(receiver: Receiver, next: Next, buffer: &mut [u8]) -> Answered
     ensures { outcome result buffer.new ≡ Calls.guarded receiver (taken receiver.table next) buffer.old }
 {
