@@ -46,7 +46,6 @@ use Rattle.protocol.specs.declared.Told.TheVariants as Told
 use Rattle.protocol.specs.declared.Answered.{Answered}
 use Rattle.protocol.specs.declared.Stepped.{Stepped}
 use Rattle.protocol.specs.declared.Found.{Found}
-use Rattle.protocol.specs.declared.Found.TheVariants as Found
 use Rattle.sessions.specs.declared.next.Next.{Next}
 use Rattle.receiver.specs.Said.{said_of, acted_on}
 use Rattle.receiver.specs.declared.acts.Said.{Said}
@@ -63,10 +62,9 @@ use Rattle.session_in_place.specs.Feeds.{unheard, heard_in, Hearing, hearing, sc
 use Rattle.session_in_place.specs.Supplies.{supplied_by, supply_at}
 use Rattle.session_in_place.proofs.Halves.{takes, left_in, unread_fed, left_fed, reframed}
 use Rattle.session_in_place.specs.declared.Call.{Call}
-use Rattle.session_in_place.specs.declared.Call.TheVariants as Call
 use Rattle.session_in_place.specs.declared.steps.Left.{Left}
 use Rattle.session_in_place.proofs.ArrayLaws.{outside}
-use Rattle.session_in_place.proofs.StepLaws.{find_head, no-reply, put, stepped_by, call-steps, command-steps}
+use Rattle.session_in_place.proofs.StepLaws.{find-head, no-reply, put, call-steps, command-steps}
 
 -- ---- answer
 -- the receiver with what is left at a place, and the answer
@@ -152,7 +150,7 @@ module _ (r : Receiver) (x : Supplying) (text contents out : List ℕ) where
   pub in-place-supply : length table.sessions ≡ 4
       → in_place (Turns.concerned x table.owed text (find_head (heads_of table))) ≡ supply_of r u out
   in-place-supply e =
-      rw (find_head table (Turns.id_for x text) e)
+      rw (find-head table (Turns.id_for x text) e)
       (supplies (Turns.concerned x table.owed text (find_session table)) e ∙ supplied-back x text contents r out)
 
 -- ---- feed

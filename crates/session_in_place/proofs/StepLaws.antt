@@ -1,11 +1,11 @@
 -- One session copied out, stepped and put back is what the definitions say of the table.
 use Prim.Native.Nat.{ℕ, ◌≤◌, ◌<◌}
-use mathlib.Core.Path.{◌≡◌, refl, sym, ◌∙◌, ap}
-use mathlib.Core.Bool.{Bool, true, false, cond, ◌&&◌}
+use mathlib.Core.Path.{◌≡◌, refl, ◌∙◌, ap}
+use mathlib.Core.Bool.{Bool, true, false, cond}
 use mathlib.Core.List.{List}
 use native.Mathlib.Omega.{arith}
 use borrow.Author.Tests.{ltb-false, lt-ltb, le-leb, not-true}
-use lib.ListN.{length, get_or, set}
+use lib.ListN.{length, set}
 use lib.Seq.{set_out, set-get_or}
 use lib.Dec.{ltb}
 use Rattle.octets.specs.Outcome.{outcome}
@@ -24,21 +24,16 @@ use Rattle.protocol.specs.Sessions.{decided_at, answered_with, unlisted_for, set
 use Rattle.protocol.specs.declared.SessionState.TheVariants as SessionState
 use Rattle.protocol.specs.declared.Session.{Session}
 use Rattle.protocol.specs.declared.Kind.{Kind}
-use Rattle.protocol.specs.declared.Kind.TheVariants as Kind
 use Rattle.protocol.specs.declared.Status.TheVariants as Status
 use Rattle.protocol.specs.declared.Owed.{Owed}
-use Rattle.protocol.specs.declared.Owed.TheVariants as Owed
 use Rattle.protocol.specs.declared.Table.{Table}
 use Rattle.protocol.specs.declared.Told.{Told}
-use Rattle.protocol.specs.declared.Told.TheVariants as Told
 use Rattle.protocol.specs.declared.Reply.{Reply}
 use Rattle.protocol.specs.declared.Due.{Due}
 use Rattle.protocol.specs.declared.Change.{Change}
 use Rattle.protocol.specs.declared.Decision.{Decision}
-use Rattle.protocol.specs.declared.Decision.TheVariants as Decision
 use Rattle.protocol.specs.declared.Stepped.{Stepped}
 use Rattle.protocol.specs.declared.Found.{Found}
-use Rattle.protocol.specs.declared.Found.TheVariants as Found
 use Rattle.protocol.proofs.Laws.{first-at}
 use Rattle.sessions.specs.declared.next.Next.{Next}
 use Rattle.session_in_place.specs.Heads.{heads_of, find_head, free_head}
@@ -46,13 +41,12 @@ use Rattle.session_in_place.specs.Steps.{place_of, staying}
 use Rattle.session_in_place.specs.Calls.{refusal_of, owner_of, due_of, concerned, change_by, next_at, next_for}
 use Rattle.session_in_place.specs.Feeds.{new_seat, seat_at, seat_of, status_in, turned_away, seated, new_in, obey_in, obey_by}
 use Rattle.session_in_place.specs.declared.Call.{Call}
-use Rattle.session_in_place.specs.declared.Call.TheVariants as Call
 use Rattle.session_in_place.proofs.ArrayLaws.{outside, opened}
 
 -- ---- found by the heads as in the table
-pub find_head : (t : Table) (k : List ℕ) → length t.sessions ≡ 4 → find_head (heads_of t) k ≡ find_session t k
+pub find-head : (t : Table) (k : List ℕ) → length t.sessions ≡ 4 → find_head (heads_of t) k ≡ find_session t k
 unfolding heads_of find_head first
-find_head t k e = ap (first (has_id k)) (opened no_session t.sessions e)
+find-head t k e = ap (first (has_id k)) (opened no_session t.sessions e)
 
 free-head : (t : Table) → length t.sessions ≡ 4 → free_head (heads_of t) ≡ first is_absent t.sessions
 unfolding heads_of free_head first
@@ -123,9 +117,9 @@ stepped_by t Call.Unlisted id = settle_unlisted t
 concerns : (k : Call) (t : Table) (id : List ℕ) → length t.sessions ≡ 4
     → step_for k t (concerned k t.owed (heads_of t) id) ≡ stepped_by t k id
 unfolding concerned change_by decided_of settle_done settle_failed settle_unlisted
-concerns Call.Allow t id e = rw (find_head t id e) (decides Decision.Allow t (find_session t id))
-concerns Call.Deny t id e = rw (find_head t id e) (decides Decision.Deny t (find_session t id))
-concerns Call.Drop t id e = rw (find_head t id e) (decides Decision.Drop t (find_session t id))
+concerns Call.Allow t id e = rw (find-head t id e) (decides Decision.Allow t (find_session t id))
+concerns Call.Deny t id e = rw (find-head t id e) (decides Decision.Deny t (find_session t id))
+concerns Call.Drop t id e = rw (find-head t id e) (decides Decision.Drop t (find_session t id))
 concerns Call.Done t id e = settles done_by t t.owed
 concerns (Call.Failed w) t id e = settles (failed_by w) t t.owed
 concerns Call.Unlisted t id e = unlists t t.owed
@@ -201,4 +195,4 @@ module _ (t : Table) (c : Command) (text scratch : List ℕ) (e : length t.sessi
 
   pub command-steps : by (kind_of SessionState.Absent c.action) (seat_of (heads_of t) c text) ≡ obey_of t c text scratch
   unfolding seat_of obey_of
-  command-steps = rw (find_head t (id_in c text) e) (found (find_session t (id_in c text)) refl)
+  command-steps = rw (find-head t (id_in c text) e) (found (find_session t (id_in c text)) refl)

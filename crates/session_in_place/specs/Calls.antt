@@ -10,16 +10,13 @@ use Rattle.protocol.specs.Rule.{done_by, failed_by, unlisted_by, decided_by}
 use Rattle.protocol.specs.Calls.{allow_of, deny_of, drop_of, done_of, failed_of, unlisted_of}
 use Rattle.protocol.specs.declared.Session.{Session}
 use Rattle.protocol.specs.declared.Due.{Due}
-use Rattle.protocol.specs.declared.Due.TheVariants as Due
 use Rattle.protocol.specs.declared.Owed.{Owed}
-use Rattle.protocol.specs.declared.Owed.TheVariants as Owed
 use Rattle.protocol.specs.declared.Receiver.{Receiver}
 use Rattle.protocol.specs.declared.Decision.TheVariants as Decision
 use Rattle.protocol.specs.declared.Told.TheVariants as Told
 use Rattle.protocol.specs.declared.Change.{Change}
 use Rattle.protocol.specs.declared.Answered.{Answered}
 use Rattle.protocol.specs.declared.Found.{Found}
-use Rattle.protocol.specs.declared.Found.TheVariants as Found
 use Rattle.sessions.specs.Leaving.{next_by}
 use Rattle.sessions.specs.declared.next.Next.{Next}
 use Rattle.session_in_place.specs.Heads.{find_head}
@@ -27,7 +24,6 @@ use Rattle.session_in_place.specs.Steps.{staying, beside, leaves, left_by}
 use Rattle.session_in_place.specs.declared.heads.Heads.{Heads}
 use Rattle.session_in_place.specs.declared.steps.Left.{Left}
 use Rattle.session_in_place.specs.declared.Call.{Call}
-use Rattle.session_in_place.specs.declared.Call.TheVariants as Call
 use Rattle.session_in_place.specs.declared.AnsweredInPlace.{AnsweredInPlace}
 use Rattle.session_in_place.specs.declared.FedInPlace.{FedInPlace}
 

@@ -8,7 +8,6 @@ use Rattle.protocol.specs.declared.Owed.{Owed}
 use Rattle.protocol.specs.declared.Told.{Told}
 use Rattle.protocol.specs.declared.Reply.{Reply}
 use Rattle.protocol.specs.declared.Found.{Found}
-use Rattle.protocol.specs.declared.Found.TheVariants as Found
 use Rattle.sessions.specs.declared.next.Next.{Next}
 use Rattle.session_in_place.specs.declared.steps.Aim.{Aim}
 use Rattle.session_in_place.specs.declared.steps.Left.{Left}

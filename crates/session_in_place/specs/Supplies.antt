@@ -5,7 +5,6 @@ use Rattle.protocol.specs.Table.{session_room, no_session}
 use Rattle.protocol.specs.declared.Session.{Session}
 use Rattle.protocol.specs.declared.Owed.{Owed}
 use Rattle.protocol.specs.declared.Found.{Found}
-use Rattle.protocol.specs.declared.Found.TheVariants as Found
 use Rattle.supplying.specs.Supplied.{supply_in, supplied_in}
 use Rattle.supplying.specs.Turns.{in_turn}
 use Rattle.supplying.specs.declared.Supplying.{Supplying}

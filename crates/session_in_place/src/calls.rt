@@ -41,6 +41,7 @@ pub fn aim_for<'p, 'b>(
 }
 
 // Allow, deny and drop concern the session with the id, the others the one that owes.
+#[tactic(auto, unfolding(crate::specs::Calls::concerned))]
 fn concern(call: Call, owed: Owed, heads: Heads, id: &[u8]) -> Found
     ensures { result ≡ concerned call owed heads id.now }
 {
@@ -65,6 +66,7 @@ fn owner(owed: Owed) -> Found
 
 // The call's step on the session that was copied out, its reply stored. 9 first, but of a drop, which
 // is lent no buffer where it is called by value.
+#[tactic(auto, unfolding(crate::specs::Calls::answer_at, crate::specs::Steps::left_by))]
 pub fn answer_at(call: Call, found: Found, session: Session, owed: Owed, buffer: &mut [u8]) -> Left
     ensures { outcome result buffer.new ≡ answer_at call found session owed buffer.old }
 {
@@ -114,6 +116,7 @@ fn next_for(call: Call, found: Found, session: Session, owed: Owed) -> Next
 
 // What is owed may name a place outside the table, of a receiver that no calls made. The step is then
 // one on free room, and the session that was copied out is put back as it was.
+#[tactic(auto, unfolding(crate::specs::Calls::next_at))]
 fn next_at(call: Call, i: usize, session: Session, owed: Owed) -> Next
     ensures { result ≡ next_at call i session owed }
 {
@@ -139,6 +142,7 @@ fn next_at(call: Call, i: usize, session: Session, owed: Owed) -> Next
 }
 
 // What the call makes of a session.
+#[tactic(auto, unfolding(crate::specs::Calls::change_by))]
 fn change(call: Call, session: Session, owed: Owed) -> Change
     ensures { result ≡ change_by call session owed }
 {

@@ -43,7 +43,7 @@ use sessions::next::Next;
 // What a piece says: the framing afterwards, how much of it is used, where its text stands; whether no
 // command was read, and what is told then; else the command, the session that it concerns, and the
 // place of the one that is copied out.
-#[derive(Drop)]
+#[derive(Clone, Copy)]
 pub struct Heard {
     pub framing: Framing,
     pub consumed: usize,
@@ -57,6 +57,7 @@ pub struct Heard {
 
 // ---- The first half.
 // 9 and then 10, the scan, and its text read.
+#[tactic(auto, unfolding(crate::specs::Feeds::hear_of))]
 pub fn hear<'p, 'b>(
     framing: Framing,
     owed: Owed,
@@ -96,6 +97,7 @@ fn unheard(framing: Framing, number: u8) -> Heard
     }
 }
 
+#[tactic(auto, unfolding(crate::specs::Feeds::heard_in))]
 fn listen(scanned: Scanned, heads: Heads, text: &[u8], scratch: &mut [u8]) -> Heard
     ensures { (outcome result scratch.new ≡ heard_in scanned heads text.now scratch.old)
         × (result.place < 4) }
@@ -137,6 +139,7 @@ fn seat(said: Said, heads: Heads, text: &[u8]) -> Found
 }
 
 // The session with the command's id, or free room where it is to be a new one.
+#[tactic(auto, unfolding(crate::specs::Feeds::seat_of))]
 fn seat_of(heads: Heads, command: Command, text: &[u8]) -> Found
     ensures { result ≡ seat_of heads command text.now }
 {
@@ -170,6 +173,7 @@ fn new_seat(heads: Heads, action: Action) -> Found
 // ---- The second half.
 // The step of the session that was copied out, by the command that was heard, and its reply. It leaves
 // the carry and the scratch, and takes them by `&mut` as the first half does.
+#[tactic(auto, unfolding(crate::specs::Feeds::act_of, crate::specs::Steps::left_by))]
 pub fn act<'p, 'b>(
     heard: Heard,
     session: Session,
@@ -223,6 +227,7 @@ fn obey_at(
 }
 
 // Free room is for a new session.
+#[tactic(auto, unfolding(crate::specs::Feeds::obey_in))]
 fn obey_in(
     i: usize,
     session: Session,
@@ -317,6 +322,7 @@ fn turn_away(session: Session, owed: Owed, command: Command, text: &[u8]) -> Nex
     )
 }
 
+#[tactic(auto, unfolding(crate::specs::Feeds::turned_away))]
 fn turn(kind: Kind, session: Session, owed: Owed, absent: Session) -> Next
     ensures { result ≡ turned_away session owed absent kind }
 {

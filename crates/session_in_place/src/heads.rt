@@ -5,14 +5,14 @@ ghost use Rattle.session_in_place.specs.Heads.{head_has, head_free, find_head, f
 use protocol::{Found, SessionState};
 use sessions::find::{has_id, is_absent};
 
-#[derive(Drop)]
+#[derive(Clone, Copy)]
 pub struct Head {
     pub state: SessionState,
     pub id: [u8; 32],
     pub id_len: usize,
 }
 
-#[derive(Drop)]
+#[derive(Clone, Copy)]
 pub struct Heads {
     pub first: Head,
     pub second: Head,
@@ -21,6 +21,7 @@ pub struct Heads {
 }
 
 // The place of the session with an id.
+#[tactic(auto, unfolding(crate::specs::Heads::find_head, protocol::specs::Table::first))]
 pub(crate) fn find(heads: Heads, id: &[u8]) -> Found
     ensures { result ≡ find_head heads id.now }
 {
@@ -44,6 +45,7 @@ pub(crate) fn find(heads: Heads, id: &[u8]) -> Found
 }
 
 // The first place that is free.
+#[tactic(auto, unfolding(crate::specs::Heads::free_head, protocol::specs::Table::first))]
 pub(crate) fn free(heads: Heads) -> Found
     ensures { result ≡ free_head heads }
 {

@@ -2,6 +2,8 @@
 // and its reply. Nothing here takes a receiver; `receiver_in_place` lends the parts and puts them back.
 //
 // Not here: the step of a session in the table (`session_rule`, `sessions`).
+#![tactic(auto)]
+
 pub mod calls;
 pub mod feeds;
 pub mod heads;
@@ -13,7 +15,7 @@ use frames::Report;
 use protocol::{Failure, Told};
 
 // The console's calls but feed and supply.
-#[derive(Drop)]
+#[derive(Clone, Copy)]
 pub enum Call {
     Allow,
     Deny,
@@ -25,7 +27,7 @@ pub enum Call {
 }
 
 // What a feed answers: `Fed` without the receiver.
-#[derive(Drop)]
+#[derive(Clone, Copy)]
 pub struct FedInPlace {
     pub consumed: usize,
     pub report: Report,
@@ -35,7 +37,7 @@ pub struct FedInPlace {
 }
 
 // What another call answers: `Answered` without the receiver.
-#[derive(Drop)]
+#[derive(Clone, Copy)]
 pub struct AnsweredInPlace {
     pub told: Told,
     pub reply_len: usize,

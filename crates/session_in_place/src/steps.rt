@@ -7,14 +7,14 @@ use sessions::next::Next;
 
 // Which session is concerned, and the place of the session that is copied out and put back: that one's,
 // or the first where there is none in the table.
-#[derive(Drop)]
+#[derive(Clone, Copy)]
 pub struct Aim {
     pub found: Found,
     pub place: usize,
 }
 
 // A step's end, its reply stored: the session to put back, what is owed, what is told.
-#[derive(Drop)]
+#[derive(Clone, Copy)]
 pub struct Left {
     pub session: Session,
     pub owed: Owed,

@@ -31,6 +31,7 @@ fn concern(supplying: Supplying, owed: Owed, heads: Heads, text: &[u8]) -> Found
 
 // The session that was copied out is supplied. What is owed may name a place outside the table, as in
 // `calls`: then free room is, and the session is put back as it was.
+#[tactic(auto, unfolding(crate::specs::Supplies::supply_at))]
 pub fn supply_in<'s, 'b>(
     supplying: Supplying,
     found: Found,
