@@ -1,10 +1,12 @@
 // Reads standard input in pieces of at most 64 KB, scans each until it is consumed, and prints how
 // many things were reported. It is what bench/frames.sh times.
+#![tactic(auto)]
+
 use frames::{Framing, Report};
 use streams::{Got, Run};
 
 // The framing after the bytes so far, how many things were reported, and how the run stands.
-#[derive(Drop)]
+#[derive(Clone, Copy)]
 struct Tally {
     framing: Framing,
     reports: usize,
@@ -34,7 +36,7 @@ fn scan_all(tally: Tally, piece: &[u8], carry: &mut [u8]) -> Tally {
         let report = s.report;
         let used = s.consumed;
         framing = next;
-        total = std::num::wrapping_add_usize(total, reports(report));
+        total = total.wrapping_add(reports(report));
         if used == 0 {
             run = Run::Stuck;
             break;
@@ -50,17 +52,17 @@ fn scan_all(tally: Tally, piece: &[u8], carry: &mut [u8]) -> Tally {
 
 // A proved loop has to end, and nothing says that the input does. So the loop counts its turns
 // down, from a number that no run uses up.
-fn count() -> Run {
-    let mut piece = io::large_buffer();
+fn count(rt: &HostRuntime) -> Run {
+    let mut piece = [0u8; 65536];
     let mut carry = [0u8; Framing::TEXT_LIMIT];
     let mut tally = Tally {
         framing: Framing::Plain,
         reports: 0,
-        run: Run::Well,
+        run: Run::Well(rt.stdout()),
     };
     let mut turns = u64::MAX;
     while turns > 0 {
-        let Got::Bytes(n) = streams::read(&mut piece) else {
+        let Got::Bytes(n) = streams::read(rt.stdin(), &mut piece) else {
             return Run::NotRead;
         };
         if n == 0 {
@@ -73,9 +75,9 @@ fn count() -> Run {
         }
         turns -= 1;
     }
-    Run::Well.number(tally.reports).text(b"\n")
+    Run::Well(rt.stdout()).number(tally.reports).text(b"\n")
 }
 
-fn main() {
-    count().end(b"scan_bench");
+fn main(rt: HostRuntime) {
+    count(&rt).end(rt.stderr(), b"scan_bench");
 }
