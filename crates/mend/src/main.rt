@@ -1,5 +1,7 @@
 // Mends the recording on standard input: writes the mended one to standard output, and what was dropped
 // to standard error.
+#![tactic(auto)]
+
 mod report;
 
 use octets::size::less;
@@ -7,34 +9,41 @@ use recordings::Mended;
 use streams::{Got, Run};
 
 // One byte more than a recording may have is read, so that a longer one is refused.
-fn main() {
+fn main(rt: HostRuntime) {
     let mut bytes = [0u8; Mended::LIMIT + 1];
-    let run = match streams::read_all(&mut bytes) {
-        Got::Bytes(n) => mend(&bytes[..n]),
+    let run = match streams::read_all(rt.stdin(), &mut bytes) {
+        Got::Bytes(n) => mend(&rt, &bytes[..n]),
         Got::Failed => Run::NotRead,
     };
-    run.end(b"mend");
+    run.end(rt.stderr(), b"mend");
 }
 
 // Both buffers have room for whatever a recording needs.
-fn mend(recording: &[u8]) -> Run {
+fn mend(rt: &HostRuntime, recording: &[u8]) -> Run {
     let mut output = [0u8; Mended::LIMIT];
     let mut list = [0usize; Mended::LIST_ROOM];
     let mended = recordings::mend(recording, &mut output, &mut list);
-    finish(mended, recording.len(), &output, &list)
+    finish(rt, mended, recording.len(), &output, &list)
 }
 
-fn finish<'a>(mended: Mended, len: usize, output: &'a [u8], list: &'a [usize]) -> Run {
-    let run = Run::Well;
+fn finish<'a>(
+    rt: &HostRuntime,
+    mended: Mended,
+    len: usize,
+    output: &'a [u8],
+    list: &'a [usize],
+) -> Run {
+    let run = Run::Well(rt.stdout());
+    let err = rt.stderr();
     match mended {
         Mended::Done(kept, rows) => {
             let written = run.text(octets::part(output, 0, kept));
-            report::rows(list, rows);
-            report::total(kept, less(len, kept), rows);
+            report::rows(err, list, rows);
+            report::total(err, kept, less(len, kept), rows);
             written
         }
         Mended::Refused(n) => {
-            report::refused(n);
+            report::refused(err, n);
             run
         }
     }

@@ -1,52 +1,45 @@
 // What is said on standard error. Where it cannot be written, nothing more can be said.
-use libc::STDERR_FILENO;
 use octets::size::least;
+use std::io::Stderr;
+use streams::{say, say_number};
 
 // A line for each of the first n rows.
-pub(crate) fn rows(list: &[usize], n: usize) {
+pub(crate) fn rows(err: Stderr, list: &[usize], n: usize) {
     let count = least(n, list.len() / 3);
     let mut i = 0;
     while i < count {
         let at = i * 3;
-        row(list[at], list[at + 1], list[at + 2]);
+        row(err, list[at], list[at + 1], list[at + 2]);
         i += 1;
     }
 }
 
 // Start, length, and why.
-fn row(start: usize, len: usize, why: usize) {
-    number(start);
-    text(b" ");
-    number(len);
+fn row(err: Stderr, start: usize, len: usize, why: usize) {
+    say_number(err, start as u64);
+    say(err, b" ");
+    say_number(err, len as u64);
     if why == 0 {
-        text(b" outside\n");
+        say(err, b" outside\n");
     } else {
-        text(b" refusal ");
-        number(why);
-        text(b"\n");
+        say(err, b" refusal ");
+        say_number(err, why as u64);
+        say(err, b"\n");
     }
 }
 
-pub(crate) fn total(kept: usize, dropped: usize, rows: usize) {
-    text(b"kept ");
-    number(kept);
-    text(b" bytes, dropped ");
-    number(dropped);
-    text(b" bytes in ");
-    number(rows);
-    text(b" stretches\n");
+pub(crate) fn total(err: Stderr, kept: usize, dropped: usize, rows: usize) {
+    say(err, b"kept ");
+    say_number(err, kept as u64);
+    say(err, b" bytes, dropped ");
+    say_number(err, dropped as u64);
+    say(err, b" bytes in ");
+    say_number(err, rows as u64);
+    say(err, b" stretches\n");
 }
 
-pub(crate) fn refused(n: u8) {
-    text(b"refused ");
-    number(n as usize);
-    text(b"\n");
-}
-
-fn number(n: usize) {
-    io::print_decimal(STDERR_FILENO, n as u64);
-}
-
-fn text(s: &[u8]) {
-    io::write_all(STDERR_FILENO, s);
+pub(crate) fn refused(err: Stderr, n: u8) {
+    say(err, b"refused ");
+    say_number(err, n as u64);
+    say(err, b"\n");
 }
