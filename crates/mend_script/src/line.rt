@@ -2,12 +2,13 @@
 use octets::size::least;
 use recordings::Mended;
 use script_parts::{list_sum, sum};
+use std::io::Stdout;
 use streams::Run;
 
 // The refusal's number, or 0, the bytes kept and the rows, the sums of the whole buffers, and a line for
 // each row.
-pub(crate) fn tell<'a>(mended: Mended, output: &'a [u8], list: &'a [usize]) -> Run {
-    let run = Run::Well;
+pub(crate) fn tell<'a>(out: Stdout, mended: Mended, output: &'a [u8], list: &'a [usize]) -> Run {
+    let run = Run::Well(out);
     match mended {
         Mended::Refused(n) => sums(run.number(n as usize).text(b" 0 0"), output, list),
         Mended::Done(kept, n) => {

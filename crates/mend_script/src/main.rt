@@ -1,34 +1,37 @@
 // The scripted mender: mends one recording with the rooms that the script says, and prints the answer,
 // a sum of each buffer afterwards, and the list.
+#![tactic(auto)]
+
 mod line;
 
 use octets::size::least;
 use recordings::Mended;
 use script_parts::{SCRIPT_LIMIT, bad_script, rest, three_bytes};
+use std::io::Stdout;
 use streams::{Got, Run};
 
 // One byte more is read, so that a longer script is seen.
-fn main() {
+fn main(rt: HostRuntime) {
     let mut bytes = [0u8; SCRIPT_LIMIT + 1];
-    let run = match streams::read_all(&mut bytes) {
-        Got::Bytes(n) => play(&bytes[..n]),
+    let run = match streams::read_all(rt.stdin(), &mut bytes) {
+        Got::Bytes(n) => play(rt.stdout(), &bytes[..n]),
         Got::Failed => Run::NotRead,
     };
-    run.end(b"mend_script");
+    run.end(rt.stderr(), b"mend_script");
 }
 
 // The buffers have all the room that a recording can need, of which the script lends a part.
-fn play(script: &[u8]) -> Run {
+fn play(out: Stdout, script: &[u8]) -> Run {
     if script.len() < 6 {
-        return bad_script(Run::Well);
+        return bad_script(Run::Well(out));
     }
     if script.len() > SCRIPT_LIMIT {
-        return bad_script(Run::Well);
+        return bad_script(Run::Well(out));
     }
     let mut output = [0xA5u8; Mended::LIMIT];
     let mut list = [0xA5usize; Mended::LIST_ROOM];
     let mended = mend_lent(script, &mut output, &mut list);
-    line::tell(mended, &output, &list)
+    line::tell(out, mended, &output, &list)
 }
 
 // The script's first numbers are the rooms of the output and of the list; the recording follows.
