@@ -21,15 +21,12 @@ use Rattle.protocol.specs.declared.Table.{Table}
 use Rattle.protocol.specs.declared.Receiver.{Receiver}
 use Rattle.protocol.specs.declared.Status.TheVariants as Status
 use Rattle.protocol.specs.declared.Failure.{Failure}
-use Rattle.protocol.specs.declared.Failure.TheVariants as Failure
 use Rattle.protocol.specs.declared.Answered.{Answered}
 use Rattle.protocol.specs.declared.Found.{Found}
-use Rattle.protocol.specs.declared.Found.TheVariants as Found
 use Rattle.protocol.proofs.Frames.{refused-same-buffer, written_same}
 use Rattle.supplying.specs.Supplied.{supply_in, leaves, unsupplied, taken_in, found_in, supplied_in}
 use Rattle.supplying.specs.Turns.{is_part, concerned, seat_of, in_turn}
 use Rattle.supplying.specs.declared.Supplying.{Supplying}
-use Rattle.supplying.specs.declared.Supplying.TheVariants as Supplying
 use Rattle.supplying.specs.declared.Supplied.{Supplied}
 
 -- quiet holds a failure's status back as any other's

@@ -13,7 +13,6 @@ use Rattle.command.specs.Slots.{nowhere, slots_of, bytes_at, values_of}
 use Rattle.command.specs.Write.{Answer}
 use Rattle.command.specs.Framed.{framed_of}
 use Rattle.command.specs.declared.Action.{Action}
-use Rattle.command.specs.declared.Action.TheVariants as Action
 use Rattle.command.specs.declared.Place.{Place}
 use Rattle.protocol.specs.Written.{values_with, piece_action, piece_values}
 use Rattle.protocol.specs.Supplies.{Supply, home_room, home_values, framed_for}

@@ -8,13 +8,10 @@ use Rattle.protocol.specs.Supplies.{Supply, is_over, framed_for, is_held_back, c
 use Rattle.protocol.specs.declared.Session.{Session}
 use Rattle.protocol.specs.declared.Owed.{Owed}
 use Rattle.protocol.specs.declared.Told.{Told}
-use Rattle.protocol.specs.declared.Told.TheVariants as Told
 use Rattle.protocol.specs.declared.Found.{Found}
-use Rattle.protocol.specs.declared.Found.TheVariants as Found
 use Rattle.sessions.specs.Leaving.{next_by}
 use Rattle.sessions.specs.declared.next.Next.{Next}
 use Rattle.supplying.specs.declared.Supplying.{Supplying}
-use Rattle.supplying.specs.declared.Supplying.TheVariants as Supplying
 use Rattle.supplying.specs.declared.Supplied.{Supplied}
 
 abbrev pub supply_in : Supplying → (text contents : List ℕ) → Supply

@@ -5,9 +5,7 @@ use Rattle.protocol.specs.Supplies.{is_listing, request_at}
 use Rattle.protocol.specs.declared.SessionState.{SessionState}
 use Rattle.protocol.specs.declared.Owed.{Owed}
 use Rattle.protocol.specs.declared.Found.{Found}
-use Rattle.protocol.specs.declared.Found.TheVariants as Found
 use Rattle.supplying.specs.declared.Supplying.{Supplying}
-use Rattle.supplying.specs.declared.Supplying.TheVariants as Supplying
 
 abbrev pub is_part : Supplying → Bool
 is_part (Supplying.List e) = false
