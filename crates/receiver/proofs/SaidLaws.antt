@@ -6,7 +6,6 @@ use mathlib.Core.List.{List}
 use Rattle.octets.specs.Outcome.{outcome}
 use Rattle.frames.specs.Stream.{is_drag_drop}
 use Rattle.frames.specs.declared.Report.{Report}
-use Rattle.frames.specs.declared.Report.TheVariants as Report
 use Rattle.command.specs.Read.{Answer, read_of}
 use Rattle.protocol.specs.Calls.{unread, read_act, report_act}
 use Rattle.protocol.specs.declared.Table.{Table}

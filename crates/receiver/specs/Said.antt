@@ -4,7 +4,6 @@ use Rattle.octets.specs.Outcome.{Outcome, outcome}
 use Rattle.frames.specs.Stream.{is_drag_drop}
 use Rattle.frames.specs.Calls.{refusal_number}
 use Rattle.frames.specs.declared.Report.{Report}
-use Rattle.frames.specs.declared.Report.TheVariants as Report
 use Rattle.command.specs.Slots.{no_command}
 use Rattle.command.specs.Read.{Answer, read_of}
 use Rattle.command.specs.declared.Command.{Command}
@@ -13,7 +12,6 @@ use Rattle.protocol.specs.Sessions.{obey_of}
 use Rattle.protocol.specs.Calls.{Acted, acted}
 use Rattle.protocol.specs.declared.Table.{Table}
 use Rattle.protocol.specs.declared.Told.{Told}
-use Rattle.protocol.specs.declared.Told.TheVariants as Told
 use Rattle.receiver.specs.declared.acts.Said.{Said}
 
 abbrev pub silent : Told → Said
