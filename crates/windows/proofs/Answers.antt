@@ -13,7 +13,6 @@ use Rattle.hearing.specs.Hearing.{heard_in}
 use Rattle.hearing.specs.Rows.{happenings_in}
 use Rattle.hearing.specs.Calls.{Account, read_back, hear_of, Within}
 use Rattle.hearing.specs.declared.Notes.{Notes}
-use Rattle.hearing.specs.declared.Notes.TheVariants as Notes
 use Rattle.windows.specs.Compare.{starts_of, Line, compare_of}
 use Rattle.windows.specs.Steps.{Side, side, starts_in, Laid, lines_between, beside_of, listed_in}
 use Rattle.windows.specs.declared.Compared.TheVariants as Compared

@@ -28,19 +28,20 @@ use Rattle.hearing.specs.Hearing.{sightings_from, heard_from}
 use Rattle.windows.specs.Compare.{contents_of, starts_of, first_diff, partner, without, only_seconds, compared, listed}
 
 unfoldable pub meaning : Unit {0}
-unfolding index_of index_after every equals starts_with part_of split onto Alphabet.value_of Decode.verdict_of Decode.bytes_of Decode.scan
-    Decode.ending Decode.group Read.parse_of Read.magnitude_of Read.digits_of Read.ranged_of place_in key_byte safe_byte text_byte alias_read
-    word_read safe_read value_read is_key field_read fields_read text_read meaning_of action_of file_type_of transmission_of command_of kept read_of
+unfolding index_of index_after every equals starts_with part_of split onto Alphabet.value_of Decode.verdict_of Decode.bytes_of
+    Decode.scan Decode.ending Decode.group Read.parse_of Read.magnitude_of Read.digits_of Read.ranged_of place_in key_byte safe_byte
+    text_byte alias_read word_read safe_read value_read is_key field_read fields_read text_read meaning_of action_of file_type_of
+    transmission_of command_of kept read_of
 meaning = tt
 
 unfoldable pub sessions : Unit {0}
-unfolding rooted valid_component valid_components valid_name followers_in sequences first adjusted result_in kind_of file_checked file_of part_asked
-    data_of finish_of path_checked path_of obeyed_by done_by decided_by obey_of settle_done decided_of
+unfolding rooted valid_component valid_components valid_name followers_in sequences first adjusted result_in kind_of file_checked file_of
+    part_asked data_of finish_of path_checked path_of obeyed_by done_by decided_by obey_of settle_done decided_of
 sessions = tt
 
 unfoldable pub comparing : Unit {0}
-unfolding meaning sessions read_byte stream completed cut joined pieces_of sightings_from heard_from contents_of starts_of first_diff partner
-    without only_seconds compared listed
+unfolding meaning sessions read_byte stream completed cut joined pieces_of sightings_from heard_from contents_of starts_of first_diff
+    partner without only_seconds compared listed
 comparing = tt
 
 -- with the text of a part, for examples

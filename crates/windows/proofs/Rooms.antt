@@ -11,7 +11,6 @@ use Rattle.recordings.specs.Pieces.{outside_first, completed, cut, joined, piece
 use Rattle.hearing.specs.Hearing.{sightings_from, heard_from}
 use Rattle.windows.specs.Compare.{starts_of, only_seconds, compared, listed, compare_of}
 use Rattle.windows.specs.declared.Compared.{Compared}
-use Rattle.windows.specs.declared.Compared.TheVariants as Compared
 use Rattle.windows.specs.Examples.{RoomsOf}
 use Rattle.windows.specs.WrongComparers.{limiting_first, at_the_limit, room_in_rows}
 use Rattle.windows.proofs.Computing.{examining}

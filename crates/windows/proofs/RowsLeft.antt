@@ -63,7 +63,8 @@ module _ (key : Key) (part : List ℕ) (place : Place) (hs : List Happening) whe
   starts_more false = refl
 
   count-more : (t : Bool) (k : Key)
-      → count_of k (starts_of (before t)) ≡ cond (cond t false (same_key k key)) (suc (count_of k (starts_of hs))) (count_of k (starts_of hs))
+      → count_of k (starts_of (before t))
+      ≡ cond (cond t false (same_key k key)) (suc (count_of k (starts_of hs))) (count_of k (starts_of hs))
   unfolding starts_of count_of
   count-more true k = refl
   count-more false k = refl

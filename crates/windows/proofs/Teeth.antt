@@ -15,7 +15,7 @@ use Rattle.hearing.specs.Hearing.{Happening}
 use Rattle.windows.specs.Compare.{Start, Verdict, verdict_number, offset_of}
 use Rattle.hearing.specs.Laws.{nowhere}
 use Rattle.windows.specs.Laws.{starts_among, of_key, lines_for, zipped}
-use Rattle.windows.specs.Examples.{Shown, file}
+use Rattle.windows.specs.Examples.{Shown}
 use Rattle.windows.specs.WrongComparers.{CompareTeeth}
 use Rattle.windows.proofs.Computing.{examining}
 use Rattle.windows.proofs.Rooms.{second-unlimited, limit-itself, rows_for-numbers}

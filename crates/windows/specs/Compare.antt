@@ -8,7 +8,6 @@ use Rattle.protocol.specs.Stretches.{Key}
 use Rattle.recordings.specs.Mend.{recording_limit}
 use Rattle.hearing.specs.Hearing.{Place, Happening, heard_in}
 use Rattle.windows.specs.declared.Compared.{Compared}
-use Rattle.windows.specs.declared.Compared.TheVariants as Compared
 
 -- ---- the starts of a recording
 -- a pair is "a session id and a file id, both compared whole"

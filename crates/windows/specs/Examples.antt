@@ -8,7 +8,6 @@ use Rattle.frames.specs.Stream.{framed}
 use Rattle.hearing.specs.Hearing.{heard_in}
 use Rattle.windows.specs.Compare.{Start, starts_of, Verdict, Line, compared, listed, compare_of}
 use Rattle.windows.specs.declared.Compared.{Compared}
-use Rattle.windows.specs.declared.Compared.TheVariants as Compared
 
 -- ---- commands, each a frame
 abbrev pub send : String → List ℕ

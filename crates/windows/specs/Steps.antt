@@ -12,7 +12,6 @@ use Rattle.windows.specs.Compare.{Line, compared, verdict_number, offset_of, num
 use Rattle.windows.specs.Ranks.{count_of, nth, first_lines, second_lines}
 use Rattle.hearing.specs.Rows.{happenings_in, Apart}
 use Rattle.windows.specs.declared.Compared.{Compared}
-use Rattle.windows.specs.declared.Compared.TheVariants as Compared
 use Rattle.windows.specs.declared.verdicts.Judgement.{Judgement}
 
 -- a recording as it was heard
@@ -105,7 +104,13 @@ judged v = record { verdict = verdict_number v; offset = offset_of v }
 -- ---- lines stored
 abbrev pub row_numbers : Judgement → (numbers : List ℕ) → ℕ → List ℕ
 row_numbers j numbers at =
-    j.verdict ∷ j.offset ∷ get_or numbers (at + 1) 0 ∷ get_or numbers (at + 2) 0 ∷ get_or numbers (at + 3) 0 ∷ get_or numbers (at + 4) 0 ∷ []
+    j.verdict
+    ∷ j.offset
+    ∷ get_or numbers (at + 1) 0
+    ∷ get_or numbers (at + 2) 0
+    ∷ get_or numbers (at + 3) 0
+    ∷ get_or numbers (at + 4) 0
+    ∷ []
 
 -- a line where it fits, and else the list as before
 unfoldable pub with_line : List ℕ → ℕ → Line → List ℕ

@@ -4,6 +4,8 @@
 // Each recording is heard as the console of `replay` hears it (the crate `hearing`), which leaves rows of
 // what happened (`rows`); these are matched (`matching`), their contents gathered (`contents`) and
 // compared (`verdicts`), and the lines listed (`lines`).
+#![tactic(auto)]
+
 mod contents;
 mod lines;
 mod matching;

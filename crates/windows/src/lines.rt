@@ -95,6 +95,7 @@ fn firsts<'a>(
 }
 
 // Past a row of the first: a line where it is a start.
+#[tactic(auto, unfolding(crate::specs::Steps::first_row, crate::specs::Steps::with_line))]
 fn first_row<'a>(
     first: &'a [u8],
     first_bytes: &'a [u8],
@@ -175,6 +176,7 @@ fn seconds<'a>(
 }
 
 // Past a row of the second: a line where it is a start that only the second has.
+#[tactic(auto, unfolding(crate::specs::Steps::second_row, crate::specs::Steps::with_line))]
 fn second_row<'a>(
     first: &'a [u8],
     first_bytes: &'a [u8],
