@@ -7,7 +7,7 @@ use protocol::{Answered, FileRecord, Receiver, Reply};
 use streams::Run;
 
 // How the run stands, and the receiver.
-#[derive(Drop)]
+#[derive(Clone, Copy)]
 pub struct Console {
     pub run: Run,
     pub receiver: Receiver,

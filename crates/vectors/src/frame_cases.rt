@@ -7,7 +7,7 @@ use octets::size::less;
 use streams::Run;
 
 // The framing after the bytes so far, and how the run stands.
-#[derive(Drop)]
+#[derive(Clone, Copy)]
 struct Turn {
     framing: Framing,
     run: Run,

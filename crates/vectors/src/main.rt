@@ -5,6 +5,8 @@
 // Every case stands in the stored input, a line for each, so that a case costs no proof: a letter for
 // what is done, a blank, and the case as it is printed. Where that does not say all, a bar and the
 // operands follow it; a name and the pieces of a stream stand as they are, and are printed in hex.
+#![tactic(auto)]
+
 mod base64_cases;
 mod command_cases;
 mod console;
@@ -17,23 +19,24 @@ mod write_cases;
 
 use frames::Framing;
 use line::{after, asked, first, rest};
+use std::io::Stdout;
 use streams::{Got, Run};
 
 // Room for a text one byte too long, its frame, and some bytes more.
 pub(crate) const ROOM: usize = Framing::TEXT_LIMIT + 64;
 
-fn main() {
-    let mut bytes = io::large_buffer();
-    let run = match streams::read_all(&mut bytes) {
-        Got::Bytes(n) => cases(&bytes[..n]),
+fn main(rt: HostRuntime) {
+    let mut bytes = [0u8; 65536];
+    let run = match streams::read_all(rt.stdin(), &mut bytes) {
+        Got::Bytes(n) => cases(rt.stdout(), &bytes[..n]),
         Got::Failed => Run::NotRead,
     };
-    run.end(b"vectors");
+    run.end(rt.stderr(), b"vectors");
 }
 
 // The case of each line, and the line's end. A run that failed prints no case more.
-fn cases(bytes: &[u8]) -> Run {
-    let mut run = Run::Well;
+fn cases(out: Stdout, bytes: &[u8]) -> Run {
+    let mut run = Run::Well(out);
     let mut at = 0;
     while at < bytes.len() {
         let end = octets::find(bytes, at, b'\n');
