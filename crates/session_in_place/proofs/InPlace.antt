@@ -5,7 +5,7 @@ use mathlib.Core.Path.{◌≡◌, refl, sym, ◌∙◌, ap}
 use mathlib.Core.Bool.{Bool, true, false, cond, not}
 use mathlib.Core.List.{List}
 use native.Mathlib.Omega.{arith}
-use borrow.Author.Tests.{ltb-false}
+use borrow.Author.Tests.{ltb-false, not-true, not-false}
 use lib.ListN.{length}
 use lib.Seq.{set_out, set-get_or}
 use lib.Dec.{ltb}
@@ -171,7 +171,7 @@ module _ (r : Receiver) (piece reply : List ℕ) where
       let a = acts h in
       feeding (fed_in (takes (reframed r h.heard.framing) h.heard.place a.left) (left_fed h.heard a.left)) a.carry a.scratch a.reply
 
-  module _ (e : length t.sessions ≡ 4) (k : Outcome Scanned) (scratch : List ℕ) where
+  module _ (k : Outcome Scanned) (scratch : List ℕ) where
     abbrev text : List ℕ
     text = text_of piece k.buffer k.answer.report
 
@@ -195,41 +195,41 @@ module _ (r : Receiver) (piece reply : List ℕ) where
     unfolding heard_in
     unread q = rw (← said, q, no-reply reply)
 
-    read : x.answer.is_read ≡ true → with_step h ≡ scanned_feed t piece k scratch reply
+    read : length t.sessions ≡ 4 → x.answer.is_read ≡ true → with_step h ≡ scanned_feed t piece k scratch reply
     unfolding heard_in act_of left_by
-    read q = rw (← said, q) (ap (λ (s : Stepped). given (acted s x.answer.command x.buffer)) (command-steps t x.answer.command text x.buffer e))
+    read e q = rw (← said, q) (ap (λ (s : Stepped). given (acted s x.answer.command x.buffer)) (command-steps t x.answer.command text x.buffer e))
 
-  module _ (e : length t.sessions ≡ 4) (carry scratch : List ℕ) where
+  module _ (carry scratch : List ℕ) where
+    abbrev k : Outcome Scanned
+    k = scan_of r.framing piece carry
+
+    abbrev at : Bool → Bool → Hearing
+    at s o =
+        cond s (hearing (unheard r.framing 9) carry scratch)
+        (cond o (hearing (unheard r.framing 10) carry scratch) (scanned_hear k (heads_of t) piece scratch))
+
+    abbrev fed_at : Bool → Bool → Feeding
+    fed_at s o =
+        cond s (feeding (feed_refused r 9) carry scratch reply)
+        (cond o (feeding (feed_refused r 10) carry scratch reply) (scanned_feed t piece k scratch reply))
+
     abbrev pub heard : Hearing
     heard = hear_of r.framing t.owed (heads_of t) piece carry scratch (length reply)
 
-    abbrev by : Bool → Hearing → Feeding
-    by b h = cond b (without_step h) (with_step h)
-
-    feeds : by heard.heard.unread heard ≡ feed_of r piece carry scratch reply
-    unfolding hear_of heard_in feed_of
-    feeds = go (is_short carry scratch reply) (is_owed t.owed)
-      where
-        k : Outcome Scanned
-        k = scan_of r.framing piece carry
-
-        go : (s o : Bool)
-            → (let h = cond s (hearing (unheard r.framing 9) carry scratch) (cond o (hearing (unheard r.framing 10) carry
-            scratch) (scanned_hear k (heads_of t) piece scratch)) in
-            by h.heard.unread h)
-            ≡ cond s (feeding (feed_refused r 9) carry scratch reply) (cond o (feeding (feed_refused r 10) carry scratch reply)
-            (scanned_feed t piece k scratch reply))
-        go true o = refl
-        go false true = refl
-        go false false = ways (x e k scratch).answer.is_read refl
-          where
-            ways : (b : Bool) → (x e k scratch).answer.is_read ≡ b → by (h e k scratch).heard.unread (h e k scratch) ≡ scanned_feed t
-                piece k scratch reply
-            ways true q = ap (λ (b : Bool). by (not b) (h e k scratch)) q ∙ read e k scratch q
-            ways false q = ap (λ (b : Bool). by (not b) (h e k scratch)) q ∙ unread e k scratch q
-
     pub in-place-unread : heard.heard.unread ≡ true → without_step heard ≡ feed_of r piece carry scratch reply
-    in-place-unread q = ap (λ (b : Bool). by b heard) (sym q) ∙ feeds
+    unfolding hear_of heard_in feed_of
+    in-place-unread = go (is_short carry scratch reply) (is_owed t.owed)
+      where
+        go : (s o : Bool) → (at s o).heard.unread ≡ true → without_step (at s o) ≡ fed_at s o
+        go true o q = refl
+        go false true q = refl
+        go false false q = unread k scratch (not-true _ q)
 
-    pub in-place-feed : heard.heard.unread ≡ false → with_step heard ≡ feed_of r piece carry scratch reply
-    in-place-feed q = ap (λ (b : Bool). by b heard) (sym q) ∙ feeds
+    pub in-place-feed : length t.sessions ≡ 4 → heard.heard.unread ≡ false → with_step heard ≡ feed_of r piece carry scratch reply
+    unfolding hear_of heard_in feed_of
+    in-place-feed e = go (is_short carry scratch reply) (is_owed t.owed)
+      where
+        go : (s o : Bool) → (at s o).heard.unread ≡ false → with_step (at s o) ≡ fed_at s o
+        go true o q = cc
+        go false true q = cc
+        go false false q = read k scratch e (not-false _ q)
