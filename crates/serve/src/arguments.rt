@@ -3,16 +3,16 @@ use protocol::Found;
 
 // Puts argument k at the start of the buffer, and answers its length. One that is longer than the buffer
 // has none: no path that an office names is as long.
-pub(crate) fn read(k: usize, buf: &mut [u8]) -> usize {
-    os::arg(k, buf)
+pub(crate) fn read(rt: &HostRuntime, k: usize, buf: &mut [u8]) -> usize {
+    streams::argument(rt, k, buf).unwrap_or(0)
 }
 
 // Which argument is this path, byte for byte.
-pub(crate) fn find(path: &[u8]) -> Found {
-    let count = os::arg_count();
+pub(crate) fn find(rt: &HostRuntime, path: &[u8]) -> Found {
+    let count = streams::argument_count(rt);
     let mut k = 1;
     while k < count {
-        if is(k, path) {
+        if is(rt, k, path) {
             return Found::At(k);
         }
         k += 1;
@@ -21,9 +21,9 @@ pub(crate) fn find(path: &[u8]) -> Found {
 }
 
 // Whether argument k is this path. No argument is an empty one.
-pub(crate) fn is(k: usize, path: &[u8]) -> bool {
-    let mut own = io::buffer();
-    let n = read(k, &mut own);
+pub(crate) fn is(rt: &HostRuntime, k: usize, path: &[u8]) -> bool {
+    let mut own = [0u8; 4096];
+    let n = read(rt, k, &mut own);
     if n == 0 {
         return false;
     }

@@ -2,11 +2,12 @@
 use crate::report;
 use command_writer::framed::FRAME_ROOM;
 use protocol::{Answered, Receiver, Told};
+use std::io::Stderr;
 use streams::Run;
 use supplying::Supplying;
 
 // The receiver, and how the run stands.
-#[derive(Drop)]
+#[derive(Clone, Copy)]
 pub struct Console {
     pub receiver: Receiver,
     pub run: Run,
@@ -14,11 +15,11 @@ pub struct Console {
 
 // The receiver after a call. What it wrote stands at the start of the buffer, and is written before
 // anything else is done.
-pub(crate) fn put(console: Console, answered: Answered, buffer: &[u8]) -> Console {
+pub(crate) fn put(err: Stderr, console: Console, answered: Answered, buffer: &[u8]) -> Console {
     let receiver = answered.receiver;
     let told = answered.told;
     let run = console.run;
-    say_refused(told);
+    say_refused(err, told);
     Console {
         receiver: receiver,
         run: run.text(octets::part(buffer, 0, answered.reply_len)),
@@ -27,6 +28,7 @@ pub(crate) fn put(console: Console, answered: Answered, buffer: &[u8]) -> Consol
 
 // What is supplied in a receive session goes to the line in one frame.
 pub(crate) fn supply<'a>(
+    err: Stderr,
     console: Console,
     supplying: Supplying,
     text: &'a [u8],
@@ -35,13 +37,13 @@ pub(crate) fn supply<'a>(
     let receiver = console.receiver;
     let mut out = [0u8; FRAME_ROOM];
     let answered = receiver::supplies::supply(receiver, supplying, text, contents, &mut out);
-    put(console, answered, &out)
+    put(err, console, answered, &out)
 }
 
 // A text that is no command is said. No other call that is made here is refused.
-fn say_refused(told: Told) {
+fn say_refused(err: Stderr, told: Told) {
     match told {
-        Told::Refused(n) => report::counted(b"refused ", n as u64),
+        Told::Refused(n) => report::counted(err, b"refused ", n as u64),
         _ => {}
     }
 }

@@ -7,7 +7,7 @@ use session_rule::ids::{padded, same_id};
 
 // A path that the session named: the id that it gave it, its number among the arguments, whether it is
 // listed, and the size that it is listed with, which is 0 for none.
-#[derive(Drop)]
+#[derive(Clone, Copy)]
 pub struct Path {
     pub id: [u8; 32],
     pub id_len: usize,
@@ -28,7 +28,7 @@ impl Path {
 
 // The session's id, which is empty where none has its turn, whether every path that it named is an
 // argument, and these paths in their order.
-#[derive(Drop)]
+#[derive(Clone, Copy)]
 pub struct Current {
     pub id: [u8; 32],
     pub id_len: usize,
@@ -72,8 +72,13 @@ pub(crate) fn is(current: Current, id: &[u8]) -> bool {
 
 // ---- Its paths.
 // It names one more.
-pub(crate) fn named<'a>(current: Current, id: &'a [u8], name: &'a [u8]) -> Current {
-    match arguments::find(name) {
+pub(crate) fn named<'a>(
+    rt: &HostRuntime,
+    current: Current,
+    id: &'a [u8],
+    name: &'a [u8],
+) -> Current {
+    match arguments::find(rt, name) {
         Found::Nowhere => spoiled(current),
         Found::At(k) => added(current, id, k),
     }
@@ -119,20 +124,20 @@ fn no_path() -> Path {
 }
 
 // Each path is looked at: one whose file can be opened is listed.
-pub(crate) fn looked(current: Current) -> Current {
+pub(crate) fn looked(rt: &HostRuntime, current: Current) -> Current {
     let count = least(current.count, Session::FILES);
     let mut next = current;
     let mut i = 0;
     while i < count {
         let path = next.paths[i];
-        next.paths[i] = look(path);
+        next.paths[i] = look(rt, path);
         i += 1;
     }
     next
 }
 
-fn look(path: Path) -> Path {
-    match files::look(path.argument) {
+fn look(rt: &HostRuntime, path: Path) -> Path {
+    match files::look(rt, path.argument) {
         Looked::Size(size) => Path {
             is_listed: true,
             size: size,
@@ -143,11 +148,11 @@ fn look(path: Path) -> Path {
 }
 
 // The argument that is listed by this name.
-pub(crate) fn find_listed(current: Current, name: &[u8]) -> Found {
+pub(crate) fn find_listed(rt: &HostRuntime, current: Current, name: &[u8]) -> Found {
     let mut i = 0;
     while i < Session::FILES {
         let path = current.paths[i];
-        if is_listed_as(path, name) {
+        if is_listed_as(rt, path, name) {
             return Found::At(path.argument);
         }
         i += 1;
@@ -155,9 +160,9 @@ pub(crate) fn find_listed(current: Current, name: &[u8]) -> Found {
     Found::Nowhere
 }
 
-fn is_listed_as(path: Path, name: &[u8]) -> bool {
+fn is_listed_as(rt: &HostRuntime, path: Path, name: &[u8]) -> bool {
     if !path.is_listed {
         return false;
     }
-    arguments::is(path.argument, name)
+    arguments::is(rt, path.argument, name)
 }

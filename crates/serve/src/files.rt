@@ -1,38 +1,39 @@
 // A local file, looked at for the listing.
 use crate::{arguments, report};
 use protocol::FileRecord;
-use streams::Got;
+use std::fs::File;
+use std::io;
+use streams::{Got, open_read};
 
 // The size that is listed, 0 for none; or that the file cannot be opened.
-#[derive(Drop)]
+#[derive(Clone, Copy)]
 pub enum Looked {
     Size(u64),
     Unopened,
 }
 
-// Opens argument k's file, or answers what is below 0.
-pub(crate) fn open(k: usize) -> i32 {
-    let mut path = io::buffer();
-    let n = arguments::read(k, &mut path);
-    os::open_read(octets::part(&path, 0, n))
+// Opens argument k's file.
+pub(crate) fn open(rt: &HostRuntime, k: usize) -> io::Result<File> {
+    let mut path = [0u8; 4096];
+    let n = arguments::read(rt, k, &mut path);
+    open_read(rt, octets::part(&path, 0, n))
 }
 
-pub(crate) fn look(k: usize) -> Looked {
-    let fd = open(k);
-    if fd < 0 {
-        report::file(b"cannot open ", k);
-        return Looked::Unopened;
+pub(crate) fn look(rt: &HostRuntime, k: usize) -> Looked {
+    match open(rt, k) {
+        Ok(mut file) => Looked::Size(listed_size(&mut file)),
+        Err(_) => {
+            report::file(rt, b"cannot open ", k);
+            Looked::Unopened
+        }
     }
-    let size = listed_size(fd);
-    libc::close(fd);
-    Looked::Size(size)
 }
 
 // A client asks for a longer file compressed where it knows its size, so that none is listed. One that
 // cannot be read has none either: its request fails.
-fn listed_size(fd: i32) -> u64 {
+fn listed_size(file: &mut File) -> u64 {
     let mut start = [0u8; FileRecord::PART_LIMIT + 1];
-    let Got::Bytes(n) = streams::read_all_from(fd, &mut start) else {
+    let Got::Bytes(n) = streams::read_all_from(file, &mut start) else {
         return 0;
     };
     if n > FileRecord::PART_LIMIT {

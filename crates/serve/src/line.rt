@@ -8,10 +8,11 @@ use command::{Command, Place};
 use frames::Framing;
 use octets::size::less;
 use protocol::{Answered, Fed, Receiver, Reply, Told};
+use std::io::{Stderr, Stdout};
 use streams::{Got, Run};
 
 // The console, the session that has its turn, and how many bytes of a piece are left to feed.
-#[derive(Drop)]
+#[derive(Clone, Copy)]
 pub struct Server {
     pub console: Console,
     pub current: Current,
@@ -20,33 +21,33 @@ pub struct Server {
 
 // A proved loop has to end, and nothing says that the input does. So the loop counts its turns down, from
 // a number that no run uses up.
-pub(crate) fn run() -> Run {
-    let mut input = io::large_buffer();
+pub(crate) fn run(rt: &HostRuntime) -> Run {
+    let mut input = [0u8; 65536];
     let mut carry = [0u8; Framing::TEXT_LIMIT];
-    let mut server = fresh();
+    let mut server = fresh(rt.stdout());
     let mut turns = u64::MAX;
     while turns > 0 {
-        let Got::Bytes(n) = streams::read(&mut input) else {
+        let Got::Bytes(n) = streams::read(rt.stdin(), &mut input) else {
             return Run::NotRead;
         };
         if n == 0 {
             break;
         }
-        server = take(server, octets::part(&input, 0, n), &mut carry);
+        server = take(rt, server, octets::part(&input, 0, n), &mut carry);
         let run = run_of(server);
         if !run.is_well() {
             return run;
         }
         turns -= 1;
     }
-    Run::Well
+    Run::Well(rt.stdout())
 }
 
-fn fresh() -> Server {
+fn fresh(out: Stdout) -> Server {
     Server {
         console: Console {
             receiver: Receiver::fresh(),
-            run: Run::Well,
+            run: Run::Well(out),
         },
         current: Current::NONE,
         left: 0,
@@ -59,7 +60,7 @@ fn run_of(server: Server) -> Run {
 }
 
 // Feeds a piece until it is consumed or something fails. A feed consumes a byte at least.
-fn take(server: Server, piece: &[u8], carry: &mut [u8]) -> Server {
+fn take(rt: &HostRuntime, server: Server, piece: &[u8], carry: &mut [u8]) -> Server {
     let mut next = server;
     next.left = piece.len();
     let mut turns = piece.len();
@@ -67,7 +68,7 @@ fn take(server: Server, piece: &[u8], carry: &mut [u8]) -> Server {
         if next.left == 0 {
             break;
         }
-        next = hear(next, piece, carry);
+        next = hear(rt, next, piece, carry);
         let run = run_of(next);
         if !run.is_well() {
             break;
@@ -78,7 +79,7 @@ fn take(server: Server, piece: &[u8], carry: &mut [u8]) -> Server {
 }
 
 // Feeds what is left of a piece through the first thing to report, and answers that.
-fn hear(server: Server, piece: &[u8], carry: &mut [u8]) -> Server {
+fn hear(rt: &HostRuntime, server: Server, piece: &[u8], carry: &mut [u8]) -> Server {
     let console = server.console;
     let current = server.current;
     let receiver = console.receiver;
@@ -91,7 +92,8 @@ fn hear(server: Server, piece: &[u8], carry: &mut [u8]) -> Server {
     let told = fed.told;
     let command = fed.command;
     heed(
-        sent(console, fed, &reply),
+        rt,
+        sent(rt.stderr(), console, fed, &reply),
         current,
         told,
         command,
@@ -102,7 +104,7 @@ fn hear(server: Server, piece: &[u8], carry: &mut [u8]) -> Server {
 }
 
 // After a feed: its reply is written. One that consumes nothing would be made for ever.
-fn sent(console: Console, fed: Fed, reply: &[u8]) -> Console {
+fn sent(err: Stderr, console: Console, fed: Fed, reply: &[u8]) -> Console {
     let receiver = fed.receiver;
     let told = fed.told;
     if fed.consumed == 0 {
@@ -116,11 +118,12 @@ fn sent(console: Console, fed: Fed, reply: &[u8]) -> Console {
         told: told,
         reply_len: fed.reply_len,
     };
-    put(console, answered, reply)
+    put(err, console, answered, reply)
 }
 
 // What is told of a command is answered. Its ids stand in the text, and its name in the scratch.
 fn heed<'a>(
+    rt: &HostRuntime,
     console: Console,
     current: Current,
     told: Told,
@@ -132,6 +135,7 @@ fn heed<'a>(
     let transmission = command.transmission;
     let id = at_place(text, command.id);
     let planned = plans::heed(
+        rt,
         current,
         told,
         transmission,
@@ -142,7 +146,7 @@ fn heed<'a>(
     let after = planned.current;
     let plan = planned.plan;
     Server {
-        console: answer(console, after, plan, id),
+        console: answer(rt, console, after, plan, id),
         current: after,
         left: left,
     }
@@ -152,12 +156,12 @@ fn at_place(s: &[u8], place: Place) -> &[u8] {
     octets::part(s, place.start, place.len)
 }
 
-fn answer(console: Console, current: Current, plan: Plan, id: &[u8]) -> Console {
+fn answer(rt: &HostRuntime, console: Console, current: Current, plan: Plan, id: &[u8]) -> Console {
     match plan {
         Plan::Rest => console,
-        Plan::Deny => listing::deny(console, id),
-        Plan::Open => listing::open(console, current),
-        Plan::Supply(k) => requests::supply(console, k),
-        Plan::Unlisted => requests::unlisted(console),
+        Plan::Deny => listing::deny(rt.stderr(), console, id),
+        Plan::Open => listing::open(rt, console, current),
+        Plan::Supply(k) => requests::supply(rt, console, k),
+        Plan::Unlisted => requests::unlisted(rt.stderr(), console),
     }
 }

@@ -5,9 +5,10 @@ use crate::console::{Console, put, supply};
 use crate::current::{Current, Path};
 use crate::{arguments, current, report};
 use command::{FileType, Place, ZERO};
-use decimal::Number;
+use decimal::{Number, Written};
 use octets::size::least;
 use protocol::{Entry, Failure, Reply, Session};
+use std::io::Stderr;
 use supplying::Supplying;
 
 // 0644: may be read by all.
@@ -23,71 +24,85 @@ const PATH_ID: usize = 32;
 const NAME: usize = 20;
 
 // A file's entry, and the slice in which its own id and its name stand.
-#[derive(Drop)]
+#[derive(Clone, Copy)]
 pub struct Described {
     pub entry: Entry,
     pub contents: [u8; NAME + 4096],
 }
 
-pub(crate) fn deny(console: Console, id: &[u8]) -> Console {
-    report::heard(b"session denied: ", id);
+pub(crate) fn deny(err: Stderr, console: Console, id: &[u8]) -> Console {
+    report::heard(err, b"session denied: ", id);
     let receiver = console.receiver;
     let mut reply = [0u8; Reply::ROOM];
     let answered = receiver::deny(receiver, id, &mut reply);
-    put(console, answered, &reply)
+    put(err, console, answered, &reply)
 }
 
-pub(crate) fn open(console: Console, current: Current) -> Console {
-    home(list_each(allow(console, current), current), current)
+pub(crate) fn open(rt: &HostRuntime, console: Console, current: Current) -> Console {
+    let allowed = allow(rt.stderr(), console, current);
+    home(rt.stderr(), list_each(rt, allowed, current), current)
 }
 
-fn allow(console: Console, current: Current) -> Console {
+fn allow(err: Stderr, console: Console, current: Current) -> Console {
     let receiver = console.receiver;
     let id = current.id;
     let mut reply = [0u8; Reply::ROOM];
     let answered = receiver::allow(receiver, octets::part(&id, 0, current.id_len), &mut reply);
-    put(console, answered, &reply)
+    put(err, console, answered, &reply)
 }
 
-fn list_each(console: Console, current: Current) -> Console {
+fn list_each(rt: &HostRuntime, console: Console, current: Current) -> Console {
     let count = least(current.count, Session::FILES);
     let mut next = console;
     let mut i = 0;
     while i < count {
-        next = list(next, current, i);
+        next = list(rt, next, current, i);
         i += 1;
     }
     next
 }
 
 // Lists the path at a place, or says that there is no such file.
-fn list(console: Console, current: Current, i: usize) -> Console {
+fn list(rt: &HostRuntime, console: Console, current: Current, i: usize) -> Console {
     let path = current::path_at(current, i);
     let text = ids(current, path);
     if path.is_listed {
-        return list_file(console, describe(current.id_len, path, i), &text);
+        let described = describe(rt, current.id_len, path, i);
+        return list_file(rt.stderr(), console, described, &text);
     }
-    list_failed(console, current.id_len, path.id_len, &text)
+    list_failed(rt.stderr(), console, current.id_len, path.id_len, &text)
 }
 
-fn list_file(console: Console, described: Described, text: &[u8]) -> Console {
+fn list_file(err: Stderr, console: Console, described: Described, text: &[u8]) -> Console {
     let entry = described.entry;
     let contents = described.contents;
-    supply(console, Supplying::List(entry), text, &contents)
+    supply(err, console, Supplying::List(entry), text, &contents)
 }
 
 // A regular file. Its own id is its number, from 1.
-fn describe(id_len: usize, path: Path, i: usize) -> Described {
+fn describe(rt: &HostRuntime, id_len: usize, path: Path, i: usize) -> Described {
     let mut own_id = [0u8; NAME];
-    let digits = io::decimal(1 + least(i, Session::FILES) as u64, &mut own_id);
-    let mut name = io::buffer();
-    let n = arguments::read(path.argument, &mut name);
+    let digits = put_number(1 + least(i, Session::FILES) as u64, &mut own_id);
+    let mut name = [0u8; 4096];
+    let n = arguments::read(rt, path.argument, &mut name);
     let mut contents = [0u8; NAME + 4096];
-    octets::copy_at(&own_id[..digits], &mut contents, 0);
+    octets::copy_at(octets::part(&own_id, 0, digits), &mut contents, 0);
     octets::copy_at(octets::part(&name, 0, n), &mut contents, NAME);
     Described {
         entry: entry(id_len, path.id_len, digits, n, path.size),
         contents: contents,
+    }
+}
+
+// Puts a number at the start of the buffer, and answers how many digits it has.
+fn put_number(n: u64, buf: &mut [u8]) -> usize {
+    let number = Number {
+        negative: false,
+        magnitude: n,
+    };
+    match decimal::write(number, buf, 0) {
+        Written::End(digits) => digits,
+        _ => 0,
     }
 }
 
@@ -119,7 +134,13 @@ fn entry(id: usize, path_id: usize, own_id: usize, name: usize, size: u64) -> En
     }
 }
 
-fn list_failed(console: Console, id_len: usize, path_id_len: usize, text: &[u8]) -> Console {
+fn list_failed(
+    err: Stderr,
+    console: Console,
+    id_len: usize,
+    path_id_len: usize,
+    text: &[u8],
+) -> Console {
     let id = Place {
         start: 0,
         len: id_len,
@@ -129,6 +150,7 @@ fn list_failed(console: Console, id_len: usize, path_id_len: usize, text: &[u8])
         len: path_id_len,
     };
     supply(
+        err,
         console,
         Supplying::ListFailed(id, path_id, Failure::Enoent),
         text,
@@ -149,9 +171,10 @@ fn ids(current: Current, path: Path) -> [u8; 64]
 }
 
 // The listing ends with the home path.
-fn home(console: Console, current: Current) -> Console {
+fn home(err: Stderr, console: Console, current: Current) -> Console {
     let id = current.id;
     supply(
+        err,
         console,
         Supplying::Home,
         octets::part(&id, 0, current.id_len),

@@ -3,6 +3,8 @@
 // Commands come from standard input and answers go to standard output: both are the terminal line. An
 // office gets the files that are named here and no others, in one receive session at a time. What could
 // not be served is said on standard error.
+#![tactic(auto)]
+
 mod arguments;
 mod console;
 mod current;
@@ -13,6 +15,6 @@ mod plans;
 mod report;
 mod requests;
 
-fn main() {
-    line::run().end(b"serve");
+fn main(rt: HostRuntime) {
+    line::run(&rt).end(rt.stderr(), b"serve");
 }

@@ -3,8 +3,9 @@ use crate::current::Current;
 use crate::{current, report};
 use command::Transmission;
 use protocol::{Ask, Found, Told};
+use std::io::Stderr;
 
-#[derive(Drop)]
+#[derive(Clone, Copy)]
 pub enum Plan {
     // Nothing is to answer.
     Rest,
@@ -18,7 +19,7 @@ pub enum Plan {
     Unlisted,
 }
 
-#[derive(Drop)]
+#[derive(Clone, Copy)]
 pub struct Planned {
     pub current: Current,
     pub plan: Plan,
@@ -26,6 +27,7 @@ pub struct Planned {
 
 // Given the session's id and the path's, and the name of the command that was read.
 pub(crate) fn heed<'a>(
+    rt: &HostRuntime,
     current: Current,
     told: Told,
     transmission: Transmission,
@@ -39,9 +41,9 @@ pub(crate) fn heed<'a>(
             plan: Plan::Deny,
         },
         Told::Naming => rest(begun(current, id)),
-        Told::Path => rest(named(current, id, path_id, name)),
-        Told::LastPath => decided(named(current, id, path_id, name), id),
-        Told::Ask(ask) => asked(current, ask, transmission, name),
+        Told::Path => rest(named(rt, current, id, path_id, name)),
+        Told::LastPath => decided(rt, named(rt, current, id, path_id, name), id),
+        Told::Ask(ask) => asked(rt, current, ask, transmission, name),
         Told::Withdrawn => rest(ended(current, id)),
         Told::Discarded => rest(ended(current, id)),
         _ => rest(current),
@@ -65,16 +67,22 @@ fn begun(current: Current, id: &[u8]) -> Current {
     }
 }
 
-fn named<'a>(current: Current, id: &'a [u8], path_id: &'a [u8], name: &'a [u8]) -> Current {
+fn named<'a>(
+    rt: &HostRuntime,
+    current: Current,
+    id: &'a [u8],
+    path_id: &'a [u8],
+    name: &'a [u8],
+) -> Current {
     if current::is(current, id) {
-        current::named(current, path_id, name)
+        current::named(rt, current, path_id, name)
     } else {
         current
     }
 }
 
 // The last path is named. The files are looked at before the session is let in.
-fn decided(current: Current, id: &[u8]) -> Planned {
+fn decided(rt: &HostRuntime, current: Current, id: &[u8]) -> Planned {
     if !current::is(current, id) {
         return Planned {
             current: current,
@@ -88,7 +96,7 @@ fn decided(current: Current, id: &[u8]) -> Planned {
         };
     }
     Planned {
-        current: current::looked(current),
+        current: current::looked(rt, current),
         plan: Plan::Open,
     }
 }
@@ -103,20 +111,26 @@ fn ended(current: Current, id: &[u8]) -> Current {
 }
 
 // ---- Asks. No send session is open, so that each is a request of the session that has its turn.
-fn asked(current: Current, ask: Ask, transmission: Transmission, name: &[u8]) -> Planned {
+fn asked(
+    rt: &HostRuntime,
+    current: Current,
+    ask: Ask,
+    transmission: Transmission,
+    name: &[u8],
+) -> Planned {
     match ask {
-        Ask::Request => requested(current, is_delta(transmission), name),
+        Ask::Request => requested(rt, current, is_delta(transmission), name),
         _ => rest(current),
     }
 }
 
 // A client that asks for a delta takes plain parts for one, and its old file would be lost.
-fn requested(current: Current, is_delta: bool, name: &[u8]) -> Planned {
+fn requested(rt: &HostRuntime, current: Current, is_delta: bool, name: &[u8]) -> Planned {
     if is_delta {
-        return unlisted(current, name);
+        return unlisted(rt.stderr(), current, name);
     }
-    match current::find_listed(current, name) {
-        Found::Nowhere => unlisted(current, name),
+    match current::find_listed(rt, current, name) {
+        Found::Nowhere => unlisted(rt.stderr(), current, name),
         Found::At(k) => Planned {
             current: current,
             plan: Plan::Supply(k),
@@ -131,8 +145,8 @@ fn is_delta(transmission: Transmission) -> bool {
     }
 }
 
-fn unlisted(current: Current, name: &[u8]) -> Planned {
-    report::heard(b"request denied: ", name);
+fn unlisted(err: Stderr, current: Current, name: &[u8]) -> Planned {
+    report::heard(err, b"request denied: ", name);
     Planned {
         current: current,
         plan: Plan::Unlisted,

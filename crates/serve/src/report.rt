@@ -3,34 +3,36 @@
 use crate::arguments;
 use command::letters;
 use command::letters::Class;
-use libc::STDERR_FILENO;
+use std::io::{IsTerminal, Stderr};
+use streams::{say, say_number};
 
-pub(crate) fn counted(words: &[u8], n: u64) {
-    io::write_all(STDERR_FILENO, words);
-    io::print_decimal(STDERR_FILENO, n);
-    end();
+pub(crate) fn counted(err: Stderr, words: &[u8], n: u64) {
+    say(err, words);
+    say_number(err, n);
+    end(err);
 }
 
 // The path of argument k, as it was given.
-pub(crate) fn file(words: &[u8], k: usize) {
-    let mut path = io::buffer();
-    let n = arguments::read(k, &mut path);
-    io::write_all(STDERR_FILENO, words);
-    io::write_all(STDERR_FILENO, octets::part(&path, 0, n));
-    end();
+pub(crate) fn file(rt: &HostRuntime, words: &[u8], k: usize) {
+    let err = rt.stderr();
+    let mut path = [0u8; 4096];
+    let n = arguments::read(rt, k, &mut path);
+    say(err, words);
+    say(err, octets::part(&path, 0, n));
+    end(err);
 }
 
 // The office's text is shown up to a byte that a terminal might take for a command.
-pub(crate) fn heard(words: &[u8], text: &[u8]) {
+pub(crate) fn heard(err: Stderr, words: &[u8], text: &[u8]) {
     let n = letters::pass(Class::Text, text, 0);
-    io::write_all(STDERR_FILENO, words);
-    io::write_all(STDERR_FILENO, octets::part(text, 0, n));
-    end();
+    say(err, words);
+    say(err, octets::part(text, 0, n));
+    end(err);
 }
 
-fn end() {
-    if libc::isatty(STDERR_FILENO) == 1 {
-        io::write_all(STDERR_FILENO, b"\r");
+fn end(err: Stderr) {
+    if err.is_terminal() {
+        say(err, b"\r");
     }
-    io::write_all(STDERR_FILENO, b"\n");
+    say(err, b"\n");
 }

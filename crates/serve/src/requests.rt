@@ -2,32 +2,31 @@
 use crate::console::{Console, put};
 use crate::{console, files, report};
 use protocol::{Failure, FileRecord, Reply};
+use std::fs::File;
+use std::io::Stderr;
 use streams::{Got, Run};
 use supplying::Supplying;
 
 // The file of argument k.
-pub(crate) fn supply(console: Console, k: usize) -> Console {
-    let fd = files::open(k);
-    if fd < 0 {
-        return unread(console, k);
+pub(crate) fn supply(rt: &HostRuntime, console: Console, k: usize) -> Console {
+    match files::open(rt, k) {
+        Ok(mut file) => supply_parts(rt, console, k, &mut file),
+        Err(_) => unread(rt, console, k),
     }
-    let next = supply_parts(console, k, fd);
-    libc::close(fd);
-    next
 }
 
 // A part is written before the next one is read. One that is not full is the last, also an empty one. The
 // loop counts its turns down, from a number that no file uses up.
-fn supply_parts(console: Console, k: usize, fd: i32) -> Console {
+fn supply_parts(rt: &HostRuntime, console: Console, k: usize, file: &mut File) -> Console {
     let mut bytes = [0u8; FileRecord::PART_LIMIT];
     let mut next = console;
     let mut turns = u64::MAX;
     while turns > 0 {
-        let Got::Bytes(n) = streams::read_all_from(fd, &mut bytes) else {
-            return unread(next, k);
+        let Got::Bytes(n) = streams::read_all_from(file, &mut bytes) else {
+            return unread(rt, next, k);
         };
         let is_last = n < FileRecord::PART_LIMIT;
-        next = part(next, octets::part(&bytes, 0, n), is_last);
+        next = part(rt.stderr(), next, octets::part(&bytes, 0, n), is_last);
         let run = next.run;
         if is_over(run, is_last) {
             break;
@@ -44,22 +43,22 @@ fn is_over(run: Run, is_last: bool) -> bool {
     !run.is_well()
 }
 
-fn part(console: Console, bytes: &[u8], is_last: bool) -> Console {
-    console::supply(console, Supplying::Part(is_last), b"", bytes)
+fn part(err: Stderr, console: Console, bytes: &[u8], is_last: bool) -> Console {
+    console::supply(err, console, Supplying::Part(is_last), b"", bytes)
 }
 
 // The file can no longer be opened, or not be read.
-fn unread(console: Console, k: usize) -> Console {
-    report::file(b"cannot read ", k);
+fn unread(rt: &HostRuntime, console: Console, k: usize) -> Console {
+    report::file(rt, b"cannot read ", k);
     let receiver = console.receiver;
     let mut reply = [0u8; Reply::ROOM];
     let answered = receiver::failed(receiver, Failure::Eio, &mut reply);
-    put(console, answered, &reply)
+    put(rt.stderr(), console, answered, &reply)
 }
 
-pub(crate) fn unlisted(console: Console) -> Console {
+pub(crate) fn unlisted(err: Stderr, console: Console) -> Console {
     let receiver = console.receiver;
     let mut reply = [0u8; Reply::ROOM];
     let answered = receiver::unlisted(receiver, &mut reply);
-    put(console, answered, &reply)
+    put(err, console, answered, &reply)
 }
