@@ -1,4 +1,5 @@
 // The arguments: the session's id, and for each file its local path and the name that the console is told.
+use std::env::{Env, FillError};
 
 // What stands so many places after file k's pair of places, 2 k and 2 k + 1.
 pub(crate) const LOCAL: usize = 2;
@@ -22,12 +23,12 @@ pub(crate) fn files(count: usize) -> usize {
 
 // Puts a word of file k at the start of the buffer, and answers its length. Of one that is longer than the
 // buffer the first bytes fill it: what is cut here is too long in any case, and refused for that.
-pub(crate) fn read(k: usize, which: usize, buf: &mut [u8]) -> usize {
-    let n = os::arg(place(k, which), buf);
-    if os::errno() == libc::ENAMETOOLONG {
-        return buf.len();
+pub(crate) fn read(rt: &HostRuntime, k: usize, which: usize, buf: &mut [u8]) -> usize {
+    match rt.arg(place(k, which), buf) {
+        Ok(n) => n,
+        Err(FillError::TooLong) => buf.len(),
+        Err(FillError::NotPresent) => 0,
     }
-    n
 }
 
 // No argument has a place that cannot be counted.

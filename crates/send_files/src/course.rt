@@ -8,7 +8,7 @@ use sending::Sender;
 // piece is that is written next. Where the bytes stand that were read and are not yet heard. Whether the
 // latest command is answered, whether the session goes on, and how many of the arguments' files had their
 // turn.
-#[derive(Drop)]
+#[derive(Clone, Copy)]
 pub struct Course {
     pub sender: Sender,
     pub notes: Notes,

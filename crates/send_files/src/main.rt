@@ -2,6 +2,8 @@
 //
 // Commands go to standard output and replies come from standard input: both are the terminal line. What
 // became of each file is said on standard error.
+#![tactic(auto)]
+
 mod arguments;
 mod commands;
 mod course;
@@ -12,12 +14,13 @@ mod office;
 mod report;
 mod source;
 
-fn main() {
-    let files = arguments::files(os::arg_count());
+fn main(rt: HostRuntime) {
+    let files = arguments::files(streams::argument_count(&rt));
     if files > 0 {
-        office::run(files);
+        office::run(&rt, files);
     } else {
         report::plain(
+            &rt,
             b"usage: send_files SESSION LOCAL NAME [LOCAL NAME]..",
             report::NO_FILE,
         );

@@ -18,16 +18,16 @@ pub(crate) fn place(news: News) -> usize {
 
 // Bad news are said, of the file with number k, of which so many bytes were sent, or of the session. A
 // status stands in the scratch.
-pub(crate) fn tell(news: News, sent: u64, k: usize, scratch: &[u8]) {
+pub(crate) fn tell(rt: &HostRuntime, news: News, sent: u64, k: usize, scratch: &[u8]) {
     match news {
         News::Nothing => {}
         News::Refused(_) => {}
         News::Ignored => {}
         News::Noted => {}
         News::Allowed => {}
-        News::Differs(_, size) => report::differs(sent, size, k),
-        News::FileStopped(_, at) => report::stopped(octets::part(scratch, at.start, at.len), k),
-        News::SessionStopped(at) => report::stopped(octets::part(scratch, at.start, at.len), k),
+        News::Differs(_, size) => report::differs(rt, sent, size, k),
+        News::FileStopped(_, at) => report::stopped(rt, octets::part(scratch, at.start, at.len), k),
+        News::SessionStopped(at) => report::stopped(rt, octets::part(scratch, at.start, at.len), k),
     }
 }
 

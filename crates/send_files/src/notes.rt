@@ -7,7 +7,7 @@ use sending::{FileStage, SentFile, Transfer};
 
 // Of each file: its number among the arguments, whether a line was said of it, and whether the last such
 // line was that it is whole.
-#[derive(Drop)]
+#[derive(Clone, Copy)]
 pub struct Notes {
     pub numbers: [usize; Transfer::FILES],
     pub is_said: [bool; Transfer::FILES],
@@ -52,7 +52,13 @@ pub(crate) fn said(notes: Notes, i: usize, is_whole: bool) -> Notes {
 
 // A file of which nothing was said is whole once an OK closed it; at the end of the session it is unsent
 // where none did.
-pub(crate) fn settle(notes: Notes, i: usize, file: SentFile, is_end: bool) -> Notes {
+pub(crate) fn settle(
+    rt: &HostRuntime,
+    notes: Notes,
+    i: usize,
+    file: SentFile,
+    is_end: bool,
+) -> Notes {
     if i >= Transfer::FILES {
         return notes;
     }
@@ -60,40 +66,44 @@ pub(crate) fn settle(notes: Notes, i: usize, file: SentFile, is_end: bool) -> No
         return notes;
     }
     let stage = file.stage;
-    if settle_line(stage, file.sent, notes.numbers[i], is_end) {
+    if settle_line(rt, stage, file.sent, notes.numbers[i], is_end) {
         return said(notes, i, true);
     }
     notes
 }
 
 // Says of the file with number k what is to be said, and answers whether it is whole.
-fn settle_line(stage: FileStage, sent: u64, k: usize, is_end: bool) -> bool {
+fn settle_line(rt: &HostRuntime, stage: FileStage, sent: u64, k: usize, is_end: bool) -> bool {
     match stage {
         FileStage::Free => false,
-        FileStage::Sending => unsent(k, is_end),
-        FileStage::Sent => unsent(k, is_end),
+        FileStage::Sending => unsent(rt, k, is_end),
+        FileStage::Sent => unsent(rt, k, is_end),
         FileStage::Closed => {
-            report::counted(b"whole ", sent, k);
+            report::counted(rt, b"whole ", sent, k);
             true
         }
-        FileStage::Stopped => unsent(k, is_end),
+        FileStage::Stopped => unsent(rt, k, is_end),
     }
 }
 
-fn unsent(k: usize, is_end: bool) -> bool {
+fn unsent(rt: &HostRuntime, k: usize, is_end: bool) -> bool {
     if is_end {
-        report::plain(b"unsent", k);
+        report::plain(rt, b"unsent", k);
     }
     false
 }
 
 // Settles every file at the end, and answers how many are whole.
-pub(crate) fn settle_all(notes: Notes, files: [SentFile; Transfer::FILES]) -> usize {
+pub(crate) fn settle_all(
+    rt: &HostRuntime,
+    notes: Notes,
+    files: [SentFile; Transfer::FILES],
+) -> usize {
     let mut next = notes;
     let mut whole = 0;
     let mut i = 0;
     while i < Transfer::FILES {
-        next = settle(next, i, files[i], true);
+        next = settle(rt, next, i, files[i], true);
         whole += one_if(next.is_whole[i]);
         i += 1;
     }
