@@ -1,5 +1,1 @@
-pub mod Again
-pub mod Cells
-pub mod Early
-pub mod Elements
-pub mod Places
+pub mod Joined

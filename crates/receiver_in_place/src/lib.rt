@@ -4,6 +4,8 @@
 // and ids out.
 //
 // Not here: what a call gives (`protocol`), what it does with the one session (`session_in_place`).
+#![tactic(auto)]
+
 ghost use Rattle.std.specs.Prelude.{◌≡◌};
 ghost use Rattle.octets.specs.Outcome.{outcome};
 ghost use Rattle.protocol.specs.Calls.{feeding, feed_of};
@@ -24,6 +26,7 @@ pub use supplying::Supplying;
 // ---- The calls. Each is straight on, but for the return of a feed in which no command was read: what
 // is decided, the functions that they call decide.
 // The heads of the four sessions.
+#[tactic(auto, unfolding(session_in_place::specs::Heads::heads_of))]
 fn heads_of(receiver: &mut Receiver) -> Heads
     ensures { (result ≡ heads_of receiver.old.table) × (receiver.new ≡ receiver.old) }
 {
