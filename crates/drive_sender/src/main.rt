@@ -1,32 +1,35 @@
 // The scripted office: makes the calls of a script on one sender, and prints every answer, what became
 // of every lent buffer, and the sender's state.
+#![tactic(auto)]
+
 mod line;
 mod office;
 mod script;
 
 use office::Office;
 use script_parts::{SCRIPT_LIMIT, bad_script};
+use std::io::Stdout;
 use streams::{Got, Run};
 
 // One byte more is read, so that a longer script is seen.
-fn main() {
+fn main(rt: HostRuntime) {
     let mut bytes = [0u8; SCRIPT_LIMIT + 1];
-    let run = match streams::read_all(&mut bytes) {
-        Got::Bytes(n) => play(&bytes[..n]),
+    let run = match streams::read_all(rt.stdin(), &mut bytes) {
+        Got::Bytes(n) => play(rt.stdout(), &bytes[..n]),
         Got::Failed => Run::NotRead,
     };
-    run.end(b"drive_sender");
+    run.end(rt.stderr(), b"drive_sender");
 }
 
 // Makes the script's calls one after another, until something fails.
-fn play(bytes: &[u8]) -> Run {
+fn play(stdout: Stdout, bytes: &[u8]) -> Run {
     if bytes.len() > SCRIPT_LIMIT {
-        return bad_script(Run::Well);
+        return bad_script(Run::Well(stdout));
     }
     let mut out = [0xA5u8; Office::OUT];
     let mut carry = [0xA5u8; Office::CARRY];
     let mut scratch = [0xA5u8; Office::SCRATCH];
-    let mut state = office::fresh(Run::Well);
+    let mut state = office::fresh(Run::Well(stdout));
     let mut at = 0;
     while at < bytes.len() {
         let run = state.run;

@@ -10,7 +10,7 @@ use sending::{Listened, Sender, Wrote};
 use streams::Run;
 
 // How the run stands, the sender, how much of each buffer is lent, and the latest hear.
-#[derive(Drop)]
+#[derive(Clone, Copy)]
 pub struct Office {
     pub run: Run,
     pub sender: Sender,
@@ -19,7 +19,7 @@ pub struct Office {
 }
 
 // How many bytes of each buffer are lent at most.
-#[derive(Drop)]
+#[derive(Clone, Copy)]
 pub struct Rooms {
     pub out: usize,
     pub carry: usize,
@@ -27,7 +27,7 @@ pub struct Rooms {
 }
 
 // A hear: its operation's place in the script, and its report.
-#[derive(Drop)]
+#[derive(Clone, Copy)]
 pub struct Heard {
     pub at: usize,
     pub len: usize,
