@@ -1,4 +1,4 @@
--- A call in place put together from its halves, as the walks meet it: the session stored at its place, the answer beside it.
+-- A call in place put together from its halves, as `receiver_in_place` meets it: the session stored at its place, the answer beside it.
 use Prim.Native.Nat.{ℕ}
 use lib.ListN.{set}
 use Rattle.frames.specs.declared.Framing.{Framing}
