@@ -1,7 +1,9 @@
 // The calls in place on a receiver that is taken and given by value: it lies in a local, and is lent to
-// each. What makes a `&mut Receiver` is walked, and whoever calls these needs no walk.
+// each, so whoever calls these lends none.
 //
 // Not here: speed. A console that wants it keeps the receiver where it lies, and lends it itself.
+#![tactic(auto)]
+
 ghost use Rattle.std.specs.Prelude.{◌≡◌};
 ghost use Rattle.octets.specs.Outcome.{outcome};
 ghost use Rattle.protocol.specs.Calls.{feeding, feed_of};
