@@ -3,12 +3,13 @@ ghost use Rattle.std.specs.Prelude.{◌+◌, ◌≤◌, length};
 
 use octets::size::least;
 use script_parts::list_sum;
+use std::io::Stdout;
 use streams::Run;
 use windows::Compared;
 
 // The refusal's number, or 0, the rows, the sum of the whole list, and a line for each row.
-pub(crate) fn tell(compared: Compared, list: &[usize]) -> Run {
-    let run = Run::Well;
+pub(crate) fn tell(out: Stdout, compared: Compared, list: &[usize]) -> Run {
+    let run = Run::Well(out);
     match compared {
         Compared::Refused(n) => sum_after(run.number(n as usize).text(b" 0"), list),
         Compared::Rows(n) => {

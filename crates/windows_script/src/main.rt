@@ -1,9 +1,12 @@
 // The scripted comparer: compares two recordings with the room for the list that the script says, and
 // prints the answer, a sum of the whole list afterwards, and its rows.
+#![tactic(auto)]
+
 mod line;
 
 use octets::size::{least, less};
 use script_parts::{SCRIPT_LIMIT, bad_script, rest, three_bytes};
+use std::io::Stdout;
 use streams::{Got, Run};
 use windows::Compared;
 
@@ -11,30 +14,30 @@ use windows::Compared;
 const HEAD: usize = 6;
 
 // One byte more is read, so that a longer script is seen.
-fn main() {
+fn main(rt: HostRuntime) {
     let mut bytes = [0u8; SCRIPT_LIMIT + 1];
-    let run = match streams::read_all(&mut bytes) {
-        Got::Bytes(n) => play(&bytes[..n]),
+    let run = match streams::read_all(rt.stdin(), &mut bytes) {
+        Got::Bytes(n) => play(rt.stdout(), &bytes[..n]),
         Got::Failed => Run::NotRead,
     };
-    run.end(b"windows_script");
+    run.end(rt.stderr(), b"windows_script");
 }
 
 // The list has all the room that two recordings can need, of which the script lends a part.
-fn play(script: &[u8]) -> Run {
+fn play(out: Stdout, script: &[u8]) -> Run {
     if script.len() < HEAD {
-        return bad_script(Run::Well);
+        return bad_script(Run::Well(out));
     }
     if script.len() > SCRIPT_LIMIT {
-        return bad_script(Run::Well);
+        return bad_script(Run::Well(out));
     }
     let len = three_bytes(script, 3);
     if len > less(script.len(), HEAD) {
-        return bad_script(Run::Well);
+        return bad_script(Run::Well(out));
     }
     let mut list = [0xA5usize; Compared::LIST_ROOM];
     let compared = compare_lent(script, len, &mut list);
-    line::tell(compared, &list)
+    line::tell(out, compared, &list)
 }
 
 // The first recording has so many bytes, and the second the rest.
