@@ -1,53 +1,58 @@
-// The recordings, from the files that the arguments name. What fails is said with the system's words for
-// it, which hold only until the next call: so the line is put together first.
+// The recordings, from the files that the arguments name. What fails is said in the system's words.
 ghost use Rattle.streams.specs.Streams.{Within};
 
-use octets::Stored;
-use streams::Got;
+use std::fs::File;
+use std::io;
+use std::io::Stderr;
+use streams::{Got, argument, fill, open_read, say, say_error};
 
 // Reads argument k's file until it ends or the buffer is full.
-pub(crate) fn read(k: usize, recording: &mut [u8]) -> Got
+pub(crate) fn read(rt: &HostRuntime, k: usize, recording: &mut [u8]) -> Got
     ensures { Within result recording.new }
 {
-    let mut path = io::buffer();
-    let n = os::arg(k, &mut path);
-    if os::errno() != 0 {
-        fail_argument(k);
-        return Got::Failed;
+    let mut path = [0u8; 4096];
+    match argument(rt, k, &mut path) {
+        Ok(n) => read_path(rt, &path[..n], recording),
+        Err(error) => {
+            fail_argument(rt.stderr(), k, error);
+            Got::Failed
+        }
     }
-    read_path(&path[..n], recording)
 }
 
-fn fail_argument(k: usize) {
+fn fail_argument(err: Stderr, k: usize, error: io::Error) {
     if k == 1 {
-        os::fail(b"cannot take the argument FIRST");
+        say_error(err, b"cannot take the argument FIRST", error);
     } else {
-        os::fail(b"cannot take the argument SECOND");
+        say_error(err, b"cannot take the argument SECOND", error);
     }
 }
 
-fn read_path(path: &[u8], recording: &mut [u8]) -> Got
+fn read_path(rt: &HostRuntime, path: &[u8], recording: &mut [u8]) -> Got
     ensures { Within result recording.new }
 {
-    let fd = os::open_read(path);
-    if fd < 0 {
-        fail(b"cannot open ", path);
-        return Got::Failed;
+    match open_read(rt, path) {
+        Ok(mut file) => read_file(rt.stderr(), &mut file, path, recording),
+        Err(error) => {
+            fail(rt.stderr(), b"cannot open ", path, error);
+            Got::Failed
+        }
     }
-    let Got::Bytes(n) = streams::read_all_from(fd, recording) else {
-        fail(b"cannot read ", path);
-        libc::close(fd);
-        return Got::Failed;
-    };
-    libc::close(fd);
-    Got::Bytes(n)
 }
 
-// There is room for the words and the longest path.
-fn fail<'a>(words: &'a [u8], path: &'a [u8]) {
-    let mut line = [0u8; 4128];
-    octets::copy_at(words, &mut line, 0);
-    if let Stored::End(n) = octets::copy_at(path, &mut line, words.len()) {
-        os::fail(octets::part(&line, 0, n));
+fn read_file(err: Stderr, file: &mut File, path: &[u8], recording: &mut [u8]) -> Got
+    ensures { Within result recording.new }
+{
+    match fill(file, recording) {
+        Ok(n) => Got::Bytes(n),
+        Err(error) => {
+            fail(err, b"cannot read ", path, error);
+            Got::Failed
+        }
     }
+}
+
+fn fail<'a>(err: Stderr, words: &'a [u8], path: &'a [u8], error: io::Error) {
+    say(err, words);
+    say_error(err, path, error);
 }

@@ -1,29 +1,33 @@
 // Compares two recordings of one window: compare_windows FIRST SECOND
 //
 // A line for each file that was started in either goes to standard output, and a last line counts them.
+#![tactic(auto)]
+
 mod files;
 mod report;
 
+use std::io::Stdout;
 use streams::{Got, Run};
 use windows::Compared;
 
 // One byte more than a recording may have is read, so that a longer one is refused. What cannot be read is
 // said where it is read.
-fn main() {
+fn main(rt: HostRuntime) {
     let mut first = [0u8; Compared::LIMIT + 1];
     let mut second = [0u8; Compared::LIMIT + 1];
-    let Got::Bytes(n) = files::read(1, &mut first) else {
+    let Got::Bytes(n) = files::read(&rt, 1, &mut first) else {
         return;
     };
-    let Got::Bytes(m) = files::read(2, &mut second) else {
+    let Got::Bytes(m) = files::read(&rt, 2, &mut second) else {
         return;
     };
-    compare(&first[..n], &second[..m]).end(b"compare_windows");
+    let run = compare(rt.stdout(), &first[..n], &second[..m]);
+    run.end(rt.stderr(), b"compare_windows");
 }
 
 // The list has room for the rows of any two recordings.
-fn compare<'a>(first: &'a [u8], second: &'a [u8]) -> Run {
+fn compare<'a>(out: Stdout, first: &'a [u8], second: &'a [u8]) -> Run {
     let mut list = [0usize; Compared::LIST_ROOM];
     let compared = windows::compare(first, second, &mut list);
-    report::tell(compared, first, second, &list)
+    report::tell(out, compared, first, second, &list)
 }

@@ -2,16 +2,18 @@
 ghost use Rattle.std.specs.Prelude.{◌+◌, ◌≤◌, length};
 
 use octets::size::least;
+use std::io::Stdout;
 use streams::Run;
 use windows::Compared;
 
 pub(crate) fn tell<'a>(
+    out: Stdout,
     compared: Compared,
     first: &'a [u8],
     second: &'a [u8],
     list: &'a [usize],
 ) -> Run {
-    let run = Run::Well;
+    let run = Run::Well(out);
     match compared {
         Compared::Rows(n) => total(rows(run, first, second, list, n), list, n),
         Compared::Refused(n) => run.text(b"refused ").number(n as usize).text(b"\n"),
