@@ -1,4 +1,3 @@
-mod Loops
 pub mod ReplayLaws
 mod Onwards
 pub mod PieceLaws

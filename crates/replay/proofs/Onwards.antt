@@ -3,7 +3,7 @@
 -- sent-after, fed-after, answered-after the end of a turn, where nothing is to answer and after the answer
 use Prim.Native.Nat.{ℕ, ◌+◌}
 use mathlib.Core.Path.{◌≡◌, refl, sym, ◌∙◌, ap, subst}
-use mathlib.Core.Bool.{true, false, true≢false}
+use mathlib.Core.Bool.{true, true≢false}
 use mathlib.Core.List.{List}
 use Rattle.protocol.specs.Calls.{Feeding, feeding, feed_of}
 use Rattle.protocol.specs.declared.Receiver.{Receiver}
@@ -16,13 +16,13 @@ use Rattle.replay.specs.Pieces.{OnAfter}
 use Rattle.replay.specs.declared.console.Onward.{Onward}
 
 pub well-before : (a r : Run) → Keeps a r → is_well r ≡ true → is_well a ≡ true
-well-before Well r k h = refl
+well-before (Well out) r k h = refl
 well-before NotRead r k h = absurd (true≢false (sym h ∙ ap is_well k))
 well-before NotWritten r k h = absurd (true≢false (sym h ∙ ap is_well k))
 well-before Stuck r k h = absurd (true≢false (sym h ∙ ap is_well k))
 
 pub keeps_on : (a b c : Run) → Keeps a b → Keeps b c → Keeps a c
-keeps_on Well b c k l = tt
+keeps_on (Well out) b c k l = tt
 keeps_on NotRead b c k l = rw k at l
 keeps_on NotWritten b c k l = rw k at l
 keeps_on Stuck b c k l = rw k at l

@@ -10,7 +10,6 @@ use lib.Seq.{sets, length-sets, take-add, take_all}
 use lib.Dec.{leb}
 use Rattle.octets.specs.Outcome.{outcome}
 use Rattle.frames.specs.Calls.{scan_of}
-use Rattle.protocol.specs.Table.{fresh_receiver}
 use Rattle.protocol.specs.Replies.{reply_room, reply_bytes, replied_of}
 use Rattle.protocol.specs.Calls.{Feeding, feed_of, feeding, feed_refused, scanned_feed, is_short, is_owed}
 use Rattle.protocol.specs.History.{bytes_of}
@@ -22,7 +21,6 @@ use Rattle.protocol.specs.declared.Receiver.{Receiver}
 use Rattle.protocol.specs.declared.Reply.{Reply}
 use Rattle.protocol.specs.declared.Failure.TheVariants as Failure
 use Rattle.protocol.specs.declared.Told.{Told}
-use Rattle.protocol.specs.declared.Told.TheVariants as Told
 use Rattle.protocol.proofs.CutsCalls.{Kept, start-kept, steps}
 use Rattle.protocol.proofs.Promises.{every_call}
 use Rattle.streams.specs.Streams.{is_well}

@@ -14,7 +14,6 @@ use Rattle.protocol.specs.Replies.{reply_room}
 use Rattle.protocol.specs.declared.Receiver.{Receiver}
 use Rattle.protocol.specs.declared.Stepped.{Stepped}
 use Rattle.protocol.specs.declared.Told.{Told}
-use Rattle.protocol.specs.declared.Told.TheVariants as Told
 use Rattle.session_in_place.specs.Calls.{answered, called_of}
 use Rattle.session_in_place.specs.Calls.{fed_id as id_of}
 use Rattle.session_in_place.specs.Feeds.{fed_in}

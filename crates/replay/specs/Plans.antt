@@ -3,9 +3,7 @@ use Rattle.std.specs.Prelude.{◌≡◌, Bool, true, false, List, ℕ}
 use Rattle.protocol.specs.Calls.{Feeding}
 use Rattle.protocol.specs.declared.Receiver.{Receiver}
 use Rattle.protocol.specs.declared.Told.{Told}
-use Rattle.protocol.specs.declared.Told.TheVariants as Told
 use Rattle.session_in_place.specs.declared.Call.{Call}
-use Rattle.session_in_place.specs.declared.Call.TheVariants as Call
 use Rattle.protocol.specs.Replay.{replayed_of, fed_id}
 
 -- whether nothing is to answer

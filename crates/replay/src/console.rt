@@ -21,7 +21,7 @@ use streams::Run;
 pub(crate) const REPLIES: usize = Reply::ROOM + 8192;
 
 // The receiver after a piece, and how the piece ended.
-#[derive(Drop)]
+#[derive(Clone, Copy)]
 pub struct Taken {
     pub receiver: Receiver,
     pub onward: Onward,
@@ -29,7 +29,7 @@ pub struct Taken {
 
 // Where a piece goes on, how the run stands, and where the replies that wait end in the reply buffer.
 // Where something failed, the piece goes on at its end.
-#[derive(Drop)]
+#[derive(Clone, Copy)]
 pub struct Onward {
     pub at: usize,
     pub run: Run,
@@ -38,14 +38,14 @@ pub struct Onward {
 
 // What follows a feed: the call to answer with, whether nothing is to answer, and where the piece goes
 // on then.
-#[derive(Drop)]
+#[derive(Clone, Copy)]
 pub struct Plan {
     pub call: Call,
     pub is_over: bool,
     pub onward: Onward,
 }
 
-// ---- What makes or passes on a `&mut Receiver` is proved by a walk, and decides nothing.
+// ---- What makes or passes on a `&mut Receiver` decides nothing.
 // Feeds a piece until it is consumed or something fails. Replies may still wait then. Where the run is
 // well, that was a replay of the whole piece.
 pub(crate) fn take<'p, 'b>(

@@ -1,27 +1,30 @@
 // Replays a recording: reads standard input to its end, allows every session at once, answers done
 // always, and writes only replies. It answers before it reads on, since a client waits for its replies.
+#![tactic(auto)]
+
 mod console;
 
 use command::Command;
 use frames::Framing;
 use protocol::Receiver;
+use std::io::{Stdin, Stdout};
 use streams::{Got, Run};
 
-fn main() {
-    replay().end(b"replay");
+fn main(rt: HostRuntime) {
+    replay(rt.stdin(), rt.stdout()).end(rt.stderr(), b"replay");
 }
 
 // A proved loop has to end, and nothing says that the input does. So the loop counts its turns down,
 // from a number that no run uses up.
-fn replay() -> Run {
-    let mut piece = io::large_buffer();
+fn replay(input: Stdin, out: Stdout) -> Run {
+    let mut piece = [0u8; 65536];
     let mut carry = [0u8; Framing::TEXT_LIMIT];
     let mut scratch = [0u8; Command::SCRATCH_ROOM];
     let mut reply = [0u8; console::REPLIES];
     let mut receiver = Receiver::fresh();
     let mut turns = u64::MAX;
     while turns > 0 {
-        let Got::Bytes(n) = streams::read(&mut piece) else {
+        let Got::Bytes(n) = streams::read(input, &mut piece) else {
             return Run::NotRead;
         };
         if n == 0 {
@@ -29,7 +32,7 @@ fn replay() -> Run {
         }
         let taken = console::take(
             receiver,
-            Run::Well,
+            Run::Well(out),
             &piece[..n],
             &mut carry,
             &mut scratch,
@@ -42,5 +45,5 @@ fn replay() -> Run {
         receiver = taken.receiver;
         turns -= 1;
     }
-    Run::Well
+    Run::Well(out)
 }
