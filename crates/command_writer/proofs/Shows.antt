@@ -71,11 +71,11 @@ base64-some l p b h n =
     (text-some (Base64.text_of t) (λ e. n (omega (arith, length-text t, size))))
 
 -- ---- an integer that is not 0, put or refused
-pub integer-put : (name : List ℕ) (n : Number) {l m : List ℕ} {o p : ℕ} (after : List ℕ) (r : Written) → 0 < n.magnitude
+pub integer_put : (name : List ℕ) (n : Number) {l m : List ℕ} {o p : ℕ} (after : List ℕ) (r : Written) → 0 < n.magnitude
     → Put (59 ∷ name ++ 61 ∷ []) l o p m → PutOr (before (integer_shown n) Checked.fine) (text_of n) m p r after
     → FieldPut name (integer_shown n) l o r after
 unfolding integer_shown
-integer-put name n {l} {m} {o} {p} after r h f =
+integer_put name n {l} {m} {o} {p} after r h f =
     by_test Puts (negative_zero n) (λ z q. q) (λ z.
     by_test Puts (out_of_range n) (λ x q. q) (λ x.
     by_test Puts (eqb n.magnitude 0) (λ y. absurd (omega (arith, eqb-true n.magnitude 0 y)))

@@ -44,6 +44,7 @@ pub(crate) fn word(
 }
 
 // An integer.
+#[tactic(auto, using(crate::proofs::Shows::integer_put))]
 pub(crate) fn integer(name: &[u8], n: Number, out: &mut [u8], at: usize) -> Written
     ensures { FieldPut name.now (integer_shown n) out.old at result out.new }
 {

@@ -15,7 +15,7 @@ use recordings::Mended;
 
 // How many numbers the rows take; or why nothing was done: 17 for a recording over the limit, 9 for
 // less room than the limit.
-#[derive(Drop)]
+#[derive(Clone, Copy)]
 pub enum Notes {
     Numbers(usize),
     Refused(u8),

@@ -19,7 +19,7 @@ ghost use Rattle.recordings.specs.Examples.{MendExamples};
 
 // How many bytes were kept and how many stretches dropped; or why nothing was done: 17 for a recording
 // over the limit, 9 for no room.
-#[derive(Drop)]
+#[derive(Clone, Copy)]
 pub enum Mended {
     Done(usize, usize),
     Refused(u8),

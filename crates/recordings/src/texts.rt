@@ -10,7 +10,7 @@ ghost use Rattle.recordings.specs.Walk.{next_escape};
 
 // Bytes outside a command up to a place; or, from a place up to another, a command text with its opener
 // and its closer, or one that is abandoned, with its opener.
-#[derive(Drop)]
+#[derive(Clone, Copy)]
 pub enum TextSight {
     Outside(usize),
     Text(usize, usize),

@@ -26,7 +26,7 @@ ghost use Rattle.windows.specs.Steps.{side, Laid, lines_between, beside_of, list
 use hearing::Notes;
 
 // How many rows the list has; or why nothing was done: 17 for a recording over the limit, 9 for no room.
-#[derive(Drop)]
+#[derive(Clone, Copy)]
 pub enum Compared {
     Rows(usize),
     Refused(u8),

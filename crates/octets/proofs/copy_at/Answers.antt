@@ -1,6 +1,7 @@
 use Prim.Native.Nat.{◌+◌, ◌≤◌}
 use mathlib.Core.Path.{sym, ◌∙◌, ap}
-use borrow.Author.Tests.{leb-true}
+use borrow.Author.Tests.{leb-true, leb-false, lt-leb}
+use native.Mathlib.Omega.{arith}
 use lib.ListN.{length}
 use Rattle.octets.specs.Outcome.{outcome}
 use Rattle.octets.specs.Slices.{copy_at}
@@ -10,7 +11,10 @@ use Rattle.octets.proofs.copy_at.Goals as goal
 
 pub returns-then-not-fits : goal.returns-then-not-fits
 unfolding copy_at
-returns-then-not-fits c = rw (← c.fits.ensures, c.if-not-fits.true)
+returns-then-not-fits c =
+    let a = c.args in
+    let f = leb-false _ _ (sym c.fits.ensures ∙ c.if-not-fits.true) in
+    rw (lt-leb (a.at + length a.src.now) (length a.dst.now) (omega arith))
 
 pub returns : goal.returns
 unfolding copy_at

@@ -10,7 +10,7 @@ use Rattle.command_writer.proofs.framed.write_framed.Goals as goal
 
 pub returns-then-out-lt-FRAME_ROOM-clause-out_after : goal.returns-then-out-lt-FRAME_ROOM-clause-out_after
 unfolding framed_of
-returns-then-out-lt-FRAME_ROOM-clause-out_after c = rw (lt-ltb (length c.args.out.now) frame_room c.if-out-lt-FRAME_ROOM.true)
+returns-then-out-lt-FRAME_ROOM-clause-out_after c = rw (lt-ltb (length c.args.out.now) frame_room (omega arith))
 
 pub returns-then-out-lt-FRAME_ROOM-clause-framed_then_read : goal.returns-then-out-lt-FRAME_ROOM-clause-framed_then_read
 returns-then-out-lt-FRAME_ROOM-clause-framed_then_read c = framed-then-read

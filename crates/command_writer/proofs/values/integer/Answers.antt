@@ -2,13 +2,7 @@ use mathlib.Core.Path.{◌≡◌, refl}
 use native.Mathlib.Omega.{arith}
 use Rattle.command.specs.Values.{integer_shown}
 use Rattle.command_writer.proofs.Puts.{put-none}
-use Rattle.command_writer.proofs.Shows.{integer-put}
 use Rattle.command_writer.proofs.values.integer.Goals as goal
-
-pub returns-then-n-gt0 : goal.returns-then-n-gt0
-returns-then-n-gt0 c =
-    let a = c.args in
-    integer-put a.name.now a.n _ _ (omega arith) c.put_key-value.ensures c.put_number.ensures
 
 pub returns-then-n : goal.returns-then-n
 unfolding integer_shown
