@@ -64,6 +64,7 @@ impl Calls {
     }
 }
 
+#[tactic(auto, unfolding(session_in_place::specs::Calls::called_of))]
 fn by_value(receiver: Receiver, call: Call, id: &[u8], reply: &mut [u8]) -> Answered
     ensures { outcome result reply.new ≡ called_of receiver call id.now reply.old }
 {

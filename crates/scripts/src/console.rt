@@ -22,7 +22,7 @@ pub(crate) const OUT: usize = FRAME_ROOM + 60;
 
 // The buffers go from hand to hand by value and are lent where a call is made: each function on the way
 // that lends four slices further would cost the prover more than all that it does.
-#[derive(Drop)]
+#[derive(Clone, Copy)]
 pub struct Buffers {
     pub carry: [u8; CARRY],
     pub scratch: [u8; SCRATCH],
@@ -31,7 +31,7 @@ pub struct Buffers {
 }
 
 // How many bytes of each buffer are lent, from its start.
-#[derive(Drop)]
+#[derive(Clone, Copy)]
 pub struct Lent {
     pub carry: usize,
     pub scratch: usize,
@@ -40,14 +40,14 @@ pub struct Lent {
 }
 
 // The latest feed: its piece's place in the script, and its report.
-#[derive(Drop)]
+#[derive(Clone, Copy)]
 pub struct Latest {
     pub piece: Place,
     pub report: Report,
 }
 
 // How the run stands, which calls are made, and what the calls so far have left.
-#[derive(Drop)]
+#[derive(Clone, Copy)]
 pub struct Console {
     pub run: Run,
     pub calls: Calls,
@@ -59,7 +59,7 @@ pub struct Console {
 
 // What a call answers: the bytes consumed, what is told, the place of the command's name, the report, and
 // how many bytes were written. Only a feed consumes, reads a command and reports.
-#[derive(Drop)]
+#[derive(Clone, Copy)]
 pub struct Answer {
     pub consumed: usize,
     pub told: Told,
@@ -69,7 +69,7 @@ pub struct Answer {
 }
 
 // What a call leaves.
-#[derive(Drop)]
+#[derive(Clone, Copy)]
 pub struct Called {
     pub receiver: Receiver,
     pub buffers: Buffers,

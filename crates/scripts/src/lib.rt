@@ -1,5 +1,7 @@
 // The scripted console: makes the calls of a script on one receiver, by value or in place, and prints
 // every answer and what became of every lent buffer.
+#![tactic(auto)]
+
 mod answers;
 mod console;
 mod lending;
@@ -9,31 +11,32 @@ mod script;
 mod supplies;
 
 use script_parts::{SCRIPT_LIMIT, bad_script};
+use std::io::Stdout;
 use streams::{Got, Run};
 
 // Which calls are made: on a receiver that is taken and given by value, or on one that is lent and
 // changed in place.
-#[derive(Drop)]
+#[derive(Clone, Copy)]
 pub enum Calls {
     ByValue,
     InPlace,
 }
 
 // Plays the script on standard input. One byte more is read, so that a longer script is seen.
-pub fn run(calls: Calls) -> Run {
+pub fn run(rt: &HostRuntime, calls: Calls) -> Run {
     let mut bytes = [0u8; SCRIPT_LIMIT + 1];
-    match streams::read_all(&mut bytes) {
-        Got::Bytes(n) => play(calls, &bytes[..n]),
+    match streams::read_all(rt.stdin(), &mut bytes) {
+        Got::Bytes(n) => play(rt.stdout(), calls, &bytes[..n]),
         Got::Failed => Run::NotRead,
     }
 }
 
 // Makes the script's calls one after another, until something fails.
-fn play(calls: Calls, bytes: &[u8]) -> Run {
+fn play(out: Stdout, calls: Calls, bytes: &[u8]) -> Run {
     if bytes.len() > SCRIPT_LIMIT {
-        return bad_script(Run::Well);
+        return bad_script(Run::Well(out));
     }
-    let mut state = console::fresh(Run::Well, calls);
+    let mut state = console::fresh(Run::Well(out), calls);
     let mut at = 0;
     while at < bytes.len() {
         let run = state.run;
