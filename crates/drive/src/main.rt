@@ -1,6 +1,8 @@
 // The scripted console, its calls by value.
+#![tactic(auto)]
+
 use scripts::Calls;
 
-fn main() {
-    scripts::run(Calls::ByValue).end(b"drive");
+fn main(rt: HostRuntime) {
+    scripts::run(&rt, Calls::ByValue).end(rt.stderr(), b"drive");
 }
