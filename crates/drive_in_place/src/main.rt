@@ -1,7 +1,9 @@
 // The scripted console, its calls on a receiver that is lent and changed in place. Script and output are
 // those of `drive`, byte for byte.
+#![tactic(auto)]
+
 use scripts::Calls;
 
-fn main() {
-    scripts::run(Calls::InPlace).end(b"drive_in_place");
+fn main(rt: HostRuntime) {
+    scripts::run(&rt, Calls::InPlace).end(rt.stderr(), b"drive_in_place");
 }
