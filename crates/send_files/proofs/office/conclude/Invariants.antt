@@ -1,4 +1,4 @@
-use Prim.Native.Nat.{◌-◌}
+use Rattle.std.proofs.Common.{◌-◌}
 use Rattle.send_files.proofs.office.conclude.Given as goal
 
 abbrev pub decreases-loop-k : goal.decreases-loop-k

@@ -1,8 +1,5 @@
 use Rattle.std.proofs.Common.{◌-◌}
 use Rattle.serve.proofs.current.find_listed.Given as goal
 
-abbrev pub invariant-loop-i : goal.invariant-loop-i
-invariant-loop-i l = Unit {0}
-
 abbrev pub decreases-loop-i : goal.decreases-loop-i
 decreases-loop-i l = 32 - l.i
