@@ -1,5 +1,7 @@
 // The commands: each is made by a call of the sender and written to standard output, or its refusal is
 // said. Nothing is read here.
+ghost use Rattle.std.specs.Prelude.{◌≤◌, length};
+
 use crate::course::Course;
 use crate::{arguments, course, notes, report};
 use command::Command;
@@ -46,14 +48,17 @@ pub(crate) fn file(rt: &HostRuntime, course: Course, k: usize, size: u64, piece:
 }
 
 // Puts a number at the start of the buffer, and answers how many digits it has.
-fn put_number(n: u64, buf: &mut [u8]) -> usize {
+fn put_number(n: u64, buf: &mut [u8]) -> usize
+    requires small { n ≤ 4096 }
+    requires room { 20 ≤ length buf.old }
+{
     let number = Number {
         negative: false,
         magnitude: n,
     };
     match decimal::write(number, buf, 0) {
         Written::End(digits) => digits,
-        _ => 0,
+        _ => unreachable!(),
     }
 }
 

@@ -1,5 +1,5 @@
 // A session is let in and gets its listing, or is denied.
-ghost use Rattle.std.specs.Prelude.{◌≡◌, length};
+ghost use Rattle.std.specs.Prelude.{◌≡◌, length, ◌≤◌};
 
 use crate::console::{Console, put, supply};
 use crate::current::{Current, Path};
@@ -95,14 +95,17 @@ fn describe(rt: &HostRuntime, id_len: usize, path: Path, i: usize) -> Described 
 }
 
 // Puts a number at the start of the buffer, and answers how many digits it has.
-fn put_number(n: u64, buf: &mut [u8]) -> usize {
+fn put_number(n: u64, buf: &mut [u8]) -> usize
+    requires small { n ≤ 4096 }
+    requires room { 20 ≤ length buf.old }
+{
     let number = Number {
         negative: false,
         magnitude: n,
     };
     match decimal::write(number, buf, 0) {
         Written::End(digits) => digits,
-        _ => 0,
+        _ => unreachable!(),
     }
 }
 
