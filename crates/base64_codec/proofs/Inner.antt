@@ -24,7 +24,8 @@ module _ (t : List ℕ) (i : ℕ) (h : i + 4 < length t) (v : ValidText (drop i 
       × Groups (drop (i + 4) t) v.0
   inside = full-group (rw (drop-at-4 t i (omega arith)) at (valid-groups _ _ v.1)) (omega (arith, length-drop (i + 4) t))
 
-  pub inner-letters : (Letter (get_or t i 0)) × (Letter (get_or t (i + 1) 0)) × (Letter (get_or t (i + 2) 0)) × (Letter (get_or t (i + 3) 0))
+  pub inner-letters : (Letter (get_or t i 0)) × (Letter (get_or t (i + 1) 0)) × (Letter (get_or t (i + 2) 0))
+      × (Letter (get_or t (i + 3) 0))
   inner-letters = (inside.0, inside.1, inside.2, inside.3)
 
   pub inner-after : ValidText (drop (i + 4) t)

@@ -5,7 +5,7 @@ use mathlib.Core.Bool.{Bool, true, false, cond, ◌&&◌}
 use mathlib.Core.List.{List, [], ◌∷◌, map}
 use native.Mathlib.Omega.{arith}
 use native.Mathlib.Numerals.{add-one}
-use lib.ListN.{length, get_or, take, drop, get_or-map, get_or-eq_default}
+use lib.ListN.{length, get_or, take, drop, get_or-map}
 use lib.Seq.{drop-cons, get_or-take}
 use lib.Dec.{ltb, leb, eqb}
 use borrow.Author.Tests.{leb-true, ltb-true, ltb-false}
@@ -139,6 +139,3 @@ get_d_any l k d e h = let p = drop-cons l k d h in let q = drop-cons l k e h in 
 
 pub row-there : (k : ℕ) (d : Row) → k < 15 → get_or (map row_of keys) k d ≡ row_of (key_at keys k)
 row-there k d h = get_d_any (map row_of keys) k d (row_of nokey) h ∙ get_or-map row_of keys k nokey
-
-pub row-none : (k : ℕ) → 15 ≤ k → row_of nokey ≡ row_of (key_at keys k)
-row-none k h = rw (get_or-eq_default keys nokey h)

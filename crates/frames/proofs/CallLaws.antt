@@ -1,10 +1,10 @@
 -- One call: what is refused, and how much is consumed.
 use Prim.Native.Nat.{ℕ, zero, suc, ◌+◌, ◌-◌, ◌<◌, ◌≤◌, min}
-use mathlib.Core.Path.{◌≡◌, refl, ap, sym, ◌∙◌}
+use mathlib.Core.Path.{◌≡◌, refl, sym, ◌∙◌}
 use mathlib.Core.List.{List, [], ◌∷◌}
 use native.Mathlib.Nat.{add-zero, zero-add}
 use native.Mathlib.Omega.{arith}
-use lib.ListN.{length, take, drop, length-take, length-drop}
+use lib.ListN.{length, take}
 use lib.Dec.{ltb, leb}
 use borrow.Author.Tests.{lt-ltb, le-ltb, ltb-false}
 use Rattle.octets.specs.Outcome.{Outcome, outcome}
@@ -74,15 +74,6 @@ by_call P f xs c p q = by_cond P (ltb (length c) text_limit) (λ _. p) (λ e. q 
 -- ---- how much is consumed
 pub consumed_le : (f : Framing) (xs c : List ℕ) → (scan_of f xs c).answer.consumed ≤ length xs
 consumed_le f xs c = by_call (λ o. o.answer.consumed ≤ length xs) f xs c (omega arith) (λ _. omega (arith, used_le (capped_of f) 0 xs))
-
--- as a loop meets it that scans what is left of a piece
-pub consumed-within : {s : Scanned} {l : List ℕ} (f : Framing) (piece c : List ℕ) (at : ℕ) → at ≤ length piece
-    → outcome s l ≡ scan_of f (take (length piece - at) (drop at piece)) c → at + s.consumed ≤ length piece
-consumed-within {s} f piece c at h e =
-    let rest : List ℕ = take (length piece - at) (drop at piece) in
-    let n : length rest ≡ length piece - at = simp (length-take, length-drop) (omega arith) in
-    let u : s.consumed ≤ length rest = rw (ap (λ (o : Outcome Scanned). o.answer.consumed) e) (consumed_le f rest c) in
-    omega arith
 
 -- at least one byte of a piece that has one
 used-some : (f : Framing) (i : ℕ) (xs : List ℕ) → i + min 1 (length xs) ≤ (walk_from f i xs).used

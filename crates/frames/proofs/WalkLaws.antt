@@ -10,8 +10,8 @@ use lib.Dec.{ltb, leb, eqb}
 use borrow.Author.Tests.{eqb-true, ne_eqb, le-ltb}
 use Rattle.octets.specs.Slices.{starts_with}
 use Rattle.octets.proofs.Lists.{drop_at}
-use Rattle.frames.specs.Stream.{Mode, text_limit, after_escape}
-use Rattle.frames.specs.Framings.{mark_of, may_be, count, framing_of, capped_of}
+use Rattle.frames.specs.Stream.{Mode, after_escape}
+use Rattle.frames.specs.Framings.{mark_of, may_be, count, framing_of}
 use Rattle.frames.specs.Steps.{first_byte, in_mark, in_text, step_of, after, walk_from}
 use Rattle.frames.specs.Carry.{reported_at, held_of}
 use Rattle.frames.specs.Steps.{framing_after}
@@ -78,12 +78,6 @@ grows (TextEscape n) b =
 
 pub grows-on : (f : Framing) (b : ℕ) (r : Event) (g : Framing) → r ≡ step_of f b → r ≡ On g → count g ≤ count f + 1
 grows-on f b r g p q = rw (sym p ∙ q) at (grows f b)
-
-pub capped_le : (f : Framing) → count (capped_of f) ≤ text_limit + 1
-capped_le Plain = omega arith
-capped_le Escape = omega arith
-capped_le (Text k n) = omega arith
-capped_le (TextEscape n) = omega arith
 
 -- ---- the bytes used
 after-used : (r : Event) (i n : ℕ) (k : Framing → Walked) → i ≤ n → ((g : Framing) → (k g).used ≤ n) → (after r i k).used ≤ n

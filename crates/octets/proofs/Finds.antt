@@ -25,7 +25,8 @@ unfolding index_of index_after
 index-found b [] h = absurd (omega arith)
 index-found b (x ∷ t) h = go (eqb x b) refl h (index-found b t)
   where
-    go : (u : Bool) → eqb x b ≡ u → index_after u (index_of b t) < suc (length t) → (index_of b t < length t → get_or t (index_of b t) 0 ≡ b)
+    go : (u : Bool) → eqb x b ≡ u → index_after u (index_of b t) < suc (length t)
+        → (index_of b t < length t → get_or t (index_of b t) 0 ≡ b)
         → get_or (x ∷ t) (index_after u (index_of b t)) 0 ≡ b
     go true e l ih = eqb-true x b e
     go false e l ih = ih (omega arith)

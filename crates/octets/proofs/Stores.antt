@@ -41,7 +41,8 @@ sets_last (x ∷ xs) l i a =
 pub sets-part : (src dst : List ℕ) (at : ℕ) → at + length src ≤ length dst
     → put_mid at (at + length src - at) dst src ≡ sets dst at src
 sets-part src dst at h =
-    ap (λ (r : List ℕ). take at dst ++ (src ++ r)) (Post-is at (at + length src) dst (omega arith)) ∙ sym (sets-eq src dst at h ∙ rw append_assoc)
+    ap (λ (r : List ℕ). take at dst ++ (src ++ r)) (Post-is at (at + length src) dst (omega arith))
+    ∙ sym (sets-eq src dst at h ∙ rw append_assoc)
 
 -- ---- parts of a buffer after stores
 -- the part in which a string was stored is that string

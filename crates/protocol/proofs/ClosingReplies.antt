@@ -49,7 +49,8 @@ held-quiet quiet h = rw (le-leb 1 quiet h) (go (leb 2 quiet))
     go false = refl
 
 -- a reply that fits is stored
-stored : (r : Reply) (buf bs : List ℕ) → reply_bytes r ≡ bs → length bs ≤ length buf → replied_of r buf ≡ outcome (length bs) (sets buf 0 bs)
+stored : (r : Reply) (buf bs : List ℕ) → reply_bytes r ≡ bs → length bs ≤ length buf
+    → replied_of r buf ≡ outcome (length bs) (sets buf 0 bs)
 unfolding replied_of
 stored r buf bs e h = rw (e, le-leb (0 + length bs) (length buf) (omega arith))
 

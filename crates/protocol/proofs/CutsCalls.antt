@@ -77,7 +77,8 @@ record Acts (t : Table) (a : Acted) (os : List Output) (ds : List Stream.Told) :
   taken : is_unfed a.step.told ≡ false
   moves : Moves t a.step.table os ds
 
-module _ (t : Table) (h : Sized t) (scratch reply : List ℕ) (enough : scratch_room ≤ length scratch) (long : reply_room ≤ length reply) where
+module _ (t : Table) (h : Sized t) (scratch reply : List ℕ) (enough : scratch_room ≤ length scratch)
+    (long : reply_room ≤ length reply) where
   -- the act for a thing told, with any scratch
   act-moves : (d : Stream.Told) (a : Acted) → SizedReply a.step.reply → SameAct (text_in d) a (act_on t d)
       → Acts t a (reported_by (text_in d) a reply ∷ []) (d ∷ [])

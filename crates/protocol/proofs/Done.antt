@@ -93,7 +93,8 @@ module _ (k : Key) (n quiet : ℕ) where
   no-session = refl
 
   pub each_le : (t t' : Table)
-      → ((i j : ℕ) → counts (session_at t' i) (file_at (session_at t' i) j) ≡ true → counts (session_at t i) (file_at (session_at t i) j) ≡ true)
+      → ((i j : ℕ) → counts (session_at t' i) (file_at (session_at t' i) j) ≡ true
+      → counts (session_at t i) (file_at (session_at t i) j) ≡ true)
       → done_as k n quiet t' ≤ done_as k n quiet t
   each_le t t' h =
       total_le no_session (done_in k n quiet) (done_in k n quiet) no-session t.sessions t'.sessions

@@ -110,7 +110,8 @@ asked_here ss i s q d h a = rw (get_or-set_same ss i s no_session h) a
 pub none-same : (t : Table) (o : Owed) → NoneDone t (table t.sessions o)
 none-same t o i j q = (q, refl, refl, refl)
 
-pub none-put : (t : Table) (i : ℕ) (s : Session) (o : Owed) → ((j : ℕ) → (file_at s j).state ≡ FileState.Done → WasDone (session_at t i) s j)
+pub none-put : (t : Table) (i : ℕ) (s : Session) (o : Owed)
+    → ((j : ℕ) → (file_at s j).state ≡ FileState.Done → WasDone (session_at t i) s j)
     → NoneDone t (table (set t.sessions i s) o)
 none-put t i s o h i' j =
     set-any (λ (n : ℕ) (x : Session). (file_at x j).state ≡ FileState.Done → WasDone (session_at t n) x j)
@@ -126,7 +127,8 @@ with_file t i j f o = table (set t.sessions i (put_file (session_at t i) j f)) o
 
 -- a record put at a place is the only one that can turn done
 pub only-there : (t : Table) (i j : ℕ) (f : FileRecord) (o : Owed) (i' j' : ℕ) → let t' = with_file t i j f o in
-    state_at t' i' j' ≡ FileState.Done → WasDone (session_at t i') (session_at t' i') j' ⊎ ((i' ≡ i) × (j' ≡ j) × (f.state ≡ FileState.Done))
+    state_at t' i' j' ≡ FileState.Done
+    → WasDone (session_at t i') (session_at t' i') j' ⊎ ((i' ≡ i) × (j' ≡ j) × (f.state ≡ FileState.Done))
 only-there t i j f o i' j' =
     set-any (λ (n : ℕ) (x : Session). (file_at x j').state ≡ FileState.Done → Or n x)
     t.sessions i (put_file (session_at t i) j f) no_session (λ q. here (inside j' q)) (λ n q. inl (q, refl, refl, refl)) i'

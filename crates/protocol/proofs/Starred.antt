@@ -64,8 +64,8 @@ unfolding action_of file_type_of transmission_of command_of kept read_of
 reading = tt
 
 rule : Unit {0}
-unfolding adjusted first result_in kind_of status_text reply_bytes replied_of file_checked file_of part_asked data_of finish_of path_checked path_of
-    obeyed_by done_by decided_by
+unfolding adjusted first result_in kind_of status_text reply_bytes replied_of file_checked file_of part_asked data_of finish_of path_checked
+    path_of obeyed_by done_by decided_by
 rule = tt
 
 sessions : Unit {0}

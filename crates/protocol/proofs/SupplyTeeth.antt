@@ -26,8 +26,8 @@ use Rattle.protocol.proofs.Refuting.{HandsBadly, hands-badly, SuppliesBadly, sup
 
 -- what computing opens besides, where something is written
 unfoldable pub writing : Unit {0}
-unfolding word_shown safe_shown integer_shown base64_shown shown fields_of canonical checked_of write_of framed_of values_of slots_of bytes_at
-    framed_for supply_of
+unfolding word_shown safe_shown integer_shown base64_shown shown fields_of canonical checked_of write_of framed_of values_of slots_of
+    bytes_at framed_for supply_of
 writing = tt
 
 -- a path named, the session allowed, the home path supplied, and the file asked for

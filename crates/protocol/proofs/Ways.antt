@@ -21,7 +21,8 @@ use Rattle.protocol.specs.Replies.{no_reply, session_reply, file_reply}
 use Rattle.protocol.specs.Change.{change, tells, asks, opens, drops}
 use Rattle.protocol.specs.Files.{Request, ignored, opening, file_status, link_like, is_rsync, bad_permissions, bad_size, declared_by}
 use Rattle.protocol.specs.Files.{is_directory, open_due, passes, ends_short}
-use Rattle.protocol.specs.Files.{file_recorded, file_checked, unless_known, if_new, file_of, failed_file, write_due, part_limit, count_limit}
+use Rattle.protocol.specs.Files.{file_recorded, file_checked, unless_known, if_new, file_of}
+use Rattle.protocol.specs.Files.{failed_file, write_due, part_limit, count_limit}
 use Rattle.protocol.specs.Files.{part_asked, part_found, data_of, finish_of}
 use Rattle.protocol.specs.Receives.{named, path_checked, path_of, request_of}
 use Rattle.protocol.specs.Receives as Receives

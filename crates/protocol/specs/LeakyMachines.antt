@@ -192,7 +192,8 @@ humming =
 abbrev pub whispering : Machine
 whispering =
     allowing_by (λ r id reply.
-    cond (ltb (length reply) reply_room) (outcome (record { receiver = r; told = Told.Nothing; reply_len = length status_of_m }) status_of_m)
+    cond (ltb (length reply) reply_room)
+    (outcome (record { receiver = r; told = Told.Nothing; reply_len = length status_of_m }) status_of_m)
     (allow_of r id reply))
 
 -- beside another session a byte of noise has m's part handed over once more

@@ -74,5 +74,6 @@ pub record StatusPromise (id file : List ℕ) (size : ℕ) (w : Status) : Type 0
   pub means : meaning_of (status_text id file size (status_word w)) ≡ Meaning.command (status_values id file size (status_word w))
 
 abbrev pub EveryStatus : Type 0
-EveryStatus = (id file : List ℕ) (size : ℕ) (w : Status) → IsId id → every safe_byte file ≡ true → length file ≤ id_room → size ≤ count_limit
+EveryStatus =
+    (id file : List ℕ) (size : ℕ) (w : Status) → IsId id → every safe_byte file ≡ true → length file ≤ id_room → size ≤ count_limit
     → StatusPromise id file size w

@@ -1,5 +1,6 @@
 -- The table of sessions: room, ids, finding, and what is put back.
-use Rattle.std.specs.Prelude.{ℕ, zero, suc, ◌+◌, ◌-◌, min, Bool, true, false, not, cond, ◌&&◌, List, [], ◌∷◌, ◌++◌, take, get_or, set, replicate}
+use Rattle.std.specs.Prelude.{ℕ, zero, suc, ◌+◌, ◌-◌, min, Bool, true, false, not, cond, ◌&&◌}
+use Rattle.std.specs.Prelude.{List, [], ◌∷◌, ◌++◌, take, get_or, set, replicate}
 use Rattle.octets.specs.Slices.{equals}
 use Rattle.frames.specs.declared.Framing.TheVariants as Framing
 use Rattle.protocol.specs.declared.FileState.{FileState}

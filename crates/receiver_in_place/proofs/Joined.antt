@@ -27,7 +27,8 @@ use Rattle.session_in_place.specs.declared.steps.Aim.{Aim}
 use Rattle.session_in_place.specs.declared.steps.Left.{Left}
 use Rattle.session_in_place.specs.declared.feeds.Heard.{Heard}
 use Rattle.session_in_place.proofs.Halves.{takes, left_in, unread_fed, left_fed, reframed}
-use Rattle.session_in_place.proofs.InPlace.{answers, in-place-answer, in-place-supply, without_step, with_step, in-place-unread, in-place-feed}
+use Rattle.session_in_place.proofs.InPlace.{answers, in-place-answer, in-place-supply, without_step, with_step}
+use Rattle.session_in_place.proofs.InPlace.{in-place-unread, in-place-feed}
 
 module _ (r now : Receiver) (hs : Heads) (same : now ≡ r) (told : hs ≡ heads_of r.table) where
   -- ---- answer, answer_for
@@ -42,7 +43,8 @@ module _ (r now : Receiver) (hs : Heads) (same : now ≡ r) (told : hs ≡ heads
         let at' = rw (same, told) at at.0 in
         let step' = rw (copied at.1, at', same) at step in
         rw (at', same)
-        (ap (answers r (aimed (concerned k r.table.owed (heads_of r.table) id)).place) step' ∙ in-place-answer r k id reply (rw same at four))
+        (ap (answers r (aimed (concerned k r.table.owed (heads_of r.table) id)).place) step'
+        ∙ in-place-answer r k id reply (rw same at four))
 
     -- ---- supply
     pub supply-joined : (x : Supplying) (text contents out : List ℕ)
@@ -77,6 +79,8 @@ module _ (r now : Receiver) (hs : Heads) (same : now ≡ r) (told : hs ≡ heads
         let copied = get_or_default now.table.sessions h.place d no_session (omega arith) in
         let step' = rw (copied, same) at step in
         rw same
-        (ap (λ (a : Acting). feeding (fed_in (takes (reframed r h.framing) h.place a.left) (left_fed h a.left)) a.carry a.scratch a.reply) step'
+        (ap
+        (λ (a : Acting). feeding (fed_in (takes (reframed r h.framing) h.place a.left) (left_fed h a.left)) a.carry a.scratch a.reply)
+        step'
         ∙ ap (with_step r piece reply) whole
         ∙ in-place-feed r piece reply carry scratch (rw same at four) (ap (λ (x : Hearing). x.heard.unread) (sym whole) ∙ q))

@@ -1,12 +1,12 @@
 -- The turns of a piece are a replay of its bytes.
--- going-first, going_on, going-last the loop over a piece: at its start, after a turn, at its end
+-- going_on the loop over a piece, after a turn
 use Prim.Native.Nat.{ℕ, ◌+◌, ◌≤◌}
 use mathlib.Core.Path.{◌≡◌, refl, sym, ◌∙◌, ap, subst}
 use mathlib.Core.Bool.{Bool, true, false, cond}
 use mathlib.Core.List.{List, [], ◌∷◌, ◌++◌, append-nil, append_assoc}
 use native.Mathlib.Omega.{arith}
 use lib.ListN.{length, take, drop, length-drop}
-use lib.Seq.{sets, length-sets, take-add, take_all}
+use lib.Seq.{sets, length-sets, take-add}
 use lib.Dec.{leb}
 use Rattle.octets.specs.Outcome.{outcome}
 use Rattle.frames.specs.Calls.{scan_of}
@@ -26,7 +26,7 @@ use Rattle.protocol.proofs.Promises.{every_call}
 use Rattle.streams.specs.Streams.{is_well}
 use Rattle.protocol.specs.Replay.{answers_to, replayed_of, fed_id, Turn, turned, replayed, Answerable}
 use Rattle.replay.specs.Plans.{LeftByTurn}
-use Rattle.replay.specs.Pieces.{OnAfter, ReplayOf, Takes}
+use Rattle.replay.specs.Pieces.{OnAfter, ReplayOf}
 use Rattle.replay.specs.declared.console.Onward.{Onward}
 
 -- ---- what the answer leaves
@@ -199,10 +199,6 @@ abbrev pub Going : (piece reply : List ℕ) → Receiver → (carry : List ℕ) 
 Going piece reply r carry o r' carry' = is_well o.run ≡ true → reply_room ≤ length reply → (bs : List ℕ) → ReplayOf bs r carry
     → (o.at ≤ length piece) × ReplayOf (bs ++ take o.at piece) r' carry'
 
-pub going-first : (piece reply : List ℕ) (r : Receiver) (carry : List ℕ) (o : Onward) → o.at ≡ 0 → Going piece reply r carry o r carry
-going-first piece reply r carry o e well long bs p =
-    (omega (arith, e), rw e (subst (λ (l : List ℕ). ReplayOf l r carry) (sym (append-nil bs)) p))
-
 pub going_on : (piece reply : List ℕ) (h : Receiver) (c₀ : List ℕ) (o o' : Onward) (g g' : Receiver) (c c' s s' y : List ℕ)
     → length y ≡ length reply → Going piece reply h c₀ o g c
     → let l = drop o.at piece in let f = feed_of g l c s y in
@@ -222,8 +218,3 @@ going_on piece reply h c₀ o o' g g' c c' s s' y same going left on well long b
       omega (arith, e, inside),
       subst (λ (k : List ℕ). ReplayOf k g' c') (sym q) (replay-on before g g' c c' s s' y l (omega (arith, same, long)) b.1 left),
     )
-
-pub going-last : (piece reply : List ℕ) (h : Receiver) (c₀ : List ℕ) (o : Onward) (g : Receiver) (c : List ℕ) → length piece ≤ o.at
-    → Going piece reply h c₀ o g c → Takes piece reply h c₀ o.run g c
-going-last piece reply h c₀ o g c end going well long bs p =
-    subst (λ (l : List ℕ). ReplayOf (bs ++ l) g c) (take_all o.at piece end) (going well long bs p).1

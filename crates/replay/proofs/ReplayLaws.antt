@@ -1,5 +1,4 @@
 -- What a turn leaves: after a feed, the answer that `answers_to` gives.
--- turned-over where nothing is to answer, the feed is all
 -- turned_on after the one call; of the reply buffer that it was lent, only the length counts
 use mathlib.Core.Path.{◌≡◌, refl, sym, ◌∙◌, ap}
 use mathlib.Core.Bool.{Bool, true, false, cond, true≢false}
@@ -35,7 +34,8 @@ guarded-alike r s a b e = rw e (go (ltb (length b) reply_room))
     go true = refl
     go false = refl
 
-pub replayed-alike : (r : Receiver) (told : Told) (id a b : List ℕ) → length a ≡ length b → replayed_of r told id a ≡ replayed_of r told id b
+pub replayed-alike : (r : Receiver) (told : Told) (id a b : List ℕ) → length a ≡ length b
+    → replayed_of r told id a ≡ replayed_of r told id b
 unfolding allow_of done_of
 replayed-alike r Told.Nothing id a b e = refl
 replayed-alike r (Told.Refused n) id a b e = refl
@@ -52,21 +52,6 @@ replayed-alike r Told.Discarded id a b e = refl
 replayed-alike r Told.Committed id a b e = refl
 
 -- ---- none, or the one call
-replayed-over : (r : Receiver) (told : Told) (id a : List ℕ) → is_over told ≡ true → replayed_of r told id a ≡ r
-replayed-over r Told.Nothing id a e = refl
-replayed-over r (Told.Refused n) id a e = refl
-replayed-over r Told.Ignored id a e = refl
-replayed-over r Told.DragDrop id a e = refl
-replayed-over r Told.Asked id a e = absurd (true≢false (sym e))
-replayed-over r Told.Naming id a e = refl
-replayed-over r Told.Path id a e = refl
-replayed-over r Told.LastPath id a e = absurd (true≢false (sym e))
-replayed-over r (Told.Ask k) id a e = absurd (true≢false (sym e))
-replayed-over r (Told.Status w) id a e = refl
-replayed-over r Told.Withdrawn id a e = refl
-replayed-over r Told.Discarded id a e = refl
-replayed-over r Told.Committed id a e = refl
-
 replayed-on : (r : Receiver) (told : Told) (id a : List ℕ) → is_over told ≡ false
     → replayed_of r told id a ≡ (called_of r (call_for told) id a).answer.receiver
 unfolding called_of
@@ -85,11 +70,6 @@ replayed-on r Told.Discarded id a e = absurd (true≢false e)
 replayed-on r Told.Committed id a e = absurd (true≢false e)
 
 -- ---- the end of a turn: a feed of what was left, l
-pub turned-over : (h g : Receiver) (r : FedInPlace) (c₀ s₀ y₀ c s y l piece : List ℕ) → l ≡ piece
-    → feeding (fed_in g r) c s y ≡ feed_of h l c₀ s₀ y₀ → is_over r.told ≡ true → LeftByTurn g c s piece (feed_of h piece c₀ s₀ y₀)
-turned-over h g r c₀ s₀ y₀ c s y l piece is fed over =
-    rw (← is, ← fed) (refl, refl, sym (replayed-over g r.told _ y over))
-
 pub turned_on : (h g g' : Receiver) (r : FedInPlace) (a : AnsweredInPlace) (k : Call) (c₀ s₀ y₀ c c' s y y' z l piece : List ℕ) → l ≡ piece
     → feeding (fed_in g r) c s y ≡ feed_of h l c₀ s₀ y₀ → is_over r.told ≡ false → k ≡ call_for r.told → length y' ≡ length y
     → outcome (answered g' a) z ≡ called_of g k (id_of r l c) y' → c' ≡ c → LeftByTurn g' c' s piece (feed_of h piece c₀ s₀ y₀)

@@ -1,4 +1,3 @@
 pub mod Putting
 pub mod Joined
-pub mod KeyLaws
 pub mod TextLaws

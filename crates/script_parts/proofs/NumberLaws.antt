@@ -1,18 +1,15 @@
 -- Numbers of two, three and four bytes, of which some may be missing.
-use Prim.Native.Nat.{ℕ, ◌+◌, ◌-◌, ◌*◌, ◌≤◌, ◌<◌}
+use Prim.Native.Nat.{ℕ, ◌+◌, ◌-◌, ◌*◌, ◌<◌}
 use mathlib.Core.Path.{◌≡◌, refl, sym}
 use mathlib.Core.Bool.{Bool, true, false, cond}
 use mathlib.Core.List.{List, [], ◌∷◌}
 use native.Mathlib.Omega.{arith}
-use lib.ListN.{length, get_or, take, drop, get_or-eq_default}
+use lib.ListN.{length, get_or, take, drop}
 use lib.Dec.{leb}
 use borrow.Author.Tests.{leb-false}
 use Rattle.octets.specs.Little.{number}
 use Rattle.octets.specs.Slices.{part_of}
 use Rattle.octets.proofs.Lists.{drop-end, part-rest}
-
-pub past_end : (t : List ℕ) (i : ℕ) → length t ≤ i → 0 ≡ get_or t i 0
-past_end t i h = sym (get_or-eq_default t 0 h)
 
 -- all that is left at a place, past the end too
 pub part-on : (t : List ℕ) (i : ℕ) → part_of t i (length t - i) ≡ drop i t

@@ -41,7 +41,8 @@ values-with : (a : Action) (p q : Place) (n : ℕ) (u v : Place) (text scratch :
 unfolding values_of slots_of
 values-with a p q n u v text scratch e f g h = rw (e, f, g, h, at_none text, at_none scratch)
 
-pub send-values : (id : List ℕ) → values_of (command_with Action.Send (up_to (length id)) (up_to 0) 0 (up_to 0) (up_to 0)) id id ≡ send_values id
+pub send-values : (id : List ℕ)
+    → values_of (command_with Action.Send (up_to (length id)) (up_to 0) 0 (up_to 0) (up_to 0)) id id ≡ send_values id
 send-values id =
     values-with Action.Send (up_to (length id)) (up_to 0) 0 (up_to 0) (up_to 0) id id (at_all id) (at_none id) (at_none id) (at_none id)
 
@@ -64,14 +65,16 @@ module _ (own file : List ℕ) (n : ℕ) (h : length own ≡ 32) (l : length fil
       at_after (ids_of own file) k (omega arith) ∙ ap (λ (b : List ℕ). Value.bytes b) (ids-file own file h l k i)
 
   pub file-values : (name : List ℕ) (size : ℕ)
-      → values_of (command_with Action.File (up_to (min n 32)) (after (length file)) size (up_to (length name)) (up_to 0)) (ids_of own file) name
+      → values_of (command_with Action.File (up_to (min n 32)) (after (length file)) size (up_to (length name)) (up_to 0))
+      (ids_of own file) name
       ≡ file_values (take n own) file name size
   file-values name size =
       values-with Action.File (up_to (min n 32)) (after (length file)) size (up_to (length name)) (up_to 0) (ids_of own file) name
       ids-first (ids-after (length file) (omega arith) ∙ rw take-length) (at_all name) (at_none name)
 
   pub piece-values : (contents : List ℕ) (last : Bool) (m : ℕ) → length file ≡ 32
-      → values_of (command_with (piece_action last) (up_to (min n 32)) (after (min m 32)) 0 (up_to 0) (up_to (length contents))) (ids_of own file)
+      → values_of (command_with (piece_action last) (up_to (min n 32)) (after (min m 32)) 0 (up_to 0) (up_to (length contents)))
+      (ids_of own file)
       contents
       ≡ piece_values (take n own) (take m file) contents last
   piece-values contents last m e =

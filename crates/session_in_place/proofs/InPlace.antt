@@ -197,7 +197,8 @@ module _ (r : Receiver) (piece reply : List ℕ) where
 
     read : length t.sessions ≡ 4 → x.answer.is_read ≡ true → with_step h ≡ scanned_feed t piece k scratch reply
     unfolding heard_in act_of left_by
-    read e q = rw (← said, q) (ap (λ (s : Stepped). given (acted s x.answer.command x.buffer)) (command-steps t x.answer.command text x.buffer e))
+    read e q =
+        rw (← said, q) (ap (λ (s : Stepped). given (acted s x.answer.command x.buffer)) (command-steps t x.answer.command text x.buffer e))
 
   module _ (carry scratch : List ℕ) where
     abbrev k : Outcome Scanned

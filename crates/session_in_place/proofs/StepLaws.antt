@@ -165,7 +165,8 @@ module _ (t : Table) (c : Command) (text scratch : List ℕ) (e : length t.sessi
   receives (Found.At i) q = new-at Kind.Receive i q ∙ go (bad_paths c.size)
     where
       go : (b : Bool)
-          → put t i (cond b (status_in (session_at t i) t.owed asked Status.Einval) (seated i (naming_session asked c.size.magnitude) t.owed Told.Naming))
+          → put t i (cond b (status_in (session_at t i) t.owed asked Status.Einval)
+          (seated i (naming_session asked c.size.magnitude) t.owed Told.Naming))
           ≡ cond b (absent_status t asked Status.Einval) (telling (put_session t i (naming_session asked c.size.magnitude)) Told.Naming)
       go true = rw (set-get_or t.sessions i no_session)
       go false = refl

@@ -1,9 +1,9 @@
 -- Arrays of structs: how many members they have, and what stands at a place.
-use Prim.Native.Nat.{ℕ, zero, suc, ◌≤◌, ◌<◌}
+use Prim.Native.Nat.{ℕ, zero, suc, ◌<◌}
 use mathlib.Core.Path.{◌≡◌, refl, sym, ◌∙◌}
 use mathlib.Core.List.{List, [], ◌∷◌, map}
 use native.Mathlib.Omega.{arith}
-use lib.ListN.{length, get_or, length-map, get_or-eq_default}
+use lib.ListN.{length, get_or, length-map}
 
 -- owning an array of structs tells the length of the list of its members' fields
 pub length_mapped : {X Y : Type 0} (f : X → Y) (l : List X) (n : ℕ) → length (map f l) ≡ n → length l ≡ n
@@ -14,6 +14,3 @@ pub inside : {A : Type 0} (l : List A) (i : ℕ) (d e : A) → i < length l → 
 inside [] i d e h = absurd (omega arith)
 inside (x ∷ l) zero d e h = refl
 inside (x ∷ l) (suc i) d e h = inside l i d e (omega arith)
-
-pub outside : {A : Type 0} (l : List A) (i : ℕ) (d : A) → length l ≤ i → d ≡ get_or l i d
-outside l i d h = sym (get_or-eq_default l d h)

@@ -15,10 +15,6 @@ abbrev pub from : ℕ → Found → Found
 from i Found.Nowhere = Found.Nowhere
 from i (Found.At k) = Found.At (i + k)
 
-from_zero : (f : Found) → f ≡ from 0 f
-from_zero Found.Nowhere = refl
-from_zero (Found.At k) = ap (λ (x : ℕ). Found.At x) (omega arith)
-
 from-later : (i : ℕ) (f : Found) → from i (later f) ≡ from (suc i) f
 from-later i Found.Nowhere = refl
 from-later i (Found.At k) = ap (λ (x : ℕ). Found.At x) (omega arith)
@@ -28,9 +24,6 @@ abbrev pub Searching : {A : Type 0} → (A → Bool) → List A → ℕ → ℕ 
 Searching p l n i = (i ≤ n) × (length l ≡ n) × (first p l ≡ from i (first p (drop i l)))
 
 module _ {A : Type 0} (p : A → Bool) (l : List A) (n : ℕ) where
-  pub begun : length l ≡ n → Searching p l n 0
-  begun e = (omega arith, e, from_zero (first p l))
-
   pub none : (i : ℕ) → Searching p l n i → n ≤ i → Found.Nowhere ≡ first p l
   unfolding first
   none i s h =

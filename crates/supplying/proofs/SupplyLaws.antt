@@ -4,8 +4,8 @@ use mathlib.Core.Path.{◌≡◌, refl}
 use mathlib.Core.Bool.{Bool, true, false, cond, ◌||◌}
 use mathlib.Core.List.{List}
 use native.Mathlib.Omega.{arith}
-use lib.ListN.{length, set, replicate, length-replicate, get_or-eq_default}
-use lib.Seq.{set_out, set-get_or}
+use lib.ListN.{length, set, replicate, length-replicate}
+use lib.Seq.{set-get_or}
 use lib.Dec.{ltb}
 use Rattle.octets.specs.Outcome.{Outcome, outcome}
 use Rattle.command.specs.Write.{Answer}
@@ -13,28 +13,20 @@ use Rattle.command.specs.Framed.{frame_room, framed_of}
 use Rattle.protocol.specs.Table.{no_session, session_at, find_session}
 use Rattle.protocol.specs.Change.{stepped}
 use Rattle.protocol.specs.Calls.{answered_by}
-use Rattle.protocol.specs.Replies.{no_reply, failure_status, is_held}
+use Rattle.protocol.specs.Replies.{no_reply}
 use Rattle.protocol.specs.Supplies.{Supply, values_for, is_over, is_listing, listing_at, turn_of, passes_home, framed_for, is_held_back}
 use Rattle.protocol.specs.Supplies.{refused_with, wrote_at, supplied_at, supply_of}
 use Rattle.protocol.specs.declared.Session.{Session}
 use Rattle.protocol.specs.declared.Table.{Table}
 use Rattle.protocol.specs.declared.Receiver.{Receiver}
 use Rattle.protocol.specs.declared.Status.TheVariants as Status
-use Rattle.protocol.specs.declared.Failure.{Failure}
 use Rattle.protocol.specs.declared.Answered.{Answered}
 use Rattle.protocol.specs.declared.Found.{Found}
 use Rattle.protocol.proofs.Frames.{refused-same-buffer, written_same}
-use Rattle.supplying.specs.Supplied.{supply_in, leaves, unsupplied, taken_in, found_in, supplied_in}
+use Rattle.supplying.specs.Supplied.{supply_in, unsupplied, taken_in, found_in, supplied_in}
 use Rattle.supplying.specs.Turns.{is_part, concerned, seat_of, in_turn}
 use Rattle.supplying.specs.declared.Supplying.{Supplying}
 use Rattle.supplying.specs.declared.Supplied.{Supplied}
-
--- quiet holds a failure's status back as any other's
-pub held-alike : (e : Failure) (quiet : ℕ) → is_held Status.Eio quiet ≡ is_held (failure_status e) quiet
-held-alike Failure.Eperm quiet = refl
-held-alike Failure.Eio quiet = refl
-held-alike Failure.Enoent quiet = refl
-held-alike Failure.Enospc quiet = refl
 
 -- ---- the writer
 framed-same : (s : Session) (u : Supply) (out out' : List ℕ) → frame_room ≤ length out → frame_room ≤ length out'
@@ -69,10 +61,6 @@ put_back r i x =
     let a = x.answer in
     outcome (answered_by r.framing
     (stepped (record { sessions = set r.table.sessions i a.session; owed = a.owed }) a.told no_reply) a.written) x.buffer
-
--- with another session, whatever the call makes of its own
-abbrev pub beside : Session → Outcome Supplied → Outcome Supplied
-beside s x = let a = x.answer in outcome (leaves s a.owed a.told a.written) x.buffer
 
 -- a session's place; where none is found, any
 pub data Sits : Found → ℕ → Type 0 where
@@ -125,18 +113,6 @@ module _ (r : Receiver) (u : Supply) (out : List ℕ) where
       go true e c o = rw e (refuses k 9)
       go false e true o = rw (e, o) (refuses k 17)
       go false e false o = rw (e, o) (found h)
-
-  -- where its place lies outside the table, it is free room, and the session that stands at any place is put back as it was
-  pub put-beside : (i k : ℕ) → turn_of t u ≡ Found.At i → length t.sessions ≤ i
-      → put_back r k (beside (session_at t k) (supplied_in u (Found.At i) no_session t.owed out)) ≡ supply_of r u out
-  put-beside i k e past =
-      rw (
-        set-get_or t.sessions k no_session,
-        ← put-back i (rw e (Sits.there i)),
-        e,
-        get_or-eq_default t.sessions no_session past,
-        set_out t.sessions i _ past,
-      )
 
 -- ---- in turn
 listing : (t : Table) {f : Found} {k : ℕ} → Sits f k → cond (is_listing (session_at t k).state) f Found.Nowhere ≡ listing_at t f

@@ -47,7 +47,8 @@ pub part-values : (own file : List ℕ) (n m : ℕ) (contents : List ℕ) (last 
     (ids_of own file) contents
     ≡ piece_values (take n own) (take m file) contents last
 part-values own file n m contents last h l =
-    values-with (piece_action last) (up_to (min n 32)) (from 32 (min m 32)) nowhere nowhere (up_to (length contents)) (ids_of own file) contents
+    values-with (piece_action last) (up_to (min n 32)) (from 32 (min m 32)) nowhere nowhere (up_to (length contents)) (ids_of own file)
+    contents
     (at_first 64 32 own file (omega arith) (omega arith) (min n 32) (omega arith) ∙ rw (take-least own n h))
     (at_second 64 32 own file (omega arith) (omega arith) (min m 32) (omega arith) ∙ rw (take-least file m l))
     (at_none contents) (at_none contents) (at_all contents)

@@ -1,6 +1,6 @@
 -- Contents gathered: what is left to join, and that it fits.
 use Prim.Native.Nat.{ℕ, ◌+◌, ◌-◌, ◌≤◌, ◌<◌}
-use mathlib.Core.Path.{◌≡◌, refl, ap, ◌∙◌}
+use mathlib.Core.Path.{◌≡◌, ap, ◌∙◌}
 use mathlib.Core.Bool.{Bool, true, false, cond}
 use mathlib.Core.List.{List, [], ◌++◌}
 use native.Mathlib.Omega.{arith}
@@ -44,9 +44,6 @@ module _ (s : Side) (k : Key) where
       pub apart : Apart n (length s.parts) (drop at s.numbers)
       pub counted : n + length (ahead at) ≡ length (ahead from)
       pub stored : sets into n (ahead at) ≡ sets into₀ 0 (ahead from)
-
-    pub gather-starts : from ≤ length s.numbers → Apart 0 (length s.parts) (drop from s.numbers) → Gathering from 0 into₀
-    gather-starts h a = record { within = h; size = refl; apart = a; counted = omega arith; stored = refl }
 
     module _ (at n : ℕ) (into : List ℕ) (g : Gathering at n into) where
       -- nothing is left to join

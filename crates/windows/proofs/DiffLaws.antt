@@ -16,12 +16,6 @@ later_by n Verdict.only_second = Verdict.only_second
 later_by n Verdict.same = Verdict.same
 later_by n (Verdict.different m) = Verdict.different (n + m)
 
-later-none : (v : Verdict) → later_by 0 v ≡ v
-later-none Verdict.only_first = refl
-later-none Verdict.only_second = refl
-later-none Verdict.same = refl
-later-none (Verdict.different m) = let e : 0 + m ≡ m = omega arith in rw e
-
 later-one : (n : ℕ) (v : Verdict) → later_by n (later v) ≡ later_by (n + 1) v
 later-one n Verdict.only_first = refl
 later-one n Verdict.only_second = refl
@@ -32,9 +26,6 @@ module _ (a b : List ℕ) where
   -- what is left from an offset on says what the whole does
   abbrev pub Ahead : ℕ → Type 0
   Ahead i = later_by i (first_diff (drop i a) (drop i b)) ≡ first_diff a b
-
-  pub diff-starts : Ahead 0
-  diff-starts = later-none (first_diff a b)
 
   module _ (i : ℕ) (e : Ahead i) where
     pub diff-past : i < length a → i < length b → get_or a i 0 ≡ get_or b i 0 → Ahead (i + 1)

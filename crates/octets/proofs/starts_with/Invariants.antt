@@ -8,7 +8,9 @@ use Rattle.octets.proofs.Compare.{starts-short, starts-at, starts-end}
 use Rattle.octets.proofs.starts_with.Given as goal
 
 abbrev pub invariant-loop-i : goal.invariant-loop-i
-invariant-loop-i l = (l.i ≤ length l.prefix) × (length l.prefix ≤ length l.s) × (starts_with (drop l.i l.s) (drop l.i l.prefix) ≡ starts_with l.s l.prefix)
+invariant-loop-i l =
+    (l.i ≤ length l.prefix) × (length l.prefix ≤ length l.s)
+    × (starts_with (drop l.i l.s) (drop l.i l.prefix) ≡ starts_with l.s l.prefix)
 
 abbrev pub decreases-loop-i : goal.decreases-loop-i
 decreases-loop-i l = length l.prefix - l.i

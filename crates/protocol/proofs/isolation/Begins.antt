@@ -97,7 +97,8 @@ module _ (t : Table) (s : Session) (n : Number) where
 -- nothing, or a session with the id; something plain is told
 pub data Makes (s : Session) : Made → Type 0 where
   none : (w : Told) (r : Reply) → is_plain w ≡ true → Makes s (made Option.none w r)
-  some : (x : Session) (w : Told) → session_used x ≡ true → id_of x ≡ id_of s → is_plain w ≡ true → Makes s (made (Option.some x) w no_reply)
+  some : (x : Session) (w : Told) → session_used x ≡ true → id_of x ≡ id_of s → is_plain w ≡ true
+      → Makes s (made (Option.some x) w no_reply)
 
 pub makes-is : (s : Session) → session_used s ≡ true → (n : Number) (k : Kind) → Makes s (makes s n k)
 makes-is s u n Kind.Ignore = none Told.Ignored no_reply refl

@@ -180,7 +180,8 @@ module _ (A : List ℕ) {t : Table} (ok : Sound t) where
     pub failed-effect : (code : Failure) → Effect A t (is_asker A q) (Act.failed code) (settle_failed t code)
     unfolding settle_failed
     failed-effect code =
-        answered-effect (failed_by code) (failed-told code) (λ s d. failed-steps code d) (λ s d z. failed-names z code d) q (Act.failed code)
+        answered-effect (failed_by code) (failed-told code) (λ s d. failed-steps code d) (λ s d z. failed-names z code d) q
+        (Act.failed code)
         (λ v. refl) asked
 
     pub unlisted-effect : Effect A t (is_asker A q) Act.unlisted (settle_unlisted t)

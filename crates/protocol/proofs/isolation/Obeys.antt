@@ -142,7 +142,8 @@ module _ (A : List ℕ) {t : Table} (ok : Sound t) (free : t.owed ≡ Owed.Nothi
   full-own e Action.Cancel w f n = passing e w refl
   full-own e Action.Status w f n = passing e w refl
 
-  absent-own : find_session t A ≡ Found.Nowhere → id_of new ≡ A → (begins (Act.command d) ≡ true → is_at (first is_absent t.sessions) ≡ true)
+  absent-own : find_session t A ≡ Found.Nowhere → id_of new ≡ A
+      → (begins (Act.command d) ≡ true → is_at (first is_absent t.sessions) ≡ true)
       → Sound (absent_result t new c.size (kind_of SessionState.Absent c.action)).table
       → Obeyed (absent_result t new c.size (kind_of SessionState.Absent c.action))
   absent-own e is met sound = go (first is_absent t.sessions) refl
