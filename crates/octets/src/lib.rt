@@ -13,13 +13,6 @@ ghost use Rattle.octets.specs.Search.{index_of};
 ghost use Rattle.octets.specs.Outcome.{outcome};
 ghost use Rattle.octets.specs.Slices.{equals, starts_with, part_of, copy_at};
 
-// What storing bytes at a place answers: where they end, or that they do not fit.
-#[derive(Clone, Copy)]
-pub enum Stored {
-    End(usize),
-    NoRoom,
-}
-
 // Whether a and b agree in length and in every byte.
 pub fn equal(a: &[u8], b: &[u8]) -> bool
     ensures { result ≡ equals a.now b.now }
@@ -87,14 +80,14 @@ pub fn fits(at: usize, n: usize, len: usize) -> bool
     true
 }
 
-// Copies src into dst from place `at` on. Where it does not fit, dst is as before.
-pub fn copy_at(src: &[u8], dst: &mut [u8], at: usize) -> Stored
+// Copies src into dst from place `at` on, and answers where it ends. Where it does not fit, dst is as before.
+pub fn copy_at(src: &[u8], dst: &mut [u8], at: usize) -> Option<usize>
     ensures { outcome result dst.new ≡ copy_at src.now dst.old at }
 {
     if !fits(at, src.len(), dst.len()) {
-        return Stored::NoRoom;
+        return None;
     }
     let end = at + src.len();
     dst[at..end].copy_from_slice(src);
-    Stored::End(end)
+    Some(end)
 }

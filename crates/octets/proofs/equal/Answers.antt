@@ -1,7 +1,6 @@
 use mathlib.Core.Path.{sym, ◌∙◌}
 use native.Mathlib.Omega.{arith}
 use Rattle.octets.proofs.Compare.{equals_lengths, equals-starts}
-use borrow.Author.Rules.{rules}
 use Rattle.octets.proofs.equal.Goals as goal
 
 pub returns-then-a-b : goal.returns-then-a-b

@@ -1,9 +1,4 @@
-use Prim.Native.Nat.{◌-◌}
-use mathlib.Core.Bool.{false, cond}
-use mathlib.Core.Path.{◌≡◌, refl, sym, ◌∙◌}
-use lib.ListN.{length, drop}
-use borrow.Author.Rules.{rules}
-use Rattle.octets.specs.Slices.{lacks}
+use mathlib.Core.Path.{sym, ◌∙◌}
 use Rattle.octets.proofs.Passes.{clear-turn, clear-end}
 use Rattle.octets.proofs.blocks.clear.Goals as goal
 

@@ -1,10 +1,8 @@
 use Prim.Native.Nat.{◌-◌}
 use mathlib.Core.Bool.{false, cond}
-use mathlib.Core.Path.{◌≡◌, refl, sym, ◌∙◌}
+use mathlib.Core.Path.{◌≡◌}
 use lib.ListN.{length, drop}
-use borrow.Author.Rules.{rules}
 use Rattle.octets.specs.Slices.{lacks}
-use Rattle.octets.proofs.Passes.{clear-turn, clear-end}
 use Rattle.octets.proofs.blocks.clear.Given as goal
 
 abbrev pub invariant-loop-k : goal.invariant-loop-k

@@ -1,11 +1,7 @@
 use Prim.Native.Nat.{◌+◌, ◌-◌, ◌≤◌}
-use mathlib.Core.Path.{◌≡◌, refl, sym, ◌∙◌}
-use native.Mathlib.Omega.{arith}
+use mathlib.Core.Path.{◌≡◌}
 use lib.ListN.{length, drop}
-use borrow.Author.Tests.{not-false}
-use borrow.Author.Rules.{rules}
 use Rattle.octets.specs.Search.{index_of}
-use Rattle.octets.proofs.Passes.{block-past}
 use Rattle.octets.proofs.blocks.pass.Given as goal
 
 abbrev pub invariant-loop-i : goal.invariant-loop-i
