@@ -1,5 +1,5 @@
 -- Reading a text into slots and the scratch: what `read` answers, and the scratch afterwards.
-use Rattle.std.specs.Prelude.{ℕ, ◌+◌, ◌≤◌, ◌≡◌, true, cond, ◌||◌, List, [], ◌∷◌, length, get_or, set, ltb, eqb}
+use Rattle.std.specs.Prelude.{ℕ, Result, Ok, Err, ◌+◌, ◌≤◌, ◌≡◌, true, cond, ◌||◌, List, [], ◌∷◌, length, get_or, set, ltb, eqb}
 use Rattle.std.proofs.lemmas.List.Edits.{sets}
 use Rattle.octets.specs.Outcome.{Outcome, outcome}
 use Rattle.command.specs.Keys.{Kind, Key, keys, kind_at}
@@ -11,7 +11,7 @@ use Rattle.command.specs.Slots.{action_code, free, command_of, values_of}
 use Rattle.command.specs.declared.Place.{Place}
 use Rattle.command.specs.declared.Slot.{Slot}
 use Rattle.command.specs.declared.Command.{Command}
-use Rattle.command.specs.declared.Reading.{Reading}
+use Rattle.command.specs.declared.Refusal.{Refusal}
 
 -- the slots so far, the scratch, and how many of its bytes are used
 pub record Reader : Type 0 where
@@ -83,9 +83,9 @@ read_of t scratch =
     cond (ltb (length scratch) scratch_room) (outcome (Answer.refused 9) scratch) (finished (text_read kept t (begun scratch)))
 
 -- the code's answer, its refusal by document 01's number
-abbrev pub answered : Reading → Answer
-answered (Reading.Read c) = Answer.read c
-answered (Reading.Refused r) = Answer.refused (refusal_number r)
+abbrev pub answered : Result Command Refusal → Answer
+answered (Ok c) = Answer.read c
+answered (Err r) = Answer.refused (refusal_number r)
 
 -- what an answer means, given the text and the scratch afterwards: places apart
 abbrev pub meaning_in : List ℕ → Outcome Answer → Meaning

@@ -176,20 +176,6 @@ impl Refusal {
     }
 }
 
-// What reading a text answers.
-#[derive(Clone, Copy)]
-pub enum Reading {
-    Read(Command),
-    Refused(Refusal),
-}
-
-// What writing a command answers: the length of its text.
-#[derive(Clone, Copy)]
-pub enum Written {
-    Length(usize),
-    Refused(Refusal),
-}
-
 // One field of a command, whichever its key: whether it has stood, a word's code or an integer,
 // and a string's place. What a key's kind does not use is zero.
 #[derive(Clone, Copy)]

@@ -12,7 +12,7 @@ use crate::values;
 use crate::values::Kept;
 use command::keys::{COUNT, number_of};
 use command::letters::Class;
-use command::{Place, Reading, Refusal, Slot, ZERO, letters};
+use command::{Command, Place, Refusal, Slot, ZERO, letters};
 
 // What a field names: nothing, where no key stands before a `=`; an unknown key, and where the field ends;
 // or the number of a key, where its value starts, and where it ends.
@@ -25,7 +25,7 @@ pub enum Named {
 
 // Reads the fields of a text that starts `5113;`, and puts the command together. The slots and how many
 // bytes of the scratch are used stay here: to hand them on would copy them.
-pub(crate) fn read_fields(text: &[u8], scratch: &mut [u8]) -> Reading
+pub(crate) fn read_fields(text: &[u8], scratch: &mut [u8]) -> Result<Command, Refusal>
     requires { (5 ≤ length text.now) × (length text.now ≤ text_limit) × (scratch_room ≤ length scratch.old) }
     ensures { outcome (answered result) scratch.new
         ≡ finished (fields_read kept 5 (split 59 (drop 5 text.now)) (begun scratch.old)) }
@@ -35,14 +35,14 @@ pub(crate) fn read_fields(text: &[u8], scratch: &mut [u8]) -> Reading
     let mut at = 5;
     while at <= text.len() {
         match next_field(text, at) {
-            Named::Bad => return Reading::Refused(Refusal::BadField),
+            Named::Bad => return Err(Refusal::BadField),
             Named::Unknown(end) => {
                 at = end + 1;
             }
             Named::Key(n, from, end) => {
                 let slot = slots[n];
                 if slot.stood {
-                    return Reading::Refused(Refusal::Repeated);
+                    return Err(Refusal::Repeated);
                 }
                 match values::keep(n, from, &text[from..end], scratch, used) {
                     Kept::Slot(filled, stored) => {
@@ -50,7 +50,7 @@ pub(crate) fn read_fields(text: &[u8], scratch: &mut [u8]) -> Reading
                         used += stored;
                         at = end + 1;
                     }
-                    Kept::Refused(r) => return Reading::Refused(r),
+                    Kept::Refused(r) => return Err(r),
                 }
             }
         }

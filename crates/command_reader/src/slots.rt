@@ -3,20 +3,20 @@ ghost use Rattle.std.specs.Prelude.{◌≡◌};
 ghost use Rattle.command.specs.Read as Read;
 ghost use Rattle.command.specs.Slots.{action_of, file_type_of, transmission_of, command_of};
 
-use command::{Action, Command, FileType, Place, Reading, Refusal, Slot, Transmission, lacks};
+use command::{Action, Command, FileType, Place, Refusal, Slot, Transmission, lacks};
 use decimal::Number;
 
 // The command of the slots, if it has an action and an id.
-pub(crate) fn complete(slots: [Slot; 15]) -> Reading
+pub(crate) fn complete(slots: [Slot; 15]) -> Result<Command, Refusal>
     ensures { Read.answered result ≡ Read.complete (command_of slots) }
 {
     let command = command_of(slots);
     let action = command.action;
     let id = command.id;
     if lacks(action, id) {
-        return Reading::Refused(Refusal::Missing);
+        return Err(Refusal::Missing);
     }
-    Reading::Read(command)
+    Ok(command)
 }
 
 fn command_of(slots: [Slot; 15]) -> Command

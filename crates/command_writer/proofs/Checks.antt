@@ -3,11 +3,11 @@ use Prim.Native.Nat.{ℕ}
 use mathlib.Core.Path.{◌≡◌, refl}
 use mathlib.Core.List.{List}
 use native.Mathlib.Omega.{arith}
+use Rattle.std.specs.Prelude.{Ok, Err}
 use Rattle.command.specs.Values.{Shown}
 use Rattle.command.specs.Refusals.{refusal_number}
 use Rattle.command.specs.Write.{Checked, before}
 use Rattle.command.specs.declared.Refusal.{Refusal}
-use Rattle.command.specs.declared.Written.TheVariants as Written
 use Rattle.command_writer.specs.Stores.{Put, PutOr}
 
 -- a check after another
@@ -25,12 +25,12 @@ both-fine Checked.fine c e = (refl, e)
 both-fine (Checked.fault n) c e = let z : ◌≡◌ {A = ℕ} 0 1 = cc in absurd (omega arith)
 
 -- an end is answered exactly where nothing is at fault
-pub put-fine : (c : Checked) (t out after : List ℕ) (at end : ℕ) → PutOr c t out at (Written.Length end) after
+pub put-fine : (c : Checked) (t out after : List ℕ) (at end : ℕ) → PutOr c t out at (Ok end) after
     → (c ≡ Checked.fine) × Put t out at end after
 put-fine Checked.fine t out after at end (e, q, p) = let i : end ≡ e = cc in (refl, rw i p)
 put-fine (Checked.fault n) t out after at end q = let z : ◌≡◌ {A = ℕ} 0 1 = cc in absurd (omega arith)
 
-pub put-fault : (c : Checked) (t out after : List ℕ) (at : ℕ) (r : Refusal) → PutOr c t out at (Written.Refused r) after
+pub put-fault : (c : Checked) (t out after : List ℕ) (at : ℕ) (r : Refusal) → PutOr c t out at (Err r) after
     → c ≡ Checked.fault (refusal_number r)
 put-fault Checked.fine t out after at r (e, q, p) = let z : ◌≡◌ {A = ℕ} 0 1 = cc in absurd (omega arith)
 put-fault (Checked.fault n) t out after at r q = cc

@@ -8,12 +8,12 @@ use lib.ListN.{length, length-append}
 use lib.Seq.{sets, length-sets}
 use lib.Dec.{leb, eqb}
 use borrow.Author.Tests.{le-leb, leb-false}
+use Rattle.std.specs.Prelude.{Result, Ok, Err}
 use Rattle.octets.specs.Outcome.{outcome, stored_at}
 use Rattle.octets.proofs.Stores.{sets-append}
 use Rattle.command.specs.Values.{Shown, unshown, integer_shown}
 use Rattle.command.specs.Write.{Checked, before}
-use Rattle.command.specs.declared.Written.{Written}
-use Rattle.command.specs.declared.Refusal.TheVariants as Refusal
+use Rattle.command.specs.declared.Refusal.{Refusal}
 use Rattle.decimal.specs.Write.{text_of, negative_zero, out_of_range, write_of}
 use Rattle.decimal.specs.declared.Number.{Number}
 use Rattle.decimal.specs.declared.Written as Decimal
@@ -44,11 +44,11 @@ put_then {x} {y} {l} {m} {n} {o} {p} {q} f g =
 
 -- ---- a number
 -- what is answered: its end, as it was stored or else as it was counted, or that it is no integer of ours
-abbrev pub number_told : Decimal.Written → ℕ → Written
-number_told (DecimalWritten.End at) end = Written.Length at
-number_told DecimalWritten.NegativeZero end = Written.Refused Refusal.MalformedInteger
-number_told DecimalWritten.OutOfRange end = Written.Refused Refusal.OutOfRange
-number_told DecimalWritten.NoRoom end = Written.Length end
+abbrev pub number_told : Decimal.Written → ℕ → Result ℕ Refusal
+number_told (DecimalWritten.End at) end = Ok at
+number_told DecimalWritten.NegativeZero end = Err Refusal.MalformedInteger
+number_told DecimalWritten.OutOfRange end = Err Refusal.OutOfRange
+number_told DecimalWritten.NoRoom end = Ok end
 
 pub put-number : (n : Number) (out after : List ℕ) (at end : ℕ) (w : Decimal.Written) → outcome w after ≡ write_of n out at
     → spare end ≡ spare (at + length (text_of n))

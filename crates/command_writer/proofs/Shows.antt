@@ -8,6 +8,7 @@ use lib.ListN.{length, get_or, take, drop, length-take, length-drop}
 use lib.Seq.{append_snoc}
 use lib.Dec.{leb, eqb}
 use borrow.Author.Tests.{lt-ltb, eqb-true, leb-true}
+use Rattle.std.specs.Prelude.{Result}
 use Rattle.octets.specs.Members.{every}
 use Rattle.octets.specs.Slices.{part_of}
 use Rattle.base64_codec.specs.Encode as Base64
@@ -20,7 +21,7 @@ use Rattle.command.specs.Values.{Value, Shown, text_or, integer_shown, base64_sh
 use Rattle.command.specs.Slots.{bytes_at}
 use Rattle.command.specs.Write.{Checked, before}
 use Rattle.command.specs.declared.Place.{Place}
-use Rattle.command.specs.declared.Written.{Written}
+use Rattle.command.specs.declared.Refusal.{Refusal}
 use Rattle.command.proofs.Cases.{by_test}
 use Rattle.command_writer.specs.Stores.{Put, PutOr}
 use Rattle.command_writer.specs.Pieces.{FieldPut}
@@ -71,7 +72,7 @@ base64-some l p b h n =
     (text-some (Base64.text_of t) (λ e. n (omega (arith, length-text t, size))))
 
 -- ---- an integer that is not 0, put or refused
-pub integer_put : (name : List ℕ) (n : Number) {l m : List ℕ} {o p : ℕ} (after : List ℕ) (r : Written) → 0 < n.magnitude
+pub integer_put : (name : List ℕ) (n : Number) {l m : List ℕ} {o p : ℕ} (after : List ℕ) (r : Result ℕ Refusal) → 0 < n.magnitude
     → Put (59 ∷ name ++ 61 ∷ []) l o p m → PutOr (before (integer_shown n) Checked.fine) (text_of n) m p r after
     → FieldPut name (integer_shown n) l o r after
 unfolding integer_shown

@@ -8,6 +8,7 @@ use native.Mathlib.Decide.{dec_lt}
 use lib.ListN.{length, get_or, drop, length-take, length-drop}
 use lib.Dec.{ltb, leb, eqb}
 use borrow.Author.Tests.{lt-ltb, ltb-false, leb-true}
+use Rattle.std.specs.Prelude.{Result}
 use Rattle.octets.specs.Outcome.{outcome}
 use Rattle.decimal.specs.declared.Number.{Number}
 use Rattle.frames.specs.Stream.{text_limit}
@@ -20,7 +21,6 @@ use Rattle.command.specs.Write.{Checked, Answer, answered, before, checked_of, w
 use Rattle.command.specs.declared.Command.{Command}
 use Rattle.command.specs.declared.Place.{Place}
 use Rattle.command.specs.declared.Refusal.{Refusal}
-use Rattle.command.specs.declared.Written.{Written}
 use Rattle.command.proofs.Cases.{by_test, either_false}
 use Rattle.command_writer.specs.Stores.{spare, PutOr}
 use Rattle.command_writer.specs.Pieces.{whole}
@@ -93,7 +93,7 @@ module _ (c : Command) (text scratch out : List ℕ) where
       unfolding write_of
       refused-room o = rw (fine, missing-is, there, short-is, o)
 
-      pub written : short ≡ false → (r : Written) (after : List ℕ) → PutOr Checked.fine (whole vs) out 0 r after
+      pub written : short ≡ false → (r : Result ℕ Refusal) (after : List ℕ) → PutOr Checked.fine (whole vs) out 0 r after
           → outcome (answered r) after ≡ write_of vs out
       unfolding write_of
       written o r after (end, q, p) =

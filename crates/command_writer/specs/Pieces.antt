@@ -1,10 +1,10 @@
 -- The text of a command as it is put: `5113`, and `;key=value` for each field.
-use Rattle.std.specs.Prelude.{ℕ, List, [], ◌∷◌, ◌++◌}
+use Rattle.std.specs.Prelude.{ℕ, Result, List, [], ◌∷◌, ◌++◌}
 use Rattle.octets.specs.Ascii.{ascii}
 use Rattle.command.specs.Keys.{Key, keys}
 use Rattle.command.specs.Values.{Value, Shown, shown}
 use Rattle.command.specs.Write.{Checked, before}
-use Rattle.command.specs.declared.Written.{Written}
+use Rattle.command.specs.declared.Refusal.{Refusal}
 use Rattle.command_writer.specs.Stores.{PutOr}
 
 -- `;key=value`, and nothing for a value that is left out
@@ -23,5 +23,5 @@ abbrev pub whole : List Value → List ℕ
 whole c = ascii "5113" ++ pieces keys c
 
 -- a field put at a place, or its value refused
-abbrev pub FieldPut : List ℕ → Shown → List ℕ → ℕ → Written → List ℕ → Type 0
+abbrev pub FieldPut : List ℕ → Shown → List ℕ → ℕ → Result ℕ Refusal → List ℕ → Type 0
 FieldPut name s out at r after = PutOr (before s Checked.fine) (piece name s) out at r after

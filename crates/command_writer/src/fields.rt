@@ -11,7 +11,7 @@ use crate::slots::slots;
 use crate::store::put;
 use crate::values::{base64, integer, safe, word};
 use command::keys::{COUNT, Kind, row_at};
-use command::{Command, Slot, Written};
+use command::{Command, Refusal, Slot};
 
 // Puts `5113` and then the fields of a command, up to the first that is refused.
 pub(crate) fn put_fields<'a>(
@@ -19,7 +19,7 @@ pub(crate) fn put_fields<'a>(
     text: &'a [u8],
     scratch: &'a [u8],
     out: &mut [u8],
-) -> Written
+) -> Result<usize, Refusal>
     ensures { PutOr (checked_of keys (values_of command text.now scratch.now))
         (whole (values_of command text.now scratch.now)) out.old 0 result out.new }
 {
@@ -28,16 +28,16 @@ pub(crate) fn put_fields<'a>(
     let mut k = 0;
     while k < COUNT {
         match put_field(k, slots[k], text, scratch, out, at) {
-            Written::Length(end) => {
+            Ok(end) => {
                 at = end;
             }
-            Written::Refused(refusal) => {
-                return Written::Refused(refusal);
+            Err(refusal) => {
+                return Err(refusal);
             }
         }
         k += 1;
     }
-    Written::Length(at)
+    Ok(at)
 }
 
 // Puts the field of the key with number k.
@@ -48,7 +48,7 @@ fn put_field<'a>(
     scratch: &'a [u8],
     out: &mut [u8],
     at: usize,
-) -> Written
+) -> Result<usize, Refusal>
     ensures { FieldPut (key_at keys k).name
         (shown (kind_at keys k) (value_at (kind_at keys k) slot text.now scratch.now))
         out.old at result out.new }

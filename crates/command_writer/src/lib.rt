@@ -20,21 +20,26 @@ ghost use Rattle.command.specs.RoundTrips.{WrittenThenRead, WritesCanonical};
 ghost use Rattle.command_writer.specs.Pieces.{whole};
 ghost use Rattle.command_writer.specs.Stores.{spare};
 
-use command::{Command, Refusal, Written, lacks};
+use command::{Command, Refusal, lacks};
 use frames::Framing;
 
 // Stores the canonical text of a command, whose places lie in text and scratch, at the start of out.
 // A refusal leaves out as before. What is written is exactly the canonical texts, and a command that is
 // written and read again is the same command.
-pub fn write<'a>(command: Command, text: &'a [u8], scratch: &'a [u8], out: &mut [u8]) -> Written
+pub fn write<'a>(
+    command: Command,
+    text: &'a [u8],
+    scratch: &'a [u8],
+    out: &mut [u8],
+) -> Result<usize, Refusal>
     ensures out_after { outcome (answered result) out.new
         ≡ write_of (values_of command text.now scratch.now) out.old }
     ensures written_then_read { WrittenThenRead × WritesCanonical }
 {
     let mut empty = [0u8; 0];
     match fields::put_fields(command, text, scratch, &mut empty) {
-        Written::Length(n) => write_measured(command, text, scratch, out, n),
-        Written::Refused(refusal) => Written::Refused(refusal),
+        Ok(n) => write_measured(command, text, scratch, out, n),
+        Err(refusal) => Err(refusal),
     }
 }
 
@@ -45,7 +50,7 @@ fn write_measured<'a>(
     scratch: &'a [u8],
     out: &mut [u8],
     n: usize,
-) -> Written
+) -> Result<usize, Refusal>
     requires { (checked_of keys (values_of command text.now scratch.now) ≡ Checked.fine)
         × (spare n ≡ spare (length (whole (values_of command text.now scratch.now)))) }
     ensures { outcome (answered result) out.new
@@ -56,10 +61,10 @@ fn write_measured<'a>(
     let missing = lacks(action, id);
     let short = no_room(n, out.len());
     if missing {
-        return Written::Refused(Refusal::Missing);
+        return Err(Refusal::Missing);
     }
     if short {
-        return Written::Refused(Refusal::ShortBuffer);
+        return Err(Refusal::ShortBuffer);
     }
     fields::put_fields(command, text, scratch, out)
 }

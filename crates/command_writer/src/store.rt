@@ -7,7 +7,7 @@ ghost use Rattle.command.specs.Values.{integer_shown};
 ghost use Rattle.command.specs.Write.{Checked, before};
 ghost use Rattle.command_writer.specs.Stores.{spare, Put, PutOr};
 
-use command::{Refusal, Written};
+use command::Refusal;
 use decimal::Number;
 use frames::Framing;
 
@@ -50,14 +50,14 @@ pub(crate) fn put_base64(bytes: &[u8], out: &mut [u8], at: usize) -> usize
 }
 
 // Puts the text of a number. A negative zero, or a number past signed 64 bits, is refused.
-pub(crate) fn put_number(n: Number, out: &mut [u8], at: usize) -> Written
+pub(crate) fn put_number(n: Number, out: &mut [u8], at: usize) -> Result<usize, Refusal>
     ensures { PutOr (before (integer_shown n) Checked.fine) (Decimal.text_of n)
         out.old at result out.new }
 {
     match decimal::write(n, out, at) {
-        decimal::Written::End(end) => Written::Length(end),
-        decimal::Written::NegativeZero => Written::Refused(Refusal::MalformedInteger),
-        decimal::Written::OutOfRange => Written::Refused(Refusal::OutOfRange),
-        decimal::Written::NoRoom => Written::Length(end_of(at, decimal::text_length(n))),
+        decimal::Written::End(end) => Ok(end),
+        decimal::Written::NegativeZero => Err(Refusal::MalformedInteger),
+        decimal::Written::OutOfRange => Err(Refusal::OutOfRange),
+        decimal::Written::NoRoom => Ok(end_of(at, decimal::text_length(n))),
     }
 }

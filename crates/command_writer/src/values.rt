@@ -10,7 +10,7 @@ use crate::store::{put, put_base64, put_key, put_number};
 use command::keys::WORDS;
 use command::letters::Class;
 use command::words::part;
-use command::{Place, Refusal, Written, letters};
+use command::{Place, Refusal, letters};
 use decimal::Number;
 
 // The word of a code, which else is refused as unknown. The words are those of key k, and `first` is the
@@ -24,28 +24,28 @@ pub(crate) fn word(
     n: Number,
     out: &mut [u8],
     at: usize,
-) -> Written
+) -> Result<usize, Refusal>
     requires { (first ≤ 1) × (length (words_of (kind_at keys k)) ≡ count) }
     ensures { FieldPut name.now (word_shown unknown first (words_of (kind_at keys k)) n)
         out.old at result out.new }
 {
     if n.negative {
-        return Written::Refused(unknown);
+        return Err(unknown);
     }
     if n.magnitude == 0 {
-        return Written::Length(at);
+        return Ok(at);
     }
     let i = n.magnitude - first;
     if i >= count {
-        return Written::Refused(unknown);
+        return Err(unknown);
     }
     let value = put_key(name, out, at);
-    Written::Length(put(part(part(&WORDS, b';', k), b' ', i as usize), out, value))
+    Ok(put(part(part(&WORDS, b';', k), b' ', i as usize), out, value))
 }
 
 // An integer.
 #[tactic(auto, using(crate::proofs::Shows::integer_put))]
-pub(crate) fn integer(name: &[u8], n: Number, out: &mut [u8], at: usize) -> Written
+pub(crate) fn integer(name: &[u8], n: Number, out: &mut [u8], at: usize) -> Result<usize, Refusal>
     ensures { FieldPut name.now (integer_shown n) out.old at result out.new }
 {
     if n.magnitude > 0 {
@@ -53,9 +53,9 @@ pub(crate) fn integer(name: &[u8], n: Number, out: &mut [u8], at: usize) -> Writ
         return put_number(n, out, value);
     }
     if n.negative {
-        return Written::Refused(Refusal::MalformedInteger);
+        return Err(Refusal::MalformedInteger);
     }
-    Written::Length(at)
+    Ok(at)
 }
 
 // A safe string, which stands in the text.
@@ -66,25 +66,25 @@ pub(crate) fn safe(
     place: Place,
     out: &mut [u8],
     at: usize,
-) -> Written
+) -> Result<usize, Refusal>
     ensures { FieldPut name.now (shown (Kind.safe short) (bytes_at text.now place))
         out.old at result out.new }
 {
     if !octets::fits(place.start, place.len, text.len()) {
-        return Written::Refused(Refusal::UnsafeCharacter);
+        return Err(Refusal::UnsafeCharacter);
     }
     let s = octets::part(text, place.start, place.len);
     if !letters::all(Class::Safe, s) {
-        return Written::Refused(Refusal::UnsafeCharacter);
+        return Err(Refusal::UnsafeCharacter);
     }
     if letters::over(short, s.len()) {
-        return Written::Refused(Refusal::TooLong);
+        return Err(Refusal::TooLong);
     }
     if s.len() == 0 {
-        return Written::Length(at);
+        return Ok(at);
     }
     let value = put_key(name, out, at);
-    Written::Length(put(s, out, value))
+    Ok(put(s, out, value))
 }
 
 // The Base64 of bytes, which stand in the scratch.
@@ -94,17 +94,17 @@ pub(crate) fn base64(
     place: Place,
     out: &mut [u8],
     at: usize,
-) -> Written
+) -> Result<usize, Refusal>
     ensures { FieldPut name.now (shown Kind.base64 (bytes_at scratch.now place))
         out.old at result out.new }
 {
     if !octets::fits(place.start, place.len, scratch.len()) {
-        return Written::Refused(Refusal::Base64Length);
+        return Err(Refusal::Base64Length);
     }
     if place.len == 0 {
-        return Written::Length(at);
+        return Ok(at);
     }
     let value = put_key(name, out, at);
     let bytes = octets::part(scratch, place.start, place.len);
-    Written::Length(put_base64(bytes, out, value))
+    Ok(put_base64(bytes, out, value))
 }

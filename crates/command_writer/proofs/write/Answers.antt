@@ -11,15 +11,15 @@ use Rattle.command_writer.proofs.write.Goals as goal
 claims : WrittenThenRead × WritesCanonical
 claims = (written-then-read, writes_exactly)
 
-pub returns-in-Length-clause-written_then_read : goal.returns-in-Length-clause-written_then_read
-returns-in-Length-clause-written_then_read c = claims
+pub returns-in-Ok-clause-written_then_read : goal.returns-in-Ok-clause-written_then_read
+returns-in-Ok-clause-written_then_read c = claims
 
-pub returns-in-Refused-clause-out_after : goal.returns-in-Refused-clause-out_after
-returns-in-Refused-clause-out_after c =
+pub returns-in-Err-clause-out_after : goal.returns-in-Err-clause-out_after
+returns-in-Err-clause-out_after c =
     let a = c.args in
     let checked = checked_of keys (values_of a.command a.text.now a.scratch.now) in
-    let fault = put-fault checked _ _ _ 0 c.in-Refused.refusal c.in-Refused.ensures in
+    let fault = put-fault checked _ _ _ 0 c.in-Err.refusal c.in-Err.ensures in
     refused-fault a.command a.text.now a.scratch.now a.out.now _ fault
 
-pub returns-in-Refused-clause-written_then_read : goal.returns-in-Refused-clause-written_then_read
-returns-in-Refused-clause-written_then_read c = claims
+pub returns-in-Err-clause-written_then_read : goal.returns-in-Err-clause-written_then_read
+returns-in-Err-clause-written_then_read c = claims

@@ -19,24 +19,24 @@ pub enclose-requires : goal.enclose-requires
 enclose-requires c =
     let a = c.args in
     let vs = values_of a.command a.text.now a.scratch.now in
-    let written = writes-framed vs a.out.now c.if-out-lt-FRAME_ROOM.false _ _ c.in-Length.ensures.out_after in
+    let written = writes-framed vs a.out.now c.if-out-lt-FRAME_ROOM.false _ _ c.in-Ok.ensures.out_after in
     omega (arith, written.0)
 
-pub returns-in-Length-clause-out_after : goal.returns-in-Length-clause-out_after
-returns-in-Length-clause-out_after c =
+pub returns-in-Ok-clause-out_after : goal.returns-in-Ok-clause-out_after
+returns-in-Ok-clause-out_after c =
     let a = c.args in
     let vs = values_of a.command a.text.now a.scratch.now in
-    let written = writes-framed vs a.out.now c.if-out-lt-FRAME_ROOM.false _ _ c.in-Length.ensures.out_after in
+    let written = writes-framed vs a.out.now c.if-out-lt-FRAME_ROOM.false _ _ c.in-Ok.ensures.out_after in
     c.enclose.ensures ∙ written.1
 
-pub returns-in-Length-clause-framed_then_read : goal.returns-in-Length-clause-framed_then_read
-returns-in-Length-clause-framed_then_read c = framed-then-read
+pub returns-in-Ok-clause-framed_then_read : goal.returns-in-Ok-clause-framed_then_read
+returns-in-Ok-clause-framed_then_read c = framed-then-read
 
-pub returns-in-Refused-clause-out_after : goal.returns-in-Refused-clause-out_after
-returns-in-Refused-clause-out_after c =
+pub returns-in-Err-clause-out_after : goal.returns-in-Err-clause-out_after
+returns-in-Err-clause-out_after c =
     let a = c.args in
     let vs = values_of a.command a.text.now a.scratch.now in
-    refuses-framed vs a.out.now c.if-out-lt-FRAME_ROOM.false _ _ c.in-Refused.ensures.out_after
+    refuses-framed vs a.out.now c.if-out-lt-FRAME_ROOM.false _ _ c.in-Err.ensures.out_after
 
-pub returns-in-Refused-clause-framed_then_read : goal.returns-in-Refused-clause-framed_then_read
-returns-in-Refused-clause-framed_then_read c = framed-then-read
+pub returns-in-Err-clause-framed_then_read : goal.returns-in-Err-clause-framed_then_read
+returns-in-Err-clause-framed_then_read c = framed-then-read
