@@ -6,6 +6,7 @@ use mathlib.Core.Bool.{true, false}
 use mathlib.Core.List.{List, ◌++◌}
 use native.Mathlib.Omega.{arith}
 use lib.ListN.{length, length-take}
+use Rattle.std.specs.Prelude.{Option, Some, None}
 use Rattle.octets.specs.Outcome.{Outcome}
 use Rattle.decimal.specs.declared.Number.{Number}
 use Rattle.command.specs.Slots.{nowhere}
@@ -25,33 +26,23 @@ use Rattle.protocol.specs.Sessions.{decided_at, decided_of}
 use Rattle.protocol.specs.Supplies.{Supply, change_for, supply_of}
 use Rattle.protocol.specs.Promises.{SizedSession, Sized}
 use Rattle.protocol.specs.declared.FileState.{FileState}
-use Rattle.protocol.specs.declared.FileState.TheVariants as FileState
 use Rattle.protocol.specs.declared.FileRecord.{FileRecord}
 use Rattle.protocol.specs.declared.SessionState.TheVariants as SessionState
 use Rattle.protocol.specs.declared.Session.{Session}
 use Rattle.protocol.specs.declared.Kind.{Kind}
-use Rattle.protocol.specs.declared.Kind.TheVariants as Kind
 use Rattle.protocol.specs.declared.Due.{Due}
-use Rattle.protocol.specs.declared.Due.TheVariants as Due
-use Rattle.protocol.specs.declared.Owed.{Owed}
-use Rattle.protocol.specs.declared.Owed.TheVariants as Owed
 use Rattle.protocol.specs.declared.Table.{Table}
 use Rattle.protocol.specs.declared.Receiver.{Receiver}
 use Rattle.protocol.specs.declared.Status.{Status}
-use Rattle.protocol.specs.declared.Status.TheVariants as Status
 use Rattle.protocol.specs.declared.Failure.{Failure}
 use Rattle.protocol.specs.declared.Decision.{Decision}
-use Rattle.protocol.specs.declared.Decision.TheVariants as Decision
 use Rattle.protocol.specs.declared.Told.{Told}
-use Rattle.protocol.specs.declared.Told.TheVariants as Told
 use Rattle.protocol.specs.declared.Reply.{Reply}
 use Rattle.protocol.specs.declared.Edit.TheVariants as Edit
 use Rattle.protocol.specs.declared.News.{News}
 use Rattle.protocol.specs.declared.Change.{Change}
 use Rattle.protocol.specs.declared.Stepped.{Stepped}
 use Rattle.protocol.specs.declared.Answered.{Answered}
-use Rattle.protocol.specs.declared.Found.{Found}
-use Rattle.protocol.specs.declared.Found.TheVariants as Found
 use Rattle.frames.proofs.Choices.{by_cond}
 use Rattle.protocol.proofs.Laws.{set-any, replicate-each, found_at}
 use Rattle.protocol.proofs.Tellings.{is_plain, Tells}
@@ -223,13 +214,13 @@ module _ (t : Table) (h : Sized t) where
     new-sized : (i : ℕ) (s : Session) → SizedSession s → (w : Told) → is_plain w ≡ true → Obeyed c (telling (put_session t i s) w)
     new-sized i s k w e = record { sized = record { table = put-sized t i s h k; reply = none-sized }; told = Tellings.tells e }
 
-    room-send : (f : Found) → Obeyed c (send_room t made f)
-    room-send Found.Nowhere = status-sized Status.Ebusy
-    room-send (Found.At i) = new-sized i made made-sized Told.Asked refl
+    room-send : (f : Option ℕ) → Obeyed c (send_room t made f)
+    room-send None = status-sized Status.Ebusy
+    room-send (Some i) = new-sized i made made-sized Told.Asked refl
 
-    room-receive : (n : Number) (f : Found) → Obeyed c (receive_room t made n f)
-    room-receive n Found.Nowhere = status-sized Status.Ebusy
-    room-receive n (Found.At i) =
+    room-receive : (n : Number) (f : Option ℕ) → Obeyed c (receive_room t made n f)
+    room-receive n None = status-sized Status.Ebusy
+    room-receive n (Some i) =
         by_cond (Obeyed c) (bad_paths n) (λ _. status-sized Status.Einval)
         (λ _. new-sized i (naming_session made n.magnitude) (record { id = made-sized.id; files = free-files }) Told.Naming refl)
 
@@ -254,18 +245,19 @@ module _ (t : Table) (h : Sized t) where
         q : Request
         q = request_in c text scratch
 
-        go : (f : Found) → find_session t (id_in c text) ≡ f → Obeyed c (found_result t c (id_in c text) q f)
-        go Found.Nowhere e = absent-sized-by c.size (kind_of SessionState.Absent c.action)
-        go (Found.At i) e =
+        go : (f : Option ℕ) → find_session t (id_in c text) ≡ f → Obeyed c (found_result t c (id_in c text) q f)
+        go None e = absent-sized-by c.size (kind_of SessionState.Absent c.action)
+        go (Some i) e =
             let s = session_at t i in
             let x = way s q (found_at session_used id_of no_session t.sessions (id_in c text) i e).1 in
             record { sized = step-sized i c.payload (obeyed_by s q) (way-sized s (h i) q x); told = way-tells s q c.payload x }
 
   -- an answer, and a decision
-  answered-sized : (f : Session → Due → Change) → ((s : Session) → SizedSession s → (d : Due) → SizedChange s (f s d)) → (o : Owed)
+  answered-sized : (f : Session → Due → Change) → ((s : Session) → SizedSession s → (d : Due) → SizedChange s (f s d))
+      → (o : Option (ℕ × Due))
       → SizedStep (answered_with t f o)
-  answered-sized f k Owed.Nothing = telling-sized (Told.Refused 11)
-  answered-sized f k (Owed.For i d) = step-sized i _ (f (session_at t i) d) (k (session_at t i) (h i) d)
+  answered-sized f k None = telling-sized (Told.Refused 11)
+  answered-sized f k (Some (i, d)) = step-sized i _ (f (session_at t i) d) (k (session_at t i) (h i) d)
 
   pub done-sized : SizedStep (settle_done t)
   unfolding settle_done
@@ -279,17 +271,17 @@ module _ (t : Table) (h : Sized t) where
   unfolding settle_unlisted
   unlisted-sized = go t.owed
     where
-      go : (o : Owed) → SizedStep (unlisted_for t o)
-      go Owed.Nothing = telling-sized (Told.Refused 18)
-      go (Owed.For i d) = step-sized i _ (unlisted_by (session_at t i) d) (unlisted-change (session_at t i) (h i) d)
+      go : (o : Option (ℕ × Due)) → SizedStep (unlisted_for t o)
+      go None = telling-sized (Told.Refused 18)
+      go (Some (i, d)) = step-sized i _ (unlisted_by (session_at t i) d) (unlisted-change (session_at t i) (h i) d)
 
   pub decided-sized : (d : Decision) (k : List ℕ) → SizedStep (decided_of t d k)
   unfolding decided_of
   decided-sized d k = go (find_session t k)
     where
-      go : (f : Found) → SizedStep (decided_at t d f)
-      go Found.Nowhere = telling-sized (Told.Refused 12)
-      go (Found.At i) = step-sized i _ (decided_by d (session_at t i)) (decided-change (session_at t i) (h i) d)
+      go : (f : Option ℕ) → SizedStep (decided_at t d f)
+      go None = telling-sized (Told.Refused 12)
+      go (Some i) = step-sized i _ (decided_by d (session_at t i)) (decided-change (session_at t i) (h i) d)
 
 -- what the console supplies
 pub supply-sized : (r : Receiver) (u : Supply) (out : List ℕ) → Sized r.table → Sized (supply_of r u out).answer.receiver.table

@@ -3,15 +3,15 @@ use Prim.Native.Nat.{ℕ, ◌≤◌, ◌<◌}
 use mathlib.Core.Path.{◌≡◌, refl, sym, ap, ◌∙◌}
 use mathlib.Core.Bool.{Bool, true, false}
 use mathlib.Core.Logic.{◌⊎◌, inl, inr}
-use mathlib.Core.Option.{Option, some-injective}
 use mathlib.Core.List.{List}
 use native.Mathlib.Omega.{arith}
 use lib.ListN.{length}
+use Rattle.std.proofs.lemmas.Option.{same_Some}
+use Rattle.std.specs.Prelude.{Option, Some, None}
 use Rattle.octets.specs.Members.{every}
 use Rattle.frames.proofs.Choices.{by_cond}
 use Rattle.command.specs.Letters.{safe_byte}
 use Rattle.command.specs.declared.FileType.{FileType}
-use Rattle.command.specs.declared.FileType.TheVariants as FileType
 use Rattle.protocol.specs.Table.{id_room, no_file, file_at, file_id_of, is_present, session_used, file_used, is_free}
 use Rattle.protocol.specs.Replies.{no_reply, session_reply, failure_status}
 use Rattle.protocol.specs.Change.{asks, opens}
@@ -22,15 +22,11 @@ use Rattle.protocol.specs.Supplies.{Supply, is_listing, change_for}
 use Rattle.protocol.specs.Sound.{IsId, IsFileId, FileIs, PartFits, SoundSession}
 use Rattle.protocol.specs.declared.FileState.TheVariants as FileState
 use Rattle.protocol.specs.declared.SessionState.{SessionState}
-use Rattle.protocol.specs.declared.SessionState.TheVariants as SessionState
 use Rattle.protocol.specs.declared.Session.{Session}
 use Rattle.protocol.specs.declared.Due.{Due}
-use Rattle.protocol.specs.declared.Due.TheVariants as Due
 use Rattle.protocol.specs.declared.Status.{Status}
-use Rattle.protocol.specs.declared.Status.TheVariants as Status
 use Rattle.protocol.specs.declared.Failure.{Failure}
 use Rattle.protocol.specs.declared.Decision.{Decision}
-use Rattle.protocol.specs.declared.Decision.TheVariants as Decision
 use Rattle.protocol.specs.declared.Told.TheVariants as Told
 use Rattle.protocol.specs.declared.Change.{Change}
 use Rattle.protocol.proofs.Laws.{no_way, equals-same, first-at, found_at, found_nowhere}
@@ -47,9 +43,9 @@ pub record IsReadId (k : List ℕ) : Type 0 where
   pub safe : every safe_byte k ≡ true
   pub short : length k ≤ id_room
 
-module _ {s : Session} (ok : SoundSession s Option.none) (q : Request) (id : IsReadId q.file) where
+module _ {s : Session} (ok : SoundSession s None) (q : Request) (id : IsReadId q.file) where
   abbrev Kept : Change → Type 0
-  Kept = Steps true s Option.none
+  Kept = Steps true s None
 
   -- a new file or path has a free place, and an id that no other has
   module _ (j : ℕ) (n : NewFile s q j) where
@@ -107,12 +103,12 @@ module _ {s : Session} (ok : SoundSession s Option.none) (q : Request) (id : IsR
 
 -- ---- an answer to what is due
 -- the file whose open is due is the only one that is opening
-opens-only : {n j : ℕ} → Option.some j ≡ Option.some n → n ≡ j
-opens-only {n} {j} e = sym (some-injective j n e)
+opens-only : {n j : ℕ} → Some j ≡ Some n → n ≡ j
+opens-only {n} {j} e = sym (same_Some j n e)
 
 module _ {s : Session} where
   -- the count is at most the cap, whatever was written
-  pub done-steps : (d : Due) → SoundSession s (Option.some d) → Steps false s (Option.some d) (done_by s d)
+  pub done-steps : (d : Due) → SoundSession s (Some d) → Steps false s (Some d) (done_by s d)
   unfolding done_by
   done-steps (Due.OpenFile j) ok =
       let f = ok.fits in
@@ -133,10 +129,10 @@ module _ {s : Session} where
   done-steps Due.Commit ok = drops-steps Told.Committed no_reply
   done-steps Due.Request ok = tells-steps (Told.Refused 18) no_reply ok
 
-  request-failed : (w : Status) → SoundSession s (Option.some Due.Request) → Steps false s (Option.some Due.Request) (request_fails w s)
+  request-failed : (w : Status) → SoundSession s (Some Due.Request) → Steps false s (Some Due.Request) (request_fails w s)
   request-failed w ok = clears-steps (Told.Status w) _ ok
 
-  pub failed-steps : (e : Failure) (d : Due) → SoundSession s (Option.some d) → Steps false s (Option.some d) (failed_by e s d)
+  pub failed-steps : (e : Failure) (d : Due) → SoundSession s (Some d) → Steps false s (Some d) (failed_by e s d)
   unfolding failed_by
   failed-steps e (Due.OpenFile j) ok =
       file-failed-steps ok ok.fits.0 j FileState.Opening refl ok.fits.1 (λ n. opens-only) (failure_status e)
@@ -149,7 +145,7 @@ module _ {s : Session} where
   failed-steps e Due.Commit ok = drops-steps Told.Discarded (session_reply (failure_status e) s)
   failed-steps e Due.Request ok = request-failed (failure_status e) ok
 
-  pub unlisted-steps : (d : Due) → SoundSession s (Option.some d) → Steps false s (Option.some d) (unlisted_by s d)
+  pub unlisted-steps : (d : Due) → SoundSession s (Some d) → Steps false s (Some d) (unlisted_by s d)
   unfolding unlisted_by
   unlisted-steps (Due.OpenFile j) ok = tells-steps (Told.Refused 18) no_reply ok
   unlisted-steps (Due.OpenDirectory j) ok = tells-steps (Told.Refused 18) no_reply ok
@@ -203,7 +199,7 @@ abbrev pub InTurn : Session → Option Due → Supply → Type 0
 InTurn s due (Supply.list e text contents) = s.state ≡ SessionState.Listing
 InTurn s due (Supply.list_failed text id path code) = s.state ≡ SessionState.Listing
 InTurn s due (Supply.home id path) = s.state ≡ SessionState.Listing
-InTurn s due (Supply.part last bytes) = due ≡ Option.some Due.Request
+InTurn s due (Supply.part last bytes) = due ≡ Some Due.Request
 
 pub supplied-steps : {s : Session} {due : Option Due} → SoundSession s due → (u : Supply) → InTurn s due u
     → Steps false s due (change_for u)

@@ -1,5 +1,5 @@
 -- What a step makes of one session, and how the table takes it back. A change names no place of the table.
-use Rattle.std.specs.Prelude.{cond, ℕ, set, eqb}
+use Rattle.std.specs.Prelude.{cond, ℕ, set, eqb, Option, Some, None}
 use Rattle.command.specs.declared.Place.{Place}
 use Rattle.protocol.specs.Table.{absent_session, no_file, session_at, with_state, waiting, put_file}
 use Rattle.protocol.specs.Replies.{no_reply}
@@ -7,20 +7,13 @@ use Rattle.protocol.specs.declared.FileRecord.{FileRecord}
 use Rattle.protocol.specs.declared.SessionState.{SessionState}
 use Rattle.protocol.specs.declared.Session.{Session}
 use Rattle.protocol.specs.declared.Due.{Due}
-use Rattle.protocol.specs.declared.Due.TheVariants as Due
-use Rattle.protocol.specs.declared.Owed.{Owed}
-use Rattle.protocol.specs.declared.Owed.TheVariants as Owed
 use Rattle.protocol.specs.declared.Table.{Table}
 use Rattle.protocol.specs.declared.Status.{Status}
 use Rattle.protocol.specs.declared.Ask.{Ask}
-use Rattle.protocol.specs.declared.Ask.TheVariants as Ask
 use Rattle.protocol.specs.declared.Told.{Told}
-use Rattle.protocol.specs.declared.Told.TheVariants as Told
 use Rattle.protocol.specs.declared.Reply.{Reply}
 use Rattle.protocol.specs.declared.Edit.{Edit}
-use Rattle.protocol.specs.declared.Edit.TheVariants as Edit
 use Rattle.protocol.specs.declared.News.{News}
-use Rattle.protocol.specs.declared.News.TheVariants as News
 use Rattle.protocol.specs.declared.Change.{Change}
 use Rattle.protocol.specs.declared.Stepped.{Stepped}
 
@@ -66,14 +59,14 @@ edited s f Edit.Dropped = absent_session
 
 -- ---- what is owed afterwards, the session's place being i
 -- "what that session owed is cleared"
-abbrev pub cleared : ℕ → Owed → Owed
-cleared i Owed.Nothing = Owed.Nothing
-cleared i (Owed.For k d) = cond (eqb k i) Owed.Nothing (Owed.For k d)
+abbrev pub cleared : ℕ → Option (ℕ × Due) → Option (ℕ × Due)
+cleared i None = None
+cleared i (Some (k, d)) = cond (eqb k i) None (Some (k, d))
 
-abbrev pub owed_after : Owed → ℕ → News → Owed
+abbrev pub owed_after : Option (ℕ × Due) → ℕ → News → Option (ℕ × Due)
 owed_after o i (News.Tells w) = o
 owed_after o i (News.Clears w) = cleared i o
-owed_after o i (News.Asks d) = Owed.For i d
+owed_after o i (News.Asks d) = Some (i, d)
 
 -- ---- what is told, the payload standing at p in the scratch
 abbrev pub ask_of : Place → Due → Ask

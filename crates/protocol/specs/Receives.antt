@@ -1,5 +1,5 @@
 -- The rules of a receive session: the paths that it names, and the files that it asks for.
-use Rattle.std.specs.Prelude.{ℕ, ◌+◌, Bool, cond, ◌||◌, List, length, ltb, eqb}
+use Rattle.std.specs.Prelude.{ℕ, ◌+◌, Bool, cond, ◌||◌, List, length, ltb, eqb, Option, Some, None}
 use Rattle.decimal.specs.declared.Number.{Number}
 use Rattle.pathname.specs.Name.{valid_name}
 use Rattle.protocol.specs.Table.{file_room, no_file, padded, file_at, first, is_free}
@@ -11,13 +11,10 @@ use Rattle.protocol.specs.declared.FileRecord.{FileRecord}
 use Rattle.protocol.specs.declared.Session.{Session}
 use Rattle.protocol.specs.declared.Due.TheVariants as Due
 use Rattle.protocol.specs.declared.Status.{Status}
-use Rattle.protocol.specs.declared.Status.TheVariants as Status
 use Rattle.protocol.specs.declared.Told.TheVariants as Told
 use Rattle.protocol.specs.declared.Edit.TheVariants as Edit
 use Rattle.protocol.specs.declared.News.TheVariants as News
 use Rattle.protocol.specs.declared.Change.{Change}
-use Rattle.protocol.specs.declared.Found.{Found}
-use Rattle.protocol.specs.declared.Found.TheVariants as Found
 
 -- "`receive` with `sz` from 1 to 32 asks for that many paths, any other `sz` gives EINVAL"
 abbrev pub bad_paths : Number → Bool
@@ -29,9 +26,9 @@ named k = record { state = FileState.Named; id = padded k; id_len = length k; co
 
 -- ---- "File commands then name the paths, each told to the console without a reply"
 -- Paths fill the records in order, so that the one at place j is number j + 1. With as many as were asked for the session waits.
-abbrev pub path_named : Session → (file : List ℕ) → Found → Change
-path_named s file Found.Nowhere = file_status s file Status.Emfile
-path_named s file (Found.At j) =
+abbrev pub path_named : Session → (file : List ℕ) → Option ℕ → Change
+path_named s file None = file_status s file Status.Emfile
+path_named s file (Some j) =
     cond (ltb (j + 1) s.wanted) (change (Edit.Filed j) (named file) (News.Tells Told.Path) no_reply)
     (change Edit.Waits no_file (News.Tells Told.LastPath) no_reply)
 

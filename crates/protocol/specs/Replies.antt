@@ -13,9 +13,7 @@ use Rattle.protocol.specs.Table.{zeros}
 use Rattle.protocol.specs.declared.FileRecord.{FileRecord}
 use Rattle.protocol.specs.declared.Session.{Session}
 use Rattle.protocol.specs.declared.Status.{Status}
-use Rattle.protocol.specs.declared.Status.TheVariants as Status
 use Rattle.protocol.specs.declared.Failure.{Failure}
-use Rattle.protocol.specs.declared.Failure.TheVariants as Failure
 use Rattle.protocol.specs.declared.Reply.{Reply}
 
 -- "Status is the bare word"

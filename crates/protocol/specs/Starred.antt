@@ -1,5 +1,5 @@
 -- The starred cases of document 01's "Both sides of the line", as one list.
-use Rattle.std.specs.Prelude.{ℕ, ◌+◌, ◌≡◌, List, [], ◌∷◌, ◌++◌, length, get_or, replicate}
+use Rattle.std.specs.Prelude.{ℕ, ◌+◌, ◌≡◌, List, [], ◌∷◌, ◌++◌, length, get_or, replicate, Some}
 use Rattle.octets.specs.Ascii.{ascii}
 use Rattle.octets.specs.Outcome.{outcome}
 use Rattle.base64_codec.specs.Decode.{decode_of}
@@ -15,10 +15,8 @@ use Rattle.protocol.specs.Calls.{read_act}
 use Rattle.protocol.specs.declared.FileState.TheVariants as FileState
 use Rattle.protocol.specs.declared.SessionState.TheVariants as SessionState
 use Rattle.protocol.specs.declared.Due.TheVariants as Due
-use Rattle.protocol.specs.declared.Owed.TheVariants as Owed
 use Rattle.protocol.specs.declared.Table.{Table}
 use Rattle.protocol.specs.declared.Status.{Status}
-use Rattle.protocol.specs.declared.Status.TheVariants as Status
 
 pub data Case : Type 0 where
   decodes : (text bytes : List ℕ) → Case  -- the Base64 text is these bytes
@@ -47,7 +45,7 @@ count_after t = (file_at (session_at (settle_done t).table 0) 0).count
 abbrev pub Holds : Case → Type 0
 Holds (Case.decodes text bytes) = decode_of text (replicate (length bytes) 0) 0 ≡ outcome (Decoded.Length (length bytes)) bytes
 Holds (Case.reads text key result) = value_of (number_of keys key) (meaning_of text) ≡ result
-Holds (Case.adds text n) = ((obeyed text).owed ≡ Owed.For 0 (Due.Write 0 n)) × (count_after (obeyed text) ≡ 3 + n)
+Holds (Case.adds text n) = ((obeyed text).owed ≡ Some (0, Due.Write 0 n)) × (count_after (obeyed text) ≡ 3 + n)
 Holds (Case.shows w text) = status_text (ascii "m") [] 0 (status_word w) ≡ ascii "5113;ac=status;id=m;st=" ++ text
 
 abbrev pub AllHold : List Case → Type 0

@@ -1,20 +1,14 @@
 -- The table of sessions: room, ids, finding, and what is put back.
-use Rattle.std.specs.Prelude.{ℕ, zero, suc, ◌+◌, ◌-◌, min, Bool, true, false, not, cond, ◌&&◌}
+use Rattle.std.specs.Prelude.{ℕ, zero, suc, ◌+◌, ◌-◌, min, Bool, true, false, not, cond, ◌&&◌, Option, Some, None}
 use Rattle.std.specs.Prelude.{List, [], ◌∷◌, ◌++◌, take, get_or, set, replicate}
 use Rattle.octets.specs.Slices.{equals}
 use Rattle.frames.specs.declared.Framing.TheVariants as Framing
 use Rattle.protocol.specs.declared.FileState.{FileState}
-use Rattle.protocol.specs.declared.FileState.TheVariants as FileState
 use Rattle.protocol.specs.declared.FileRecord.{FileRecord}
 use Rattle.protocol.specs.declared.SessionState.{SessionState}
-use Rattle.protocol.specs.declared.SessionState.TheVariants as SessionState
 use Rattle.protocol.specs.declared.Session.{Session}
-use Rattle.protocol.specs.declared.Owed.{Owed}
-use Rattle.protocol.specs.declared.Owed.TheVariants as Owed
 use Rattle.protocol.specs.declared.Table.{Table}
 use Rattle.protocol.specs.declared.Receiver.{Receiver}
-use Rattle.protocol.specs.declared.Found.{Found}
-use Rattle.protocol.specs.declared.Found.TheVariants as Found
 
 -- ---- room: "four sessions, each with thirty-two file records"; "at most 32 bytes" of an id
 abbrev pub session_room : ℕ
@@ -50,7 +44,7 @@ absent_session =
 
 -- "A fresh receiver has no session, no file and nothing owed"
 abbrev pub empty_table : Table
-empty_table = record { sessions = replicate session_room absent_session; owed = Owed.Nothing }
+empty_table = record { sessions = replicate session_room absent_session; owed = None }
 
 abbrev pub fresh_receiver : Receiver
 fresh_receiver = record { framing = Framing.Plain; table = empty_table }
@@ -80,17 +74,17 @@ abbrev pub padded : List ℕ → List ℕ
 padded k = take id_room (k ++ zeros)
 
 -- ---- finding
-abbrev pub later : Found → Found
-later Found.Nowhere = Found.Nowhere
-later (Found.At i) = Found.At (suc i)
+abbrev pub later : Option ℕ → Option ℕ
+later None = None
+later (Some i) = Some (suc i)
 
-abbrev pub here_or : Bool → Found → Found
-here_or true f = Found.At zero
+abbrev pub here_or : Bool → Option ℕ → Option ℕ
+here_or true f = Some zero
 here_or false f = later f
 
 -- the first member of which a test holds
-unfoldable pub first : {A : Type 0} → (A → Bool) → List A → Found
-first p [] = Found.Nowhere
+unfoldable pub first : {A : Type 0} → (A → Bool) → List A → Option ℕ
+first p [] = None
 first p (x ∷ xs) = here_or (p x) (first p xs)
 
 abbrev pub is_present : SessionState → Bool
@@ -162,10 +156,10 @@ abbrev pub has_file_id : List ℕ → FileRecord → Bool
 has_file_id k f = file_used f && equals (file_id_of f) k
 
 -- the place of a session by its id, and of a file of it by its id
-abbrev pub find_session : Table → List ℕ → Found
+abbrev pub find_session : Table → List ℕ → Option ℕ
 find_session t k = first (has_id k) t.sessions
 
-abbrev pub find_file : Session → List ℕ → Found
+abbrev pub find_file : Session → List ℕ → Option ℕ
 find_file s k = first (has_file_id k) s.files
 
 -- ---- put back

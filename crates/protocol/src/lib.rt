@@ -88,17 +88,11 @@ pub enum Due {
     Request,
 }
 
-// What the console owes an answer to: nothing, or what is due for the session at a place.
-#[derive(Clone, Copy)]
-pub enum Owed {
-    Nothing,
-    For(usize, Due),
-}
-
+// What the console owes an answer to is the place of a session, with what is due for it.
 #[derive(Clone, Copy)]
 pub struct Table {
     pub sessions: [Session; Table::SESSIONS],
-    pub owed: Owed,
+    pub owed: Option<(usize, Due)>,
 }
 
 // What a command does, by the action table.
@@ -292,13 +286,6 @@ pub struct Answered {
     pub reply_len: usize,
 }
 
-// Where something stands in an array.
-#[derive(Clone, Copy)]
-pub enum Found {
-    Nowhere,
-    At(usize),
-}
-
 // ---- Free room, the fresh receiver and the action table.
 impl FileRecord {
     // "Over 4,096 decoded bytes" a part fails its file.
@@ -335,7 +322,7 @@ impl Table {
 
     pub const EMPTY: Table = Table {
         sessions: [Session::ABSENT; Table::SESSIONS],
-        owed: Owed::Nothing,
+        owed: None,
     };
 }
 
