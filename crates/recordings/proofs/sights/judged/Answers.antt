@@ -12,6 +12,5 @@ returns-in-Read c =
 pub returns-in-Refused : goal.returns-in-Refused
 returns-in-Refused c =
     let a = c.args in
-    rw c.number.ensures
-    (sym (read-judged (text_between a.recording.now a.start a.end) a.scratch.now a.start a.end c.requires.2
-    c.in-Refused.ensures.scratch_after))
+    sym (read-judged (text_between a.recording.now a.start a.end) a.scratch.now a.start a.end c.requires.2
+    c.in-Refused.ensures.scratch_after)
