@@ -17,27 +17,14 @@ ghost use Rattle.octets.specs.Slices.{equals, starts_with, part_of, copy_at};
 pub fn equal(a: &[u8], b: &[u8]) -> bool
     ensures { result ≡ equals a.now b.now }
 {
-    if a.len() != b.len() {
-        return false;
-    }
-    starts_with(a, b)
+    a == b
 }
 
 // Whether the first bytes of s are those of prefix.
 pub fn starts_with(s: &[u8], prefix: &[u8]) -> bool
     ensures { result ≡ starts_with s.now prefix.now }
 {
-    if s.len() < prefix.len() {
-        return false;
-    }
-    let mut i = 0;
-    while i < prefix.len() {
-        if s[i] != prefix[i] {
-            return false;
-        }
-        i += 1;
-    }
-    true
+    s.starts_with(prefix)
 }
 
 // The first place at or after `from` where b stands in s; where there is none, the end of s, or
@@ -71,13 +58,7 @@ pub fn part(s: &[u8], start: usize, n: usize) -> &[u8]
 pub fn fits(at: usize, n: usize, len: usize) -> bool
     ensures { result ≡ leb (at + n) len }
 {
-    if at > len {
-        return false;
-    }
-    if n > len - at {
-        return false;
-    }
-    true
+    at <= len && n <= len - at
 }
 
 // Copies src into dst from place `at` on, and answers where it ends. Where it does not fit, dst is as before.
