@@ -6,14 +6,14 @@ use native.Mathlib.Omega.{arith}
 use lib.ListN.{length, get_or, drop, length-drop}
 use borrow.Author.Tests.{eqb-false}
 use Rattle.base64_codec.specs.Decode.{verdict_of, bytes_of}
-use Rattle.base64_codec.specs.declared.Verdict.TheVariants as Verdict
+use Rattle.std.specs.Prelude.{Ok}
 use Rattle.base64_codec.proofs.Letters.{Letter, not-pad}
 use Rattle.base64_codec.proofs.Groups.{Groups, valid-groups, groups_valid, groups-length, full-group}
 use Rattle.base64_codec.proofs.Turns.{drop-at-4, first_byte, second-byte, third-byte, three-bytes}
 
 -- a text that is valid, whatever its padding
 abbrev pub ValidText : List ℕ → Type 0
-ValidText t = (k : ℕ) × (verdict_of t ≡ Verdict.Valid k)
+ValidText t = (k : ℕ) × (verdict_of t ≡ Ok k)
 
 -- what is left of a valid text is whole groups
 pub whole-groups : (t : List ℕ) (i : ℕ) → ValidText (drop i t) → length (drop i t) % 4 ≡ 0

@@ -16,7 +16,7 @@ use Rattle.base64_codec.specs.Encode.{text_of}
 use Rattle.base64_codec.specs.Padding.{last_of, lacking, padded, unpadded}
 use Rattle.base64_codec.specs.declared.Padding.{Padding}
 use Rattle.base64_codec.specs.declared.Padding.TheVariants.{Required, Optional}
-use Rattle.base64_codec.specs.declared.Verdict.TheVariants.{Valid}
+use Rattle.std.specs.Prelude.{Ok}
 use Rattle.base64_codec.proofs.Letters.{Letter, not-pad}
 use Rattle.base64_codec.proofs.Groups.{Groups, none, full, pad1, pad2, groups-length, valid-groups}
 use Rattle.base64_codec.proofs.RoundTrip.{padding_of, valid-text}
@@ -37,7 +37,7 @@ unfolding padded
 ended-padded t h = rw (eq-eqb (last_of t) pad h)
 
 -- to a valid text
-pub valid-padded : (p : Padding) (t : List ℕ) (k : ℕ) → verdict_of t ≡ Valid k → padded p t ≡ t
+pub valid-padded : (p : Padding) (t : List ℕ) (k : ℕ) → verdict_of t ≡ Ok k → padded p t ≡ t
 unfolding padded
 valid-padded Required t k e = refl
 valid-padded Optional t k e =

@@ -16,13 +16,13 @@ use Rattle.base64_codec.specs.Letters.{is_letter, value_before}
 use Rattle.base64_codec.specs.Decode.{unused, ending, scan, byte1, byte2, byte3, group, bytes_of}
 use Rattle.base64_codec.specs.Encode.{char1, char2, char3, char4, text_of}
 use Rattle.base64_codec.specs.declared.Fault.TheVariants as Fault
-use Rattle.base64_codec.specs.declared.Verdict.TheVariants as Verdict
+use Rattle.std.specs.Prelude.{Err}
 
 -- ---- the check, a character at a time
 pub scan-at : (t : List ℕ) (i p : ℕ) → i < length t
     → scan p (drop i t)
     ≡ cond (eqb (value_of (get_or t i 0)) 64)
-    (cond (eqb (get_or t i 0) pad) (ending p (drop (i + 1) t)) (Verdict.Invalid Fault.Character))
+    (cond (eqb (get_or t i 0) pad) (ending p (drop (i + 1) t)) (Err Fault.Character))
     (scan (value_of (get_or t i 0)) (drop (i + 1) t))
 unfolding scan
 scan-at t i p h = rw (drop_at t i h)
@@ -50,11 +50,11 @@ module _ (t : List ℕ) (i p : ℕ) where
   ending-none e = rw (drop-end t i (omega arith))
 
   pub ending-one : i + 1 ≡ length t
-      → ending p (drop i t) ≡ cond (eqb (get_or t i 0) pad) (unused (p % 16) 2) (Verdict.Invalid Fault.Length)
+      → ending p (drop i t) ≡ cond (eqb (get_or t i 0) pad) (unused (p % 16) 2) (Err Fault.Length)
   unfolding ending
   ending-one e = rw (drop_at t i (omega arith), drop-end t (i + 1) (omega arith))
 
-  pub ending-more : i + 2 ≤ length t → ending p (drop i t) ≡ Verdict.Invalid Fault.Length
+  pub ending-more : i + 2 ≤ length t → ending p (drop i t) ≡ Err Fault.Length
   unfolding ending
   ending-more h = rw (drop_at t i (omega arith), drop_at t (i + 1) (omega arith))
 

@@ -3,6 +3,9 @@ ghost use Rattle.std.specs.Prelude.{◌≡◌, ◌≤◌};
 ghost use Rattle.base64_codec.specs.Alphabet.{value_of, letter_of};
 ghost use Rattle.base64_codec.specs.Values.{values};
 
+// The padding character.
+pub(crate) const PAD: u8 = b'=';
+
 // The value of a character, and 64 for a byte that is none, by the table.
 pub(crate) fn value(table: &[u8; 256], c: u8) -> u8
     requires { table.now ≡ values }

@@ -4,23 +4,19 @@ ghost use Rattle.std.proofs.lemmas.List.Edits.{sets};
 ghost use Rattle.octets.specs.Members.{every};
 ghost use Rattle.base64_codec.specs.Decode.{scan, verdict_of, bytes_of};
 ghost use Rattle.base64_codec.specs.Decode as Decode;
-ghost use Rattle.base64_codec.specs.declared.Verdict.TheVariants as Verdict;
 ghost use Rattle.base64_codec.specs.Letters.{is_letter, value_before};
 ghost use Rattle.base64_codec.specs.Values.{values};
 
-use crate::alphabet::value;
-use crate::{Fault, Verdict};
-use octets::size::less;
-
-const PAD: u8 = 61;
+use crate::Fault;
+use crate::alphabet::{PAD, value};
 
 // What the whole text is. Its characters are taken left to right; p is the value of the last.
-pub(crate) fn check(table: &[u8; 256], text: &[u8]) -> Verdict
+pub(crate) fn check(table: &[u8; 256], text: &[u8]) -> Result<usize, Fault>
     requires { table.now ≡ values }
     ensures { result ≡ verdict_of text.now }
 {
     if text.len() % 4 != 0 {
-        return Verdict::Invalid(Fault::Length);
+        return Err(Fault::Length);
     }
     let mut i = pass_letters(table, text);
     let mut p = before(table, text, i);
@@ -32,11 +28,11 @@ pub(crate) fn check(table: &[u8; 256], text: &[u8]) -> Verdict
             if c == PAD {
                 return ending(p, text, i);
             }
-            return Verdict::Invalid(Fault::Character);
+            return Err(Fault::Character);
         }
         p = v;
     }
-    Verdict::Valid(0)
+    Ok(0)
 }
 
 // Passes letters, four at a time: a place from which on the text is what it is from its start on.
@@ -61,7 +57,7 @@ fn pass_blocks(text: &[u8]) -> usize
     ensures { (result ≤ length text.now)
         × (scan (value_before text.now result) (drop result text.now) ≡ scan 0 text.now) }
 {
-    let n = less(text.len(), 4) / 32 * 32;
+    let n = text.len().saturating_sub(4) / 32 * 32;
     if all_letters(&text[..n]) {
         return n;
     }
@@ -113,7 +109,7 @@ fn before(table: &[u8; 256], text: &[u8], i: usize) -> u8
 }
 
 // What the text is by its end: before place i stands its first `=`, before that the value p.
-fn ending(p: u8, text: &[u8], i: usize) -> Verdict
+fn ending(p: u8, text: &[u8], i: usize) -> Result<usize, Fault>
     requires { i ≤ length text.now }
     ensures { result ≡ Decode.ending p (drop i text.now) }
 {
@@ -125,25 +121,25 @@ fn ending(p: u8, text: &[u8], i: usize) -> Verdict
         if text[i] == PAD {
             return unused(p % 16, 2);
         }
-        return Verdict::Invalid(Fault::Length);
+        return Err(Fault::Length);
     }
-    Verdict::Invalid(Fault::Length)
+    Err(Fault::Length)
 }
 
 // What the text is by the bits that no byte uses, with its number of padding characters.
-fn unused(bits: u8, padding: usize) -> Verdict
+fn unused(bits: u8, padding: usize) -> Result<usize, Fault>
     ensures { result ≡ Decode.unused bits padding }
 {
     if bits == 0 {
-        return Verdict::Valid(padding);
+        return Ok(padding);
     }
-    Verdict::Invalid(Fault::UnusedBits)
+    Err(Fault::UnusedBits)
 }
 
 // Stores the bytes of a valid text in `out` from place `at` on, two groups a turn: their words are made side by side.
 pub(crate) fn fill(table: &[u8; 256], text: &[u8], padding: usize, out: &mut [u8], at: usize)
     requires table_value { table.now ≡ values }
-    requires text_value { (verdict_of text.now ≡ Verdict.Valid padding) × (at + length (bytes_of text.now) ≤ length out.old) }
+    requires text_value { (verdict_of text.now ≡ Ok padding) × (at + length (bytes_of text.now) ≤ length out.old) }
     ensures { out.new ≡ sets out.old at (bytes_of text.now) }
 {
     let mut i = 0;
@@ -159,7 +155,7 @@ pub(crate) fn fill(table: &[u8; 256], text: &[u8], padding: usize, out: &mut [u8
 
 // Stores the bytes of the last groups, two at most, from place o on. Only the last of all has padding.
 fn rest(table: &[u8; 256], text: &[u8], i: usize, out: &mut [u8], o: usize)
-    requires table_value { (table.now ≡ values) × ((k : ℕ) × (verdict_of (drop i text.now) ≡ Verdict.Valid k)) }
+    requires table_value { (table.now ≡ values) × ((k : ℕ) × (verdict_of (drop i text.now) ≡ Ok k)) }
     requires i_in_bounds { (i ≤ length text.now) × (length text.now ≤ i + 8) }
     requires text_in_bounds { o + length (bytes_of (drop i text.now)) ≤ length out.old }
     ensures { out.new ≡ sets out.old o (bytes_of (drop i text.now)) }
@@ -178,7 +174,7 @@ fn rest(table: &[u8; 256], text: &[u8], i: usize, out: &mut [u8], o: usize)
 
 // Stores the three bytes of a group that is not the last: those of the groups after it are left to store.
 fn put(table: &[u8; 256], text: &[u8], i: usize, out: &mut [u8], o: usize)
-    requires table_value { (table.now ≡ values) × ((k : ℕ) × (verdict_of (drop i text.now) ≡ Verdict.Valid k)) }
+    requires table_value { (table.now ≡ values) × ((k : ℕ) × (verdict_of (drop i text.now) ≡ Ok k)) }
     requires i_in_bounds { (i + 4 < length text.now) × (o + length (bytes_of (drop i text.now)) ≤ length out.old) }
     ensures { sets out.new (o + 3) (bytes_of (drop (i + 4) text.now))
         ≡ sets out.old o (bytes_of (drop i text.now)) }

@@ -4,9 +4,7 @@ ghost use Rattle.std.proofs.lemmas.List.Edits.{sets};
 ghost use Rattle.base64_codec.specs.Encode.{text_of};
 ghost use Rattle.base64_codec.specs.Encode as Encode;
 
-use crate::alphabet::letter;
-
-const PAD: u8 = 61;
+use crate::alphabet::{PAD, letter};
 
 // Stores the text of `data` in `out` from place `at` on.
 pub(crate) fn fill(data: &[u8], out: &mut [u8], at: usize)
