@@ -26,7 +26,7 @@ table ss o = record { sessions = ss; owed = o }
 pub same-sessions : (t : Table) (i : ℕ) (o : Option (ℕ × Due)) → table (set t.sessions i (session_at t i)) o ≡ table t.sessions o
 same-sessions t i o = ap (λ (ss : List Session). table ss o) (set-get_or t.sessions i no_session)
 
-pub told-step : (t : Table) (i : ℕ) (p : Place) (w : Told) (r : Reply) → step_by t i p (tells w r) ≡ stepped t w r
+pub told-step : (t : Table) (i : ℕ) (p : Place) (w : Told) (r : Option Reply) → step_by t i p (tells w r) ≡ stepped t w r
 told-step t i p w r = ap (λ (x : Table). stepped x w r) (same-sessions t i t.owed)
 
 -- what the session owed is settled

@@ -109,7 +109,7 @@ unfolding finish_of
 right-counts s c = record { counted = c; finish = ap finishing (zero ∙ none-started s.files) ∙ go (first is_started s.files) }
   where
     finishing : Bool → Change
-    finishing b = cond b (asks Due.Commit) (drops Told.Discarded (session_reply Status.Einval s))
+    finishing b = cond b (asks Due.Commit) (drops Told.Discarded (Some (session_reply Status.Einval s)))
 
     zero : eqb s.started 0 ≡ eqb (total started_share s.files) 0
     zero = ap (λ (n : ℕ). eqb n 0) c.started

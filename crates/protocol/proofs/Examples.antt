@@ -171,7 +171,7 @@ record Computed : Type 0 where
   one-calls : console_calls 0 (all_given (start (replicate text_limit 0)) one_piece) ≡ (1, Move.allow (ascii "m")) ∷ []
   two-calls : console_calls 0 (all_given (start ones) two-pieces) ≡ (1, Move.allow (ascii "m")) ∷ []
   -- "No reply is longer than 124 bytes": one has as many
-  longest : let r = file_reply Status.Progress (asked_session 0 (replicate 32 105)) (opening (replicate 32 102) 0) count_limit in
+  longest : let r = Some (file_reply Status.Progress (asked_session 0 (replicate 32 105)) (opening (replicate 32 102) 0) count_limit) in
       length (reply_bytes r) ≡ reply_room
 
 computed : Computed

@@ -44,8 +44,8 @@ pub record Kept (ss : List Session) (m : List Mark) (d : Command) (scratch : Lis
   pub none : NoneDone (idle ss) out.table
   pub taken : is_unfed out.told ≡ false
 
-pub kept-plain : {ss : List Session} {m : List Mark} {d : Command} {scratch : List ℕ} (t : Table) (w : Told) (r : Reply) → is_plain w ≡ true
-    → TableOK t (Mark.read d ∷ m) → NoneDone (idle ss) t → Kept ss m d scratch (stepped t w r)
+pub kept-plain : {ss : List Session} {m : List Mark} {d : Command} {scratch : List ℕ} (t : Table) (w : Told) (r : Option Reply)
+    → is_plain w ≡ true → TableOK t (Mark.read d ∷ m) → NoneDone (idle ss) t → Kept ss m d scratch (stepped t w r)
 kept-plain {ss} {m} {d} {scratch} t w r e ok none =
     let p = plain w e in record { ok = rw (p.silent scratch) ok; none = none; taken = p.taken }
 
@@ -68,7 +68,8 @@ module _ {ss : List Session} {m : List Mark} {d : Command} (sound : Sound (idle 
   others j n o = unique-other session_used id_of no_session ss i (Meaning.id_of d) sound.alone h.used h.id j n o
 
   -- it is put back as s, with an ask told and owed, or none
-  pub kept_put : {scratch : List ℕ} (s : Session) (o : Option (ℕ × Due)) (w : Told) (r : Reply) (x : Option Heard) → hearing w scratch ≡ x
+  pub kept_put : {scratch : List ℕ} (s : Session) (o : Option (ℕ × Due)) (w : Told) (r : Option Reply) (x : Option Heard)
+      → hearing w scratch ≡ x
       → is_unfed w ≡ false
       → is_owed o ≡ is_heard x
       → SessionOK (is_heard x) (hearing_mark x (Mark.read d ∷ m)) s

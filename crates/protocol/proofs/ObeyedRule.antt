@@ -10,7 +10,6 @@ use Rattle.decimal.specs.declared.Number.{Number}
 use Rattle.frames.proofs.Choices.{by_cond}
 use Rattle.protocol.specs.Table.{no_session, file_at, id_of, session_used, find_session, first, is_absent, put_session}
 use Rattle.protocol.specs.Actions.{kind_of}
-use Rattle.protocol.specs.Replies.{no_reply}
 use Rattle.protocol.specs.Change.{stepped}
 use Rattle.protocol.specs.Receives.{bad_paths}
 use Rattle.protocol.specs.Sessions.{id_in, request_in, asked_session, naming_session, send_room, receive_room, absent_result}
@@ -46,7 +45,7 @@ module _ {ss : List Session} {c : PlacedCommand} {text scratch : List ℕ} {d : 
         session-read d m None (session_in ss i)
         (λ o. rw means.id at (found_nowhere session_used id_of no_session ss (id_in c text) refl e i o)) (ok.each i)
 
-    unknown-kept : (w : Told) (r : Reply) → is_plain w ≡ true → Kept ss m d scratch (stepped (idle ss) w r)
+    unknown-kept : (w : Told) (r : Option Reply) → is_plain w ≡ true → Kept ss m d scratch (stepped (idle ss) w r)
     unknown-kept w r p =
         kept-plain (idle ss) w r p (record { each = other; owed = tt; told = ok.told; served = ok.served })
         (none-same (idle ss) None)
@@ -54,9 +53,9 @@ module _ {ss : List Session} {c : PlacedCommand} {text scratch : List ℕ} {d : 
     -- a new session, which is not open and has no file
     new-kept : (i : ℕ) (s : Session) (w : Told) → is_plain w ≡ true → first is_absent ss ≡ Some i
         → (s.state ≡ SessionState.Open → ⊥) → is_supplied s.state ≡ false → ((j : ℕ) → (file_at s j).state ≡ FileState.Free)
-        → Kept ss m d scratch (stepped (put_session (idle ss) i s) w no_reply)
+        → Kept ss m d scratch (stepped (put_session (idle ss) i s) w None)
     new-kept i s w p q o n free =
-        kept-plain _ w no_reply p
+        kept-plain _ w None p
         (put-ok (idle ss) i s None (first-at is_absent no_session ss i q).0 (λ j _. other j) (shut_ok o n) tt ok.told
         ok.served)
         (none_free (idle ss) i s None free)
@@ -77,18 +76,18 @@ module _ {ss : List Session} {c : PlacedCommand} {text scratch : List ℕ} {d : 
         (λ (z : SessionState.Naming ≡ SessionState.Open). let w : ◌≡◌ {A = ℕ} 0 1 = cc in omega arith) refl free-files)
 
     absent-kept : (k : Kind) → Kept ss m d scratch (absent_result (idle ss) asked c.size k)
-    absent-kept Kind.Ignore = unknown-kept Told.Ignored no_reply refl
+    absent-kept Kind.Ignore = unknown-kept Told.Ignored None refl
     absent-kept Kind.Ask = room-kept (first is_absent ss) refl
     absent-kept Kind.Receive = paths-kept c.size (first is_absent ss) refl
-    absent-kept Kind.Invalid = unknown-kept Told.Ignored no_reply refl
-    absent-kept Kind.Cancel = unknown-kept Told.Ignored no_reply refl
-    absent-kept Kind.Withdraw = unknown-kept Told.Ignored no_reply refl
-    absent-kept Kind.File = unknown-kept Told.Ignored no_reply refl
-    absent-kept Kind.Data = unknown-kept Told.Ignored no_reply refl
-    absent-kept Kind.EndData = unknown-kept Told.Ignored no_reply refl
-    absent-kept Kind.Finish = unknown-kept Told.Ignored no_reply refl
-    absent-kept Kind.Path = unknown-kept Told.Ignored no_reply refl
-    absent-kept Kind.Request = unknown-kept Told.Ignored no_reply refl
+    absent-kept Kind.Invalid = unknown-kept Told.Ignored None refl
+    absent-kept Kind.Cancel = unknown-kept Told.Ignored None refl
+    absent-kept Kind.Withdraw = unknown-kept Told.Ignored None refl
+    absent-kept Kind.File = unknown-kept Told.Ignored None refl
+    absent-kept Kind.Data = unknown-kept Told.Ignored None refl
+    absent-kept Kind.EndData = unknown-kept Told.Ignored None refl
+    absent-kept Kind.Finish = unknown-kept Told.Ignored None refl
+    absent-kept Kind.Path = unknown-kept Told.Ignored None refl
+    absent-kept Kind.Request = unknown-kept Told.Ignored None refl
 
   -- a command read while nothing is owed
   pub obey-kept : Kept ss m d scratch (obey_of (idle ss) c text scratch)

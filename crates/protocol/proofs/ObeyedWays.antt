@@ -15,7 +15,6 @@ use Rattle.command.specs.declared.Action.TheVariants as Action
 use Rattle.command.specs.declared.FileType.{FileType}
 use Rattle.command.specs.declared.Command.{Command as PlacedCommand}
 use Rattle.protocol.specs.Table.{absent_session, no_file, file_at, id_of, file_id_of, is_used, file_used, is_free, waiting, put_file, moved}
-use Rattle.protocol.specs.Replies.{no_reply}
 use Rattle.protocol.specs.Change.{change, asks, opens, ask_of, step_by}
 use Rattle.protocol.specs.Files.{Request, opening, link_like, declared_by, is_directory, open_due, failed_file, write_due}
 use Rattle.protocol.specs.Receives.{named, request_of}
@@ -149,7 +148,7 @@ module _ {ss : List Session} {c : PlacedCommand} {text scratch : List ℕ} {d : 
     open_kept : Keeps (opens j record-asked (open_due (is_directory q.type) j))
     open_kept =
         let due = open_due (is_directory q.type) j in
-        kept_put sound ok h new (Some (i, due)) _ no_reply (Some Heard.opens) (hears-open (is_directory q.type)) refl refl
+        kept_put sound ok h new (Some (i, due)) _ None (Some Heard.opens) (hears-open (is_directory q.type)) refl refl
         (record { sends = λ _. opened; serves = λ e. no_way (sym e ∙ ap is_supplied o) })
         (asked_here ss i new (Question.asks d Heard.opens) due h.inside
         (record { command = d; heard = Heard.opens; asked = refl; id = h.id; about = about q.type refl type-ok }))
@@ -218,7 +217,7 @@ module _ {ss : List Session} {c : PlacedCommand} {text scratch : List ℕ} {d : 
       write_kept : Keeps (asks (write_due last j q.long))
       write_kept =
           let due = write_due last j q.long in
-          kept_put sound ok h s (Some (i, due)) _ no_reply (Some heard) (hears-part last) refl refl
+          kept_put sound ok h s (Some (i, due)) _ None (Some heard) (hears-part last) refl refl
           (stays (Some heard) ends_not (λ _ n _. part_content last (key_of s (file_at s n))))
           (asked_here ss i s (Question.asks d heard) due h.inside
           (record { command = d; heard = heard; asked = refl; id = h.id; about = part-about last }))
@@ -228,7 +227,7 @@ module _ {ss : List Session} {c : PlacedCommand} {text scratch : List ℕ} {d : 
   -- ---- a commit is asked: the session stands no more
   commit-kept : s.state ≡ SessionState.Open → is_data d ≡ false → Keeps (asks Due.Commit)
   commit-kept o b =
-      kept_put sound ok h s (Some (i, Due.Commit)) _ no_reply (Some Heard.commits) refl refl refl
+      kept_put sound ok h s (Some (i, Due.Commit)) _ None (Some Heard.commits) refl refl refl
       (session-heard d m (Some Heard.commits) s (λ _ _. committing refl (equals-same _ _ h.id))
       (λ _ j _. content-none (key_of s (file_at s j)) d b) (λ e. no_way (sym e ∙ ap is_supplied o)) (ok.each i))
       (asked_here ss i s (Question.asks d Heard.commits) Due.Commit h.inside
@@ -237,9 +236,9 @@ module _ {ss : List Session} {c : PlacedCommand} {text scratch : List ℕ} {d : 
       (none-put (idle ss) i s (Some (i, Due.Commit)) (λ n g. (g, refl, refl, refl)))
 
   -- ---- paths: one that names them is not open, nor is one that waits
-  path-kept : (j : ℕ) → s.state ≡ SessionState.Naming → Keeps (change (Edit.Filed j) (named q.file) (News.Tells Told.Path) no_reply)
+  path-kept : (j : ℕ) → s.state ≡ SessionState.Naming → Keeps (change (Edit.Filed j) (named q.file) (News.Tells Told.Path) None)
   path-kept j o =
-      kept_put sound ok h (put_file s j (named q.file)) None Told.Path no_reply None refl refl refl
+      kept_put sound ok h (put_file s j (named q.file)) None Told.Path None None refl refl refl
       (shut_ok
       (λ (z : s.state ≡ SessionState.Open). let x : SessionState.Naming ≡ SessionState.Open = sym o ∙ z in
       let w : ◌≡◌ {A = ℕ} 0 1 = cc in omega arith) (ap is_supplied o))
@@ -247,9 +246,9 @@ module _ {ss : List Session} {c : PlacedCommand} {text scratch : List ℕ} {d : 
       (none-file (idle ss) i j (named q.file) None
       (λ (e : FileState.Named ≡ FileState.Done). let z : ◌≡◌ {A = ℕ} 0 1 = cc in omega arith))
 
-  last-kept : Keeps (change Edit.Waits no_file (News.Tells Told.LastPath) no_reply)
+  last-kept : Keeps (change Edit.Waits no_file (News.Tells Told.LastPath) None)
   last-kept =
-      kept_put sound ok h (waiting s) None Told.LastPath no_reply None refl refl refl
+      kept_put sound ok h (waiting s) None Told.LastPath None None refl refl refl
       (shut_ok (λ (z : SessionState.Waiting ≡ SessionState.Open). let w : ◌≡◌ {A = ℕ} 0 1 = cc in omega arith) refl)
       tt ok.told (none_free (idle ss) i (waiting s) None free-files)
 
@@ -271,7 +270,7 @@ module _ {ss : List Session} {c : PlacedCommand} {text scratch : List ℕ} {d : 
 
     request-kept : Keeps (request_of q.file)
     request-kept =
-        kept_put sound ok h asked-for (Some (i, Due.Request)) _ no_reply (Some Heard.requests) refl refl refl
+        kept_put sound ok h asked-for (Some (i, Due.Request)) _ None (Some Heard.requests) refl refl refl
         (record {
           sends = λ (z : s.state ≡ SessionState.Open). let x : SessionState.Serving ≡ SessionState.Open = sym o ∙ z in
               let w : ◌≡◌ {A = ℕ} 0 1 = cc in absurd (omega arith);

@@ -13,7 +13,7 @@ use Rattle.octets.specs.Outcome.{Outcome, outcome}
 use Rattle.frames.specs.Calls.{scan_of, text_of}
 use Rattle.frames.proofs.CallLaws.{call-report, consumed_le, consumes}
 use Rattle.protocol.specs.Table.{session_at, find_session}
-use Rattle.protocol.specs.Replies.{reply_room, no_reply}
+use Rattle.protocol.specs.Replies.{reply_room}
 use Rattle.command.specs.Slots.{nowhere}
 use Rattle.frames.proofs.Choices.{by_cond}
 use Rattle.protocol.specs.Change.{tells, told_by, telling, step_by}
@@ -46,12 +46,12 @@ use Rattle.protocol.proofs.CutsCalls.{report-taken}
 
 -- ---- a step that is a refusal leaves the table, and replies nothing
 abbrev Leaves : Table → Stepped → Type 0
-Leaves t s = is_refused s.told ≡ true → (s.table ≡ t) × (s.reply ≡ no_reply)
+Leaves t s = is_refused s.told ≡ true → (s.table ≡ t) × (s.reply ≡ None)
 
 -- by a change of one session that is not refused, or that only tells the refusal
 module _ (t : Table) (i : ℕ) where
-  refusal-leaves : (n : ℕ) → Leaves t (step_by t i nowhere (tells (Told.Refused n) no_reply))
-  refusal-leaves n e = let s = told-step t i nowhere (Told.Refused n) no_reply in (ap (λ (x : Stepped). x.table) s, refl)
+  refusal-leaves : (n : ℕ) → Leaves t (step_by t i nowhere (tells (Told.Refused n) None))
+  refusal-leaves n e = let s = told-step t i nowhere (Told.Refused n) None in (ap (λ (x : Stepped). x.table) s, refl)
 
   asked-leaves : (c : Change) → is_refused (told_by nowhere c.news) ≡ false
       → Leaves t (step_by t i nowhere (cond (is_asked (session_at t i).state) c not_asked))
@@ -112,7 +112,7 @@ call-promise r s reply leaves z = go (ltb (length reply) reply_room) refl
     go true e = record { refused = λ _. (refl, refl, refl); short = omega arith }
     go false e =
         record {
-          refused = λ q. let l = leaves q in rw (l.0, l.1, not-due no_reply reply refl) (refl, refl, refl);
+          refused = λ q. let l = leaves q in rw (l.0, l.1, not-due reply) (refl, refl, refl);
           short = (reply-sent s.reply reply z.reply (ltb-false _ _ e)).short;
         }
 

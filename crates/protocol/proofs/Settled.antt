@@ -11,7 +11,7 @@ use Rattle.command.specs.Slots.{nowhere}
 use Rattle.command.specs.Meaning as Meaning
 use Rattle.protocol.specs.Table.{absent_session, no_file, no_session, session_at, file_at, id_of, file_id_of, session_used, file_used}
 use Rattle.protocol.specs.Table.{is_present, is_used, put_file, moved}
-use Rattle.protocol.specs.Replies.{no_reply, session_reply, failure_status}
+use Rattle.protocol.specs.Replies.{session_reply, failure_status}
 use Rattle.protocol.specs.Change.{drops, cleared, told_by, after, step_by}
 use Rattle.protocol.specs.Files.{failed_file}
 use Rattle.protocol.specs.Receives.{request_fails}
@@ -196,7 +196,7 @@ abbrev After : List Session → ℕ → List Mark → Bool → Due → Change �
 After ss i m v due c = TableOK (step_by (table ss (Some (i, due))) i nowhere c).table (Mark.answer v (last_ask m) ∷ m)
 
 module _ (ss : List Session) (i : ℕ) (m : List Mark) where
-  dropped-kept : (v : Bool) (due : Due) (w : Told) (r : Reply) → Before ss i m due → After ss i m v due (drops w r)
+  dropped-kept : (v : Bool) (due : Due) (w : Told) (r : Option Reply) → Before ss i m due → After ss i m v due (drops w r)
   dropped-kept v due w r b = rw (own-cleared i due) (put-answered b.0 b.1 v absent_session absent-ok)
 
   done-kept : (due : Due) → is_refused (told_by nowhere (done_by (session_in ss i) due).news) ≡ false → Before ss i m due
@@ -217,7 +217,7 @@ module _ (ss : List Session) (i : ℕ) (m : List Mark) where
   done-kept (Due.WriteLast j n) _ b =
       rw (own-cleared i (Due.WriteLast j n))
       (settle-part b.0 b.1 refl true true j n (fits b.0 b.1) (asking b.0 b.1).about FileState.Done refl _ done-start)
-  done-kept Due.Commit _ b = dropped-kept true Due.Commit Told.Committed no_reply b
+  done-kept Due.Commit _ b = dropped-kept true Due.Commit Told.Committed None b
   done-kept Due.Request q b = no_way q
 
   -- a file that fails, at its open or at a part
@@ -256,7 +256,7 @@ module _ (ss : List Session) (i : ℕ) (m : List Mark) where
   failed-kept e (Due.WriteLast j n) b =
       part-failed true (Due.WriteLast j n) j n b (fits b.0 b.1) (asking b.0 b.1).about (failure_status e) refl
   failed-kept e Due.Commit b =
-      dropped-kept false Due.Commit Told.Discarded (session_reply (failure_status e) (session_in ss i)) b
+      dropped-kept false Due.Commit Told.Discarded (Some (session_reply (failure_status e) (session_in ss i))) b
   failed-kept e Due.Request b = request-failed b (failure_status e)
 
   unlisted-kept : (due : Due) → is_refused (told_by nowhere (unlisted_by (session_in ss i) due).news) ≡ false → Before ss i m due

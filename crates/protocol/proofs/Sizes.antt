@@ -15,7 +15,7 @@ use Rattle.command.specs.declared.Command.{Command}
 use Rattle.protocol.specs.Table.{zeros, id_room, file_room, session_room, free_file, absent_session, empty_table, no_file, no_session}
 use Rattle.protocol.specs.Table.{session_at, file_at, id_of, padded, find_session, first, session_used, is_absent, put_session, put_file}
 use Rattle.protocol.specs.Actions.{kind_of}
-use Rattle.protocol.specs.Replies.{no_reply, session_reply, failure_status}
+use Rattle.protocol.specs.Replies.{session_reply, failure_status}
 use Rattle.protocol.specs.Change.{change, telling, drops, edited, told_by, after, step_by}
 use Rattle.protocol.specs.Files.{Request, count_limit, is_directory, open_due, settled, failed_file, write_due}
 use Rattle.protocol.specs.Receives.{bad_paths, named, request_fails}
@@ -83,15 +83,15 @@ file-sized s j f h l =
     record { id = h.id; files = set-any (λ (n : ℕ) (x : FileRecord). length x.id ≤ id_room) s.files j f no_file l h.files }
 
 -- ---- what is replied
-pub none-sized : SizedReply no_reply
-none-sized = record { id = omega arith; file = omega arith; size = omega arith }
+pub none-sized : SizedReply None
+none-sized = tt
 
-session-sized : (w : Status) (s : Session) → SizedSession s → SizedReply (session_reply w s)
+session-sized : (w : Status) (s : Session) → SizedSession s → SizedReply (Some (session_reply w s))
 session-sized w s h = record { id = h.id; file = omega arith; size = omega arith }
 
 -- ---- the rule of one session
 module _ (s : Session) (h : SizedSession s) where
-  dropped-sized : (w : Told) (r : Reply) → SizedReply r → SizedChange s (drops w r)
+  dropped-sized : (w : Told) (r : Option Reply) → SizedReply r → SizedChange s (drops w r)
   dropped-sized w r k = record { session = absent-sized; reply = k }
 
   settled-sized : (j : ℕ) (g : FileState) (n : ℕ) (w : Status) (size : ℕ) → size ≤ count_limit → SizedChange s (settled s j g n w size)
@@ -101,18 +101,18 @@ module _ (s : Session) (h : SizedSession s) where
   code-sized : (j : ℕ) (w : Status) → SizedChange s (failed_file s j w)
   code-sized j w = settled-sized j FileState.Failed (file_at s j).count w 0 (omega arith)
 
-  about-sized : (q : Request) {r : Reply} → About s q r → SizedReply r
+  about-sized : (q : Request) {r : Option Reply} → About s q r → SizedReply r
   about-sized q nobody = none-sized
   about-sized q (session w) = session-sized w s h
   about-sized q (file w) = record { id = h.id; file = padded-length q.file; size = omega arith }
 
   -- nothing but something told or asked
-  same-sized : {w : News} → SizedChange s (change Edit.Same no_file w no_reply)
+  same-sized : {w : News} → SizedChange s (change Edit.Same no_file w None)
   same-sized = record { session = h; reply = none-sized }
 
   -- a record with the command's file id
   filed-sized : (q : Request) (j : ℕ) (f : FileRecord) → f.id ≡ padded q.file → {w : News}
-      → SizedChange s (change (Edit.Filed j) f w no_reply)
+      → SizedChange s (change (Edit.Filed j) f w None)
   filed-sized q j f e = record { session = file-sized s j f h (rw e (padded-length q.file)); reply = none-sized }
 
   way-sized : (q : Request) {c : Change} → Way s q c → SizedChange s c
@@ -132,7 +132,7 @@ module _ (s : Session) (h : SizedSession s) where
   done-change (Due.OpenDirectory j) = settled-sized j FileState.Done 0 Status.Ok 0 (omega arith)
   done-change (Due.Write j n) = settled-sized j FileState.Started (grown s j n) Status.Progress (grown s j n) (omega arith)
   done-change (Due.WriteLast j n) = settled-sized j FileState.Done (grown s j n) Status.Ok (grown s j n) (omega arith)
-  done-change Due.Commit = dropped-sized Told.Committed no_reply none-sized
+  done-change Due.Commit = dropped-sized Told.Committed None none-sized
   done-change Due.Request = same-sized
 
   request-sized : (w : Status) → SizedChange s (request_fails w s)
@@ -171,7 +171,7 @@ module _ (s : Session) (h : SizedSession s) where
   decided-change Decision.Deny =
       by_cond (SizedChange s) (is_asked s.state) (λ _. dropped-sized Told.Nothing _ (session-sized _ s h))
       (λ _. same-sized)
-  decided-change Decision.Drop = dropped-sized Told.Nothing no_reply none-sized
+  decided-change Decision.Drop = dropped-sized Told.Nothing None none-sized
 
 -- what the change of a command tells
 way-tells : (s : Session) (q : Request) (p : Place) {c : Change} → Way s q c → Tells p (told_by p c.news)

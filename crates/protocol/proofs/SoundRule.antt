@@ -11,7 +11,6 @@ use Rattle.std.proofs.lemmas.Option.{none-some}
 use Rattle.std.specs.Prelude.{Option, Some, None}
 use Rattle.protocol.specs.Table.{file_room, free_file, no_files, absent_session, no_file, file_at, id_of, file_id_of, padded, is_present}
 use Rattle.protocol.specs.Table.{is_used, session_used, file_used, with_state, put_file, moved}
-use Rattle.protocol.specs.Replies.{no_reply}
 use Rattle.protocol.specs.Change.{change, tells, asks, opens, drops, turns, edited}
 use Rattle.protocol.specs.Files.{opening, settled, failed_file, count_limit}
 use Rattle.protocol.specs.Receives.{named, request_of}
@@ -171,15 +170,15 @@ module _ (quiet : ℕ) (k : List ℕ) (le : quiet ≤ 2) (id : IsId k) where
   naming-sound n = new-sound SessionState.Naming refl n
 
 -- ---- changes
-pub tells-steps : {idle : Bool} {s : Session} {due : Option Due} (w : Told) (r : Reply) → SoundSession s due
+pub tells-steps : {idle : Bool} {s : Session} {due : Option Due} (w : Told) (r : Option Reply) → SoundSession s due
     → Steps idle s due (tells w r)
 tells-steps w r ok = record { sound = ok; same_id = λ u. (u, refl); asking = λ e. no_way (sym e) }
 
-pub drops-steps : {idle : Bool} {s : Session} {due : Option Due} (w : Told) (r : Reply) → Steps idle s due (drops w r)
+pub drops-steps : {idle : Bool} {s : Session} {due : Option Due} (w : Told) (r : Option Reply) → Steps idle s due (drops w r)
 drops-steps w r = record { sound = absent-sound; same_id = λ u. no_way (sym u); asking = λ e. no_way (sym e) }
 
 -- the last path is named
-pub waits-steps : {idle : Bool} {s : Session} (w : Told) (r : Reply) → SoundSession s None → s.state ≡ SessionState.Naming
+pub waits-steps : {idle : Bool} {s : Session} (w : Told) (r : Option Reply) → SoundSession s None → s.state ≡ SessionState.Naming
     → Steps idle s None (change Edit.Waits no_file (News.Tells w) r)
 waits-steps {s = s} w r ok o =
     let used : session_used s ≡ true = ap is_present o in
@@ -208,7 +207,7 @@ redue next ok opens fits =
     }
 
 -- a request is settled
-pub clears-steps : {idle : Bool} {s : Session} (w : Told) (r : Reply) → SoundSession s (Some Due.Request)
+pub clears-steps : {idle : Bool} {s : Session} (w : Told) (r : Option Reply) → SoundSession s (Some Due.Request)
     → Steps idle s (Some Due.Request) (change Edit.Same no_file (News.Clears w) r)
 clears-steps w r ok = record { sound = redue None ok (λ j e. e) tt; same_id = λ u. (u, refl); asking = λ e. no_way (sym e) }
 
@@ -248,7 +247,7 @@ due-present (Due.WriteLast j n) = refl
 due-present Due.Commit = refl
 due-present Due.Request = refl
 
-pub turns-steps : {idle : Bool} {s : Session} {due : Option Due} (g : SessionState) (r : Reply) → SoundSession s due
+pub turns-steps : {idle : Bool} {s : Session} {due : Option Due} (g : SessionState) (r : Option Reply) → SoundSession s due
     → is_shut s.state ≡ true → session_used s ≡ true → is_present g ≡ true → Steps idle s due (turns g r)
 turns-steps {s = s} {due} g r ok shut used p =
     record { sound = go due ok; same_id = λ _. (used, refl); asking = λ e. no_way (sym e) }
@@ -335,7 +334,7 @@ module _ {s : Session} (ok : SoundSession s None) where
       }
 
   -- a new record, whatever is told or asked of it
-  files-steps : (present : session_used s ≡ true) (j : ℕ) (f : FileRecord) (w : News) (r : Reply) → j < length s.files → SoundFile f
+  files-steps : (present : session_used s ≡ true) (j : ℕ) (f : FileRecord) (w : News) (r : Option Reply) → j < length s.files → SoundFile f
       → FileFor s.state j f
       → ((n : ℕ) → (n ≡ j → ⊥) → file_used (file_at s n) ≡ true → file_id_of (file_at s n) ≡ file_id_of f → ⊥)
       → (f.state ≡ FileState.Opening → opens_at (due_after None w) ≡ Some j)
@@ -360,12 +359,12 @@ module _ {s : Session} (ok : SoundSession s None) where
       → (let new = put_file s j (opening k l) in FileIs new j FileState.Opening → (file_at new j).declared ≡ l → Fits new d)
       → Steps true s None (opens j (opening k l) d)
   opens-steps o j k l d h id new at due fits =
-      files-steps (ap is_present o) j (opening k l) (News.Asks d) no_reply h (opening-file k l id)
+      files-steps (ap is_present o) j (opening k l) (News.Asks d) None h (opening-file k l id)
       (rw o (λ e. named-opening (sym e))) (λ n _ u e. new n u (e ∙ padded-id k id.short)) (λ _. at)
       (λ same f. (o ∙ sym due, fits f (ap (λ (x : FileRecord). x.declared) same)))
 
   -- a path is named, of an id that none has
-  pub path-steps : s.state ≡ SessionState.Naming → (j : ℕ) (k : List ℕ) (w : Told) (r : Reply) → j < length s.files
+  pub path-steps : s.state ≡ SessionState.Naming → (j : ℕ) (k : List ℕ) (w : Told) (r : Option Reply) → j < length s.files
       → IsFileId FileState.Named k → ((n : ℕ) → file_used (file_at s n) ≡ true → file_id_of (file_at s n) ≡ k → ⊥)
       → Steps true s None (change (Edit.Filed j) (named k) (News.Tells w) r)
   path-steps o j k w r h id new =
@@ -375,7 +374,7 @@ module _ {s : Session} (ok : SoundSession s None) where
   -- a file is asked for: it takes the only place at which this session has a record, so that its id may be any
   pub request-steps : s.state ≡ SessionState.Serving → (k : List ℕ) → IsFileId FileState.Named k → Steps true s None (request_of k)
   request-steps o k id =
-      files-steps (ap is_present o) 0 (named k) (News.Asks Due.Request) no_reply (rw ok.room (omega arith)) (named-file k id)
+      files-steps (ap is_present o) 0 (named k) (News.Asks Due.Request) None (rw ok.room (omega arith)) (named-file k id)
       (rw o (inr (refl, refl))) (λ n r u _. other n r u (rw o at (ok.file_for n))) named-opening (λ _ f. (o, f))
     where
       other : (n : ℕ) → (n ≡ 0 → ⊥) → file_used (file_at s n) ≡ true → FileFor SessionState.Serving n (file_at s n) → ⊥

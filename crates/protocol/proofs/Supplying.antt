@@ -12,7 +12,6 @@ use Rattle.command.specs.Slots.{nowhere}
 use Rattle.command.specs.Framed.{framed_of}
 use Rattle.protocol.specs.Table.{session_at, file_at, id_of, file_id_of, with_state}
 use Rattle.protocol.specs.Written.{piece_values}
-use Rattle.protocol.specs.Replies.{no_reply}
 use Rattle.protocol.specs.Change.{tells, cleared, step_by}
 use Rattle.protocol.specs.Calls.{answered_by}
 use Rattle.protocol.specs.Supplies.{Supply, values_for, is_listing, turn_of, is_held_back, change_for, supply_of}
@@ -231,7 +230,7 @@ Steps f t m u i n b = Supplied (record { framing = f; table = t }) m u (outcome 
 
 module _ (f : Framing) {t : Table} {m : List Mark} (sound : Sound t) (ok : TableOK t m) where
   -- the session stays as it is
-  same-steps : (u : Supply) (i n : ℕ) (b : List ℕ) → change_for u ≡ tells Told.Nothing no_reply → Writes m (part_of u) (take n b)
+  same-steps : (u : Supply) (i n : ℕ) (b : List ℕ) → change_for u ≡ tells Told.Nothing None → Writes m (part_of u) (take n b)
       → Steps f t m u i n b
   same-steps u i n b e w =
       subst (λ (c : Change). Supplied (record { framing = f; table = t }) m u (outcome (answered_by f (step_by t i nowhere c) n) b)) (sym e)

@@ -17,7 +17,7 @@ use Rattle.command.specs.declared.Action.{Action}
 use Rattle.protocol.specs.Table.{no_file, file_at, file_id_of, is_present, is_used, file_used, find_file, first, is_free, is_started_state}
 use Rattle.protocol.specs.Table.{is_started}
 use Rattle.protocol.specs.Actions.{result_in, kind_of}
-use Rattle.protocol.specs.Replies.{no_reply, session_reply, file_reply}
+use Rattle.protocol.specs.Replies.{session_reply, file_reply}
 use Rattle.protocol.specs.Change.{change, tells, asks, opens, drops}
 use Rattle.protocol.specs.Files.{Request, ignored, opening, file_status, link_like, is_rsync, bad_permissions, bad_size, declared_by}
 use Rattle.protocol.specs.Files.{is_directory, open_due, passes, ends_short}
@@ -55,10 +55,10 @@ brought false = FileState.Started
 
 module _ (s : Session) (q : Request) where
   -- a reply about the session, or about the command's file
-  pub data About : Reply → Type 0 where
-    nobody : About no_reply
-    session : (w : Status) → About (session_reply w s)
-    file : (w : Status) → About (file_reply w s (opening q.file 0) 0)
+  pub data About : Option Reply → Type 0 where
+    nobody : About None
+    session : (w : Status) → About (Some (session_reply w s))
+    file : (w : Status) → About (Some (file_reply w s (opening q.file 0) 0))
 
   -- a new file or path, with room at place j
   pub record NewFile (j : ℕ) : Type 0 where
@@ -80,9 +80,9 @@ module _ (s : Session) (q : Request) where
     waits : {j : ℕ} → ((file_at s j).state ≡ FileState.Started → ⊥) → Unstarted (Some j)
 
   pub data Way : Change → Type 0 where
-    nothing : (w : Told) (r : Reply) → is_plain w ≡ true → About r → ends q.action ≡ false
+    nothing : (w : Told) (r : Option Reply) → is_plain w ≡ true → About r → ends q.action ≡ false
         → (s.state ≡ SessionState.Open → brings q.action ≡ true → Unstarted (find_file s q.file)) → Way (tells w r)
-    dropped : (w : Told) (r : Reply) → is_plain w ≡ true → About r → Way (drops w r)
+    dropped : (w : Told) (r : Option Reply) → is_plain w ≡ true → About r → Way (drops w r)
     open_asked : (j : ℕ) → s.state ≡ SessionState.Open → NewFile j → link_like q.type ≡ false
         → Way (opens j (opening q.file (declared_by q.type q.size)) (open_due (is_directory q.type) j))
     part_failed : (j : ℕ) (w : Status) → s.state ≡ SessionState.Open → PartOf j → Way (failed_file s j w)
@@ -91,9 +91,9 @@ module _ (s : Session) (q : Request) where
         → Way (asks (write_due last j q.long))
     commit_asked : s.state ≡ SessionState.Open → brings q.action ≡ false → s.started ≡ 0 → Way (asks Due.Commit)
     path_named : (j : ℕ) → s.state ≡ SessionState.Naming → NewFile j
-        → Way (change (Edit.Filed j) (named q.file) (News.Tells Told.Path) no_reply)
+        → Way (change (Edit.Filed j) (named q.file) (News.Tells Told.Path) None)
     last_named : s.state ≡ SessionState.Naming → q.action ≡ Action.File
-        → Way (change Edit.Waits no_file (News.Tells Told.LastPath) no_reply)
+        → Way (change Edit.Waits no_file (News.Tells Told.LastPath) None)
     request_asked : s.state ≡ SessionState.Serving → q.action ≡ Action.File → Way (request_of q.file)
 
 is-started : (g : FileState) → is_started_state g ≡ true → g ≡ FileState.Started
@@ -176,7 +176,7 @@ module _ (s : Session) (q : Request) where
   -- ---- data, end_data
   module _ (o : s.state ≡ SessionState.Open) (b : brings q.action ≡ true) (e : ends q.action ≡ false) (last : Bool) where
     ignored-way : Unstarted s q (find_file s q.file) → Way s q ignored
-    ignored-way f = nothing Told.Ignored no_reply refl nobody e (λ _ _. f)
+    ignored-way f = nothing Told.Ignored None refl nobody e (λ _ _. f)
 
     module _ (j : ℕ) (found : find_file s q.file ≡ Some j) where
       waits-way : ((file_at s j).state ≡ FileState.Started → ⊥) → Way s q ignored
@@ -231,21 +231,22 @@ module _ (s : Session) (q : Request) where
   drop-plain true = refl
   drop-plain false = refl
 
-  cancel-way : Way s q (drops (drop_told s) (session_reply Status.Canceled s))
+  cancel-way : Way s q (drops (drop_told s) (Some (session_reply Status.Canceled s)))
   cancel-way = dropped (drop_told s) _ (drop-plain (is_open s.state)) (session Status.Canceled)
 
   -- one that neither brings nor ends anything
-  idle-way : (a : Action) → q.action ≡ a → brings a ≡ false → ends a ≡ false → (w : Told) (r : Reply) → is_plain w ≡ true → About s q r
+  idle-way : (a : Action) → q.action ≡ a → brings a ≡ false → ends a ≡ false → (w : Told) (r : Option Reply) → is_plain w ≡ true
+      → About s q r
       → Way s q (tells w r)
   idle-way a x b e w r p t = nothing w r p t (rw x e) (λ _ y. no_way (sym (rw x at y) ∙ b))
 
   invalid-way : (a : Action) → q.action ≡ a → brings a ≡ false → ends a ≡ false
-      → Way s q (tells (Told.Status Status.Einval) (session_reply Status.Einval s))
+      → Way s q (tells (Told.Status Status.Einval) (Some (session_reply Status.Einval s)))
   invalid-way a x b e = idle-way a x b e (Told.Status Status.Einval) _ refl (session Status.Einval)
 
   open-way : s.state ≡ SessionState.Open → (a : Action) → q.action ≡ a → Way s q (present_result s q (kind_of SessionState.Open a))
   unfolding kind_of result_in
-  open-way o Action.None a = idle-way Action.None a refl refl Told.Ignored no_reply refl nobody
+  open-way o Action.None a = idle-way Action.None a refl refl Told.Ignored None refl nobody
   open-way o Action.Send a = invalid-way Action.Send a refl refl
   open-way o Action.Receive a = invalid-way Action.Receive a refl refl
   open-way o Action.File a = file-way o a
@@ -253,14 +254,14 @@ module _ (s : Session) (q : Request) where
   open-way o Action.EndData a = part-way o (rw a) (rw a) true
   open-way o Action.Finish a = finish-way o (rw a)
   open-way o Action.Cancel a = cancel-way
-  open-way o Action.Status a = idle-way Action.Status a refl refl Told.Ignored no_reply refl nobody
+  open-way o Action.Status a = idle-way Action.Status a refl refl Told.Ignored None refl nobody
 
-  withdraw-way : Way s q (drops (drop_told s) no_reply)
-  withdraw-way = dropped (drop_told s) no_reply (drop-plain (is_open s.state)) nobody
+  withdraw-way : Way s q (drops (drop_told s) None)
+  withdraw-way = dropped (drop_told s) None (drop-plain (is_open s.state)) nobody
 
   asked-way_of : (a : Action) → q.action ≡ a → Way s q (present_result s q (kind_of SessionState.Asked a))
   unfolding kind_of result_in
-  asked-way_of Action.None a = idle-way Action.None a refl refl Told.Ignored no_reply refl nobody
+  asked-way_of Action.None a = idle-way Action.None a refl refl Told.Ignored None refl nobody
   asked-way_of Action.Send a = withdraw-way
   asked-way_of Action.Receive a = withdraw-way
   asked-way_of Action.File a = withdraw-way
@@ -272,7 +273,7 @@ module _ (s : Session) (q : Request) where
 
   waiting-way : (a : Action) → q.action ≡ a → Way s q (present_result s q (kind_of SessionState.Waiting a))
   unfolding kind_of result_in
-  waiting-way Action.None a = idle-way Action.None a refl refl Told.Ignored no_reply refl nobody
+  waiting-way Action.None a = idle-way Action.None a refl refl Told.Ignored None refl nobody
   waiting-way Action.Send a = withdraw-way
   waiting-way Action.Receive a = withdraw-way
   waiting-way Action.File a = withdraw-way
@@ -284,7 +285,7 @@ module _ (s : Session) (q : Request) where
 
   naming-way : s.state ≡ SessionState.Naming → (a : Action) → q.action ≡ a → Way s q (present_result s q (kind_of SessionState.Naming a))
   unfolding kind_of result_in
-  naming-way o Action.None a = idle-way Action.None a refl refl Told.Ignored no_reply refl nobody
+  naming-way o Action.None a = idle-way Action.None a refl refl Told.Ignored None refl nobody
   naming-way o Action.Send a = withdraw-way
   naming-way o Action.Receive a = withdraw-way
   naming-way o Action.File a = path-way o a
@@ -296,12 +297,12 @@ module _ (s : Session) (q : Request) where
 
   -- data and end_data in an open receive session, which has no started file
   unheard-way : (s.state ≡ SessionState.Open → ⊥) → ends q.action ≡ false → Way s q ignored
-  unheard-way n e = nothing Told.Ignored no_reply refl nobody e (λ o. absurd (n o))
+  unheard-way n e = nothing Told.Ignored None refl nobody e (λ o. absurd (n o))
 
   listing-way : (s.state ≡ SessionState.Open → ⊥) → (a : Action) → q.action ≡ a
       → Way s q (present_result s q (kind_of SessionState.Listing a))
   unfolding kind_of result_in
-  listing-way n Action.None a = idle-way Action.None a refl refl Told.Ignored no_reply refl nobody
+  listing-way n Action.None a = idle-way Action.None a refl refl Told.Ignored None refl nobody
   listing-way n Action.Send a = invalid-way Action.Send a refl refl
   listing-way n Action.Receive a = invalid-way Action.Receive a refl refl
   listing-way n Action.File a = unheard-way n (rw a)
@@ -314,7 +315,7 @@ module _ (s : Session) (q : Request) where
   serving-way : s.state ≡ SessionState.Serving → (s.state ≡ SessionState.Open → ⊥) → (a : Action) → q.action ≡ a
       → Way s q (present_result s q (kind_of SessionState.Serving a))
   unfolding kind_of result_in
-  serving-way o n Action.None a = idle-way Action.None a refl refl Told.Ignored no_reply refl nobody
+  serving-way o n Action.None a = idle-way Action.None a refl refl Told.Ignored None refl nobody
   serving-way o n Action.Send a = invalid-way Action.Send a refl refl
   serving-way o n Action.Receive a = invalid-way Action.Receive a refl refl
   serving-way o n Action.File a = request_asked o a

@@ -2,7 +2,6 @@
 use Rattle.std.specs.Prelude.{cond, ℕ, set, eqb, Option, Some, None}
 use Rattle.command.specs.declared.Place.{Place}
 use Rattle.protocol.specs.Table.{absent_session, no_file, session_at, with_state, waiting, put_file}
-use Rattle.protocol.specs.Replies.{no_reply}
 use Rattle.protocol.specs.declared.FileRecord.{FileRecord}
 use Rattle.protocol.specs.declared.SessionState.{SessionState}
 use Rattle.protocol.specs.declared.Session.{Session}
@@ -18,35 +17,35 @@ use Rattle.protocol.specs.declared.Change.{Change}
 use Rattle.protocol.specs.declared.Stepped.{Stepped}
 
 -- ---- changes, by what becomes of the session
-abbrev pub change : Edit → FileRecord → News → Reply → Change
+abbrev pub change : Edit → FileRecord → News → Option Reply → Change
 change e f w r = record { edit = e; file = f; news = w; reply = r }
 
 -- nothing changes, and this is told
-abbrev pub tells : Told → Reply → Change
+abbrev pub tells : Told → Option Reply → Change
 tells w r = change Edit.Same no_file (News.Tells w) r
 
 -- the session stays as it is, and this is asked
 abbrev pub asks : Due → Change
-asks d = change Edit.Same no_file (News.Asks d) no_reply
+asks d = change Edit.Same no_file (News.Asks d) None
 
 -- a new file record at a place, and its open is asked, or its contents
 abbrev pub opens : ℕ → FileRecord → Due → Change
-opens j f d = change (Edit.Filed j) f (News.Asks d) no_reply
+opens j f d = change (Edit.Filed j) f (News.Asks d) None
 
 -- a file record put back at its place; what the session owed is settled, and the status is all that is told
-abbrev pub files : ℕ → FileRecord → Status → Reply → Change
+abbrev pub files : ℕ → FileRecord → Status → Option Reply → Change
 files j f w r = change (Edit.Filed j) f (News.Clears (Told.Status w)) r
 
 -- "dropped": its place is free again, and "what that session owed is cleared"
-abbrev pub drops : Told → Reply → Change
+abbrev pub drops : Told → Option Reply → Change
 drops w r = change Edit.Dropped no_file (News.Clears w) r
 
 -- in another state, told by nothing but the reply
-abbrev pub turns : SessionState → Reply → Change
+abbrev pub turns : SessionState → Option Reply → Change
 turns g r = change (Edit.Turned g) no_file (News.Tells Told.Nothing) r
 
 -- what the session owed is settled, and the status is all that happens
-abbrev pub settles : Status → Reply → Change
+abbrev pub settles : Status → Option Reply → Change
 settles w r = change Edit.Same no_file (News.Clears (Told.Status w)) r
 
 -- ---- the session afterwards
@@ -83,12 +82,12 @@ told_by p (News.Clears w) = w
 told_by p (News.Asks d) = Told.Ask (ask_of p d)
 
 -- ---- the step of the session at place i, put back: one place for every command and call
-abbrev pub stepped : Table → Told → Reply → Stepped
+abbrev pub stepped : Table → Told → Option Reply → Stepped
 stepped t w r = record { table = t; told = w; reply = r }
 
 -- nothing but something told
 abbrev pub telling : Table → Told → Stepped
-telling t w = stepped t w no_reply
+telling t w = stepped t w None
 
 abbrev pub after : Table → ℕ → Change → Table
 after t i c =

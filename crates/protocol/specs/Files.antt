@@ -8,7 +8,7 @@ use Rattle.command.specs.declared.Transmission.{Transmission}
 use Rattle.command.specs.declared.Command.{Command}
 use Rattle.protocol.specs.Lengths.{length_by}
 use Rattle.protocol.specs.Table.{padded, file_at, find_file, first, is_free, is_started, moved}
-use Rattle.protocol.specs.Replies.{no_reply, session_reply, file_reply}
+use Rattle.protocol.specs.Replies.{session_reply, file_reply}
 use Rattle.protocol.specs.Change.{tells, asks, opens, files, drops}
 use Rattle.protocol.specs.declared.FileState.{FileState}
 use Rattle.protocol.specs.declared.FileRecord.{FileRecord}
@@ -45,7 +45,7 @@ request c file name =
 
 -- nothing changes and nothing is replied
 abbrev pub ignored : Change
-ignored = tells Told.Ignored no_reply
+ignored = tells Told.Ignored None
 
 -- ---- file, "first that applies"
 abbrev pub opening : (id : List ℕ) (declared : ℕ) → FileRecord
@@ -53,7 +53,7 @@ opening k d = record { state = FileState.Opening; id = padded k; id_len = length
 
 -- a reply about the command's file, which is all that happens
 abbrev pub file_status : Session → List ℕ → Status → Change
-file_status s file w = tells (Told.Status w) (file_reply w s (opening file 0) 0)
+file_status s file w = tells (Told.Status w) (Some (file_reply w s (opening file 0) 0))
 
 -- "symlink, link or rsync"
 abbrev pub link_like : FileType → Bool
@@ -126,7 +126,7 @@ file_of s q = if_new s q.file (file_checked s q)
 -- ---- data, end_data
 -- the record j moves to a state with a count, and a status with that `sz` is replied
 abbrev pub settled : Session → ℕ → FileState → ℕ → Status → ℕ → Change
-settled s j g n w size = let f = file_at s j in files j (moved f g n) w (file_reply w s f size)
+settled s j g n w size = let f = file_at s j in files j (moved f g n) w (Some (file_reply w s f size))
 
 -- "record failed", with its status
 abbrev pub failed_file : Session → ℕ → Status → Change
@@ -177,7 +177,7 @@ data_of s last file n = part_found s last n (find_file s file)
 -- ---- finish: "a record still started: dropped, EINVAL (house rule). Else commit is asked."
 abbrev pub finish_found : Session → Option ℕ → Change
 finish_found s None = asks Due.Commit
-finish_found s (Some j) = drops Told.Discarded (session_reply Status.Einval s)
+finish_found s (Some j) = drops Told.Discarded (Some (session_reply Status.Einval s))
 
 -- by a search of the records, as that sentence has it
 abbrev pub finish_by_records : Session → Change
@@ -185,4 +185,4 @@ finish_by_records s = finish_found s (first is_started s.files)
 
 -- by the kept number: "keep in the session the number of started files, for finish". `EveryCount` says that it is the same.
 unfoldable pub finish_of : Session → Change
-finish_of s = cond (eqb s.started 0) (asks Due.Commit) (drops Told.Discarded (session_reply Status.Einval s))
+finish_of s = cond (eqb s.started 0) (asks Due.Commit) (drops Told.Discarded (Some (session_reply Status.Einval s)))

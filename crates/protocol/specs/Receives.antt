@@ -3,7 +3,7 @@ use Rattle.std.specs.Prelude.{ℕ, ◌+◌, Bool, cond, ◌||◌, List, length, 
 use Rattle.decimal.specs.declared.Number.{Number}
 use Rattle.pathname.specs.Name.{valid_name}
 use Rattle.protocol.specs.Table.{file_room, no_file, padded, file_at, first, is_free}
-use Rattle.protocol.specs.Replies.{no_reply, file_reply}
+use Rattle.protocol.specs.Replies.{file_reply}
 use Rattle.protocol.specs.Change.{change, tells, opens, settles}
 use Rattle.protocol.specs.Files.{Request, file_status, if_new}
 use Rattle.protocol.specs.declared.FileState.TheVariants as FileState
@@ -29,8 +29,8 @@ named k = record { state = FileState.Named; id = padded k; id_len = length k; co
 abbrev pub path_named : Session → (file : List ℕ) → Option ℕ → Change
 path_named s file None = file_status s file Status.Emfile
 path_named s file (Some j) =
-    cond (ltb (j + 1) s.wanted) (change (Edit.Filed j) (named file) (News.Tells Told.Path) no_reply)
-    (change Edit.Waits no_file (News.Tells Told.LastPath) no_reply)
+    cond (ltb (j + 1) s.wanted) (change (Edit.Filed j) (named file) (News.Tells Told.Path) None)
+    (change Edit.Waits no_file (News.Tells Told.LastPath) None)
 
 unfoldable pub path_checked : Session → (file name : List ℕ) → Change
 path_checked s file name =
@@ -47,8 +47,8 @@ request_of file = opens 0 (named file) Due.Request
 
 -- "a new call out of turn or done for a request 18"
 abbrev pub out_of_turn : Change
-out_of_turn = tells (Told.Refused 18) no_reply
+out_of_turn = tells (Told.Refused 18) None
 
 -- the request is answered with a status
 abbrev pub request_fails : Status → Session → Change
-request_fails w s = settles w (file_reply w s (file_at s 0) 0)
+request_fails w s = settles w (Some (file_reply w s (file_at s 0) 0))

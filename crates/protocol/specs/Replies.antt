@@ -1,5 +1,5 @@
 -- Replies: their words, when quiet holds them back, and their bytes.
-use Rattle.std.specs.Prelude.{ℕ, Bool, true, false, cond, ◌&&◌, ◌||◌, List, [], ◌∷◌, ◌++◌, take, length, leb, eqb}
+use Rattle.std.specs.Prelude.{ℕ, Bool, true, false, cond, ◌&&◌, ◌||◌, List, [], ◌∷◌, ◌++◌, take, length, leb, eqb, Option, Some, None}
 use Rattle.octets.specs.Ascii.{ascii}
 use Rattle.octets.specs.Split.{join}
 use Rattle.octets.specs.Outcome.{Outcome, stored_at}
@@ -66,20 +66,14 @@ abbrev pub reply_room : ℕ
 reply_room = 124
 
 -- ---- which reply
--- none is due
-abbrev pub no_reply : Reply
-no_reply =
-    record { due = false; status = Status.Ok; quiet = 0; id = zeros; id_len = 0; file_id = zeros; file_id_len = 0; size = 0 }
-
 -- one about a session, and one about a file of it, by their records
 abbrev pub session_reply : Status → Session → Reply
 session_reply w s =
-    record { due = true; status = w; quiet = s.quiet; id = s.id; id_len = s.id_len; file_id = zeros; file_id_len = 0; size = 0 }
+    record { status = w; quiet = s.quiet; id = s.id; id_len = s.id_len; file_id = zeros; file_id_len = 0; size = 0 }
 
 abbrev pub file_reply : Status → Session → FileRecord → ℕ → Reply
 file_reply w s f size =
     record {
-      due = true;
       status = w;
       quiet = s.quiet;
       id = s.id;
@@ -115,12 +109,12 @@ abbrev pub status_values : List ℕ → List ℕ → ℕ → List ℕ → List V
 status_values id file size word = values_with Action.Status id file size [] word []
 
 -- the bytes of a reply: none where none is due or quiet holds it back
-unfoldable pub reply_bytes : Reply → List ℕ
-reply_bytes r =
-    cond (r.due && cond (is_held r.status r.quiet) false true)
+unfoldable pub reply_bytes : Option Reply → List ℕ
+reply_bytes None = []
+reply_bytes (Some r) =
+    cond (is_held r.status r.quiet) []
     (framed (status_text (take r.id_len r.id) (take r.file_id_len r.file_id) r.size (status_word r.status)))
-    []
 
 -- the reply's length, and the reply buffer afterwards: "bytes beyond it are untouched"; nothing of a reply that does not fit
-unfoldable pub replied_of : Reply → List ℕ → Outcome ℕ
+unfoldable pub replied_of : Option Reply → List ℕ → Outcome ℕ
 replied_of r buf = stored_at (length (reply_bytes r)) 0 (reply_bytes r) buf 0

@@ -68,7 +68,7 @@ naming_session s n =
 
 -- a status about it: "The session's quiet counts, or the command's own where the session is absent"
 abbrev pub absent_status : Table → Session → Status → Stepped
-absent_status t s w = stepped t (Told.Status w) (session_reply w s)
+absent_status t s w = stepped t (Told.Status w) (Some (session_reply w s))
 
 -- "four present: EBUSY; else asked, console told"
 abbrev pub send_room : Table → Session → Option ℕ → Stepped

@@ -13,7 +13,7 @@ use Rattle.command.specs.declared.Place.{Place}
 use Rattle.command.specs.declared.Command.{Command}
 use Rattle.protocol.specs.Table.{no_file, session_at, file_at, id_of, file_id_of, find_session}
 use Rattle.protocol.specs.Written.{values_with, piece_values}
-use Rattle.protocol.specs.Replies.{no_reply, status_word, failure_status, is_held}
+use Rattle.protocol.specs.Replies.{status_word, failure_status, is_held}
 use Rattle.protocol.specs.Change.{change, tells, turns, telling, step_by}
 use Rattle.protocol.specs.Files.{part_limit}
 use Rattle.protocol.specs.Sessions.{string_in}
@@ -162,11 +162,11 @@ is_held_back s (Supply.part last bytes) = false
 
 -- after the home path it serves; a request is "owed until the console has supplied its last part"
 abbrev pub change_for : Supply → Change
-change_for (Supply.list e text contents) = tells Told.Nothing no_reply
-change_for (Supply.list_failed text id path code) = tells Told.Nothing no_reply
-change_for (Supply.home id path) = turns SessionState.Serving no_reply
-change_for (Supply.part false bytes) = tells Told.Nothing no_reply
-change_for (Supply.part true bytes) = change Edit.Same no_file (News.Clears Told.Nothing) no_reply
+change_for (Supply.list e text contents) = tells Told.Nothing None
+change_for (Supply.list_failed text id path code) = tells Told.Nothing None
+change_for (Supply.home id path) = turns SessionState.Serving None
+change_for (Supply.part false bytes) = tells Told.Nothing None
+change_for (Supply.part true bytes) = change Edit.Same no_file (News.Clears Told.Nothing) None
 
 -- ---- the call
 abbrev pub refused_with : Receiver → ℕ → List ℕ → Outcome Answered

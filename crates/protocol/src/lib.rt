@@ -194,11 +194,10 @@ pub enum Told {
     Committed,
 }
 
-// A reply that is due, or none. Its ids are the first so many bytes of their arrays; a size of 0 is
-// left out, as is an empty file id.
+// A reply that is due. Its ids are the first so many bytes of their arrays; a size of 0 is left out, as
+// is an empty file id.
 #[derive(Clone, Copy)]
 pub struct Reply {
-    pub due: bool,
     pub status: Status,
     pub quiet: u64,
     pub id: [u8; 32],
@@ -236,7 +235,7 @@ pub struct Change {
     pub edit: Edit,
     pub file: FileRecord,
     pub news: News,
-    pub reply: Reply,
+    pub reply: Option<Reply>,
 }
 
 // What a step gives: the table afterwards, what is told, and the reply.
@@ -244,7 +243,7 @@ pub struct Change {
 pub struct Stepped {
     pub table: Table,
     pub told: Told,
-    pub reply: Reply,
+    pub reply: Option<Reply>,
 }
 
 // What feed answers: the receiver, how many bytes of the piece it consumed, where the reported text
@@ -329,18 +328,6 @@ impl Table {
 impl Reply {
     // "No reply is longer than 124 bytes": what a reply buffer has at least.
     pub const ROOM: usize = 124;
-
-    // None is due.
-    pub const NONE: Reply = Reply {
-        due: false,
-        status: Status::Ok,
-        quiet: 0,
-        id: [0; 32],
-        id_len: 0,
-        file_id: [0; 32],
-        file_id_len: 0,
-        size: 0,
-    };
 }
 
 impl Receiver {

@@ -5,7 +5,7 @@ use mathlib.Core.Bool.{Bool, true, false, cond}
 use Rattle.std.specs.Prelude.{Option, Some, None}
 use Rattle.decimal.specs.declared.Number.{Number}
 use Rattle.protocol.specs.Table.{id_of, session_used, first, is_absent, put_session}
-use Rattle.protocol.specs.Replies.{no_reply, session_reply}
+use Rattle.protocol.specs.Replies.{session_reply}
 use Rattle.protocol.specs.Change.{stepped}
 use Rattle.protocol.specs.Receives.{bad_paths}
 use Rattle.protocol.specs.Sessions.{naming_session, absent_result, send_room, receive_room}
@@ -35,8 +35,8 @@ module _ (t : Table) (s : Session) (n : Number) where
   with-room i e Kind.Ask = rw e
   with-room i e Kind.Receive = rw e (go (bad_paths n))
     where
-      go : (b : Bool) → let bad = made None (Told.Status Status.Einval) (session_reply Status.Einval s) in
-          let good = made (Some (naming_session s n.magnitude)) Told.Naming no_reply in
+      go : (b : Bool) → let bad = made None (Told.Status Status.Einval) (Some (session_reply Status.Einval s)) in
+          let good = made (Some (naming_session s n.magnitude)) Told.Naming None in
           cond b (placed t i bad) (placed t i good) ≡ placed t i (cond b bad good)
       go true = refl
       go false = refl
@@ -90,25 +90,25 @@ module _ (t : Table) (s : Session) (n : Number) where
 
 -- nothing, or a session with the id; something plain is told
 pub data Makes (s : Session) : Made → Type 0 where
-  none : (w : Told) (r : Reply) → is_plain w ≡ true → Makes s (made None w r)
+  none : (w : Told) (r : Option Reply) → is_plain w ≡ true → Makes s (made None w r)
   some : (x : Session) (w : Told) → session_used x ≡ true → id_of x ≡ id_of s → is_plain w ≡ true
-      → Makes s (made (Some x) w no_reply)
+      → Makes s (made (Some x) w None)
 
 pub makes-is : (s : Session) → session_used s ≡ true → (n : Number) (k : Kind) → Makes s (makes s n k)
-makes-is s u n Kind.Ignore = none Told.Ignored no_reply refl
+makes-is s u n Kind.Ignore = none Told.Ignored None refl
 makes-is s u n Kind.Ask = some s Told.Asked u refl refl
 makes-is s u n Kind.Receive = go (bad_paths n)
   where
-    go : (b : Bool) → Makes s (cond b (made None (Told.Status Status.Einval) (session_reply Status.Einval s))
-        (made (Some (naming_session s n.magnitude)) Told.Naming no_reply))
+    go : (b : Bool) → Makes s (cond b (made None (Told.Status Status.Einval) (Some (session_reply Status.Einval s)))
+        (made (Some (naming_session s n.magnitude)) Told.Naming None))
     go true = none (Told.Status Status.Einval) _ refl
     go false = some (naming_session s n.magnitude) Told.Naming refl refl refl
-makes-is s u n Kind.Invalid = none Told.Ignored no_reply refl
-makes-is s u n Kind.Cancel = none Told.Ignored no_reply refl
-makes-is s u n Kind.Withdraw = none Told.Ignored no_reply refl
-makes-is s u n Kind.File = none Told.Ignored no_reply refl
-makes-is s u n Kind.Data = none Told.Ignored no_reply refl
-makes-is s u n Kind.EndData = none Told.Ignored no_reply refl
-makes-is s u n Kind.Finish = none Told.Ignored no_reply refl
-makes-is s u n Kind.Path = none Told.Ignored no_reply refl
-makes-is s u n Kind.Request = none Told.Ignored no_reply refl
+makes-is s u n Kind.Invalid = none Told.Ignored None refl
+makes-is s u n Kind.Cancel = none Told.Ignored None refl
+makes-is s u n Kind.Withdraw = none Told.Ignored None refl
+makes-is s u n Kind.File = none Told.Ignored None refl
+makes-is s u n Kind.Data = none Told.Ignored None refl
+makes-is s u n Kind.EndData = none Told.Ignored None refl
+makes-is s u n Kind.Finish = none Told.Ignored None refl
+makes-is s u n Kind.Path = none Told.Ignored None refl
+makes-is s u n Kind.Request = none Told.Ignored None refl

@@ -12,7 +12,7 @@ use Rattle.octets.specs.Outcome.{Outcome, outcome}
 use Rattle.octets.proofs.Compare.{equals_refl, equals-sound}
 use Rattle.command.specs.Slots.{nowhere}
 use Rattle.protocol.specs.Table.{no_session, session_at, id_of, is_present, session_used, find_session}
-use Rattle.protocol.specs.Replies.{no_reply, reply_room, reply_bytes}
+use Rattle.protocol.specs.Replies.{reply_room, reply_bytes}
 use Rattle.protocol.specs.Change.{tells, told_by, telling, step_by}
 use Rattle.protocol.specs.Rule.{is_asked, allowed, denied, not_asked, done_by, failed_by, unlisted_by, decided_by}
 use Rattle.protocol.specs.Sessions.{answered_with, settle_done, settle_failed, unlisted_for, settle_unlisted, decided_at, decided_of}
@@ -64,10 +64,10 @@ abbrev pub counts : Bool → Told → Bool
 counts mine w = mine && not (is_refused w)
 
 -- a reply that does not name it
-abbrev pub Silent : List ℕ → Reply → Type 0
+abbrev pub Silent : List ℕ → Option Reply → Type 0
 Silent A r = command_acts A (commands_in (reply_bytes r)) ≡ []
 
-pub none-silent : (A : List ℕ) → Silent A no_reply
+pub none-silent : (A : List ℕ) → Silent A None
 unfolding reply_bytes
 none-silent A = rw nothing-told
 
@@ -80,7 +80,7 @@ pub data Effect (A : List ℕ) (t : Table) (mine : Bool) (a : Act) (s : Stepped)
 -- a change that refuses tells nothing else
 data Refuses (c : Change) : Type 0 where
   taken : is_plain (told_by nowhere c.news) ≡ true → Refuses c
-  refused : (n : ℕ) → c ≡ tells (Told.Refused n) no_reply → Refuses c
+  refused : (n : ℕ) → c ≡ tells (Told.Refused n) None → Refuses c
 
 answer-refuses : {c : Change} → AnswerTold c → Refuses c
 answer-refuses (Tellings.taken e) = taken e
@@ -127,7 +127,7 @@ module _ (A : List ℕ) {t : Table} (ok : Sound t) where
 
     change-effect : Refuses c → Effect A t mine a (step_by t i nowhere c)
     change-effect (taken e) = taken-effect e
-    change-effect (refused n e) = rw (e, told-step t i nowhere (Told.Refused n) no_reply) (refused-effect mine a n)
+    change-effect (refused n e) = rw (e, told-step t i nowhere (Told.Refused n) None) (refused-effect mine a n)
 
   -- ---- allow, deny and drop
   decided-effect : (d : Decision) (k : List ℕ) (a : Act) → ((v : Records) → alone A v a ≡ turn_by v [] (decided_by d v.session))

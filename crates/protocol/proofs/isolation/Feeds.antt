@@ -7,7 +7,7 @@ use lib.ListN.{length, take}
 use Rattle.std.specs.Prelude.{None}
 use Rattle.command.specs.Meaning.{Meaning}
 use Rattle.protocol.specs.Table.{find_session}
-use Rattle.protocol.specs.Replies.{no_reply, reply_room, replied_of}
+use Rattle.protocol.specs.Replies.{reply_room, replied_of}
 use Rattle.protocol.specs.History.{Command, hearing, Question, Mark, read_mark, told_marks, read_in, commands_in, hearing_mark, last_ask}
 use Rattle.protocol.specs.History.{mode_after, marks_of}
 use Rattle.protocol.specs.Cuts.{saying}
@@ -59,7 +59,7 @@ module _ (A : List ℕ) {t : Table} (ok : Sound t) (sized : Sized t) (free : t.o
 
   -- no command was read
   unread-silent : (w : Told) (left : List ℕ) → command_acts A (commands_in (leaving_by (unread t w left)).reply) ≡ []
-  unread-silent w left = rw ((reply-sent no_reply reply none-sized long).bytes, none-silent A)
+  unread-silent w left = rw ((reply-sent None reply none-sized long).bytes, none-silent A)
 
   -- an ask is for the command that was read
   asked_another : (d : Command) → equals (Meanings.id_of d) A ≡ false → (w : Told) (left : List ℕ)

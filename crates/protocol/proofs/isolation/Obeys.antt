@@ -11,7 +11,7 @@ use Rattle.command.specs.declared.Action.{Action}
 use Rattle.command.specs.declared.Command.{Command as PlacedCommand}
 use Rattle.protocol.specs.Table.{no_session, session_at, id_of, session_used, find_session, first, is_absent}
 use Rattle.protocol.specs.Actions.{result_in, kind_of}
-use Rattle.protocol.specs.Replies.{no_reply, reply_bytes}
+use Rattle.protocol.specs.Replies.{reply_bytes}
 use Rattle.protocol.specs.Change.{told_by, telling}
 use Rattle.protocol.specs.Files.{Request}
 use Rattle.protocol.specs.Rule.{obeyed_by}
@@ -109,7 +109,7 @@ module _ (A : List ℕ) {t : Table} (ok : Sound t) (free : t.owed ≡ None) {c :
   placed-own e is i f (some x w u same p) m sound =
       let inside = (first-at is_absent no_session t.sessions i f).0 in
       record {
-        seen = rw (e, m) (ap (λ (y : Saying). record { said = y; reply = reply_bytes no_reply }) ((plain w p).same scratch []));
+        seen = rw (e, m) (ap (λ (y : Saying). record { said = y; reply = reply_bytes None }) ((plain w p).same scratch []));
         view = rw (e, m) (put-used ok A i x t.owed inside sound u (same ∙ is) ∙ rw (none-due i));
       }
 
