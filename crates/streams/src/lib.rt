@@ -10,6 +10,7 @@ mod arguments;
 mod files;
 mod hex;
 mod input;
+mod numbers;
 mod output;
 mod said;
 #[cfg(test)]
@@ -18,6 +19,7 @@ mod tests;
 pub use arguments::{argument, argument_count};
 pub use files::{open_read, path_text};
 pub use input::{fill, read, read_all, read_all_from, read_from};
+pub use numbers::put_number;
 pub use said::{say, say_error, say_hex, say_number};
 use std::io::Stdout;
 

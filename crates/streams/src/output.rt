@@ -53,7 +53,11 @@ impl Run {
     fn out(self) -> Option<Stdout>
         ensures { MatchOption result (is_well self ≡ false) (λ out. self ≡ Run.Well out) }
     {
-        if let Run::Well(out) = self { Some(out) } else { None }
+        if let Run::Well(out) = self {
+            Some(out)
+        } else {
+            None
+        }
     }
 
     // Says on standard error what failed, if something did: a program has no exit status.
