@@ -1,16 +1,18 @@
 // What is told of a command, noted: a row for a start, and a row and bytes for a part.
-ghost use Rattle.std.specs.Prelude.{◌≡◌, ◌≤◌};
+ghost use Rattle.std.specs.Prelude.{◌≡◌, ◌+◌, ◌≤◌};
 ghost use Rattle.octets.specs.Outcome.{outcome};
 ghost use Rattle.recordings.specs.Mend.{recording_limit};
 ghost use Rattle.hearing.specs.Hearing.{is_regular};
+ghost use Rattle.hearing.specs.Rows.{kind_number};
+ghost use Rattle.hearing.specs.Rows.{place as placed};
 ghost use Rattle.hearing.specs.Steps as Steps;
 
-use crate::Notes;
+use crate::{Kind, Row};
 use command::{Command, FileType, Place};
 use protocol::{Ask, Told};
 
 // By what is told of a command, whose text starts at a place: how many rows there are then.
-#[tactic(auto, unfolding(crate::specs::Steps::told_noted))]
+#[tactic(auto, unfolding(crate::specs::Steps::told_noted, crate::specs::Steps::ask_noted))]
 pub(crate) fn told(
     told: Told,
     command: Command,
@@ -25,32 +27,11 @@ pub(crate) fn told(
         ≡ Steps.told_noted told command from scratch.now rows events.old bytes.old }
 {
     match told {
-        Told::Ask(ask) => asked(ask, command, from, scratch, rows, events, bytes),
+        Told::Ask(Ask::Open) => start(command, from, rows, events),
+        Told::Ask(Ask::Write(place) | Ask::WriteLast(place)) => {
+            part(place, command, from, scratch, rows, events, bytes)
+        }
         _ => rows,
-    }
-}
-
-// By what is asked.
-#[tactic(auto, unfolding(crate::specs::Steps::ask_noted))]
-fn asked(
-    ask: Ask,
-    command: Command,
-    from: usize,
-    scratch: &[u8],
-    rows: usize,
-    events: &mut [usize],
-    bytes: &mut [u8],
-) -> usize
-    requires { (rows ≤ recording_limit) × Steps.Near from command }
-    ensures { Steps.noted result events.new bytes.new
-        ≡ Steps.ask_noted ask command from scratch.now rows events.old bytes.old }
-{
-    match ask {
-        Ask::Open => start(command, from, rows, events),
-        Ask::Write(place) => part(place, command, from, scratch, rows, events, bytes),
-        Ask::WriteLast(place) => part(place, command, from, scratch, rows, events, bytes),
-        Ask::Commit => rows,
-        Ask::Request => rows,
     }
 }
 
@@ -60,11 +41,10 @@ fn start(command: Command, from: usize, rows: usize, events: &mut [usize]) -> us
     requires { (rows ≤ recording_limit) × Steps.Near from command }
     ensures { outcome result events.new ≡ Steps.start_noted command from rows events.old }
 {
-    let kind = command.file_type;
-    if !is_regular(kind) {
+    if !is_regular(command.file_type) {
         return rows;
     }
-    put_row(events, rows, Notes::START, from, command, 0);
+    put_row(events, rows, Kind::Start, from, command, 0);
     rows + 1
 }
 
@@ -85,38 +65,41 @@ fn part(
 {
     let bs = octets::part(scratch, place.start, place.len);
     octets::copy_at(bs, bytes, from);
-    put_row(events, rows, Notes::PART, from, command, bs.len());
+    put_row(events, rows, Kind::Part, from, command, bs.len());
     rows + 1
 }
 
 fn is_regular(kind: FileType) -> bool
     ensures { result ≡ is_regular kind }
 {
-    match kind {
-        FileType::Regular => true,
-        FileType::Directory => false,
-        FileType::Symlink => false,
-        FileType::Link => false,
-    }
+    matches!(kind, FileType::Regular)
 }
 
 // A row, where it fits: its kind, where the ids of the command stand in the recording, and where its
 // part stands in the bytes.
 #[tactic(auto, unfolding(crate::specs::Steps::with_row))]
-fn put_row(events: &mut [usize], row: usize, kind: usize, from: usize, command: Command, len: usize)
+fn put_row(events: &mut [usize], row: usize, kind: Kind, from: usize, command: Command, len: usize)
     requires { (row ≤ recording_limit) × Steps.Near from command }
-    ensures { events.new ≡ Steps.with_row events.old row kind from command len }
+    ensures { events.new ≡ Steps.with_row events.old row (kind_number kind) from command len }
 {
-    let at = row * Notes::ROW;
-    let id = command.id;
-    let file = command.file_id;
-    if octets::fits(at, Notes::ROW, events.len()) {
-        events[at] = kind;
-        events[at + 1] = from + id.start;
-        events[at + 2] = id.len;
-        events[at + 3] = from + file.start;
-        events[at + 4] = file.len;
-        events[at + 5] = from;
-        events[at + 6] = len;
+    if octets::fits(row * Row::LEN, Row::LEN, events.len()) {
+        let noted = Row {
+            kind,
+            id: moved(command.id, from),
+            file_id: moved(command.file_id, from),
+            part: Place { start: from, len },
+        };
+        noted.write(events, row);
+    }
+}
+
+// A place of a text, in the recording where that text starts at a place.
+fn moved(place: Place, from: usize) -> Place
+    requires { (place.start ≤ recording_limit) × (from ≤ recording_limit) }
+    ensures { result ≡ placed (from + place.start) place.len }
+{
+    Place {
+        start: from + place.start,
+        len: place.len,
     }
 }

@@ -6,8 +6,8 @@ ghost use Rattle.protocol.specs.Sessions.{decided_of};
 ghost use Rattle.hearing.specs.Hearing.{answered_by};
 ghost use Rattle.hearing.specs.Steps as Steps;
 
-use crate::{Notes, noting};
-use command::{Command, Reading};
+use crate::{Row, noting};
+use command::Command;
 use protocol::{Decision, Table, Told};
 use recordings::texts::{TextSight, next_text};
 
@@ -35,7 +35,7 @@ pub(crate) fn all(recording: &[u8], events: &mut [usize], bytes: &mut [u8]) -> u
     while reached.at < recording.len() {
         reached = turn(reached, recording, &mut scratch, events, bytes);
     }
-    reached.rows * Notes::ROW
+    reached.rows * Row::LEN
 }
 
 // Past what stands next.
@@ -78,21 +78,10 @@ fn text(
         ≡ Steps.text_turn reached start end recording.now scratch.old events.old bytes.old }
 {
     let from = start + 2;
-    let to = end - 2;
-    match command_reader::read(&recording[from..to], scratch) {
-        Reading::Read(command) => {
-            obeyed(
-                reached,
-                command,
-                from,
-                end,
-                &recording[from..to],
-                scratch,
-                events,
-                bytes,
-            )
-        }
-        Reading::Refused(_) => Reached { at: end, ..reached },
+    let text = &recording[from..end - 2];
+    match command_reader::read(text, scratch) {
+        Ok(command) => obeyed(reached, command, from, end, text, scratch, events, bytes),
+        Err(_) => Reached { at: end, ..reached },
     }
 }
 
@@ -114,19 +103,15 @@ fn obeyed(
         ≡ Steps.command_turn reached command from end text.now scratch.now
         events.old bytes.old }
 {
-    let table = reached.table;
-    let next = sessions::obey(table, command, text, scratch);
+    let next = sessions::obey(reached.table, command, text, scratch);
     let told = next.told;
     let rows = noting::told(told, command, from, scratch, reached.rows, events, bytes);
-    let id = command.id;
+    let table = sessions::next::put(reached.table, next);
+    let id = octets::part(text, command.id.start, command.id.len);
     Reached {
         at: end,
-        rows: rows,
-        table: answered(
-            sessions::next::put(table, next),
-            told,
-            octets::part(text, id.start, id.len),
-        ),
+        rows,
+        table: answered(table, told, id),
     }
 }
 
@@ -135,8 +120,7 @@ fn answered(table: Table, told: Told, id: &[u8]) -> Table
     ensures { result ≡ answered_by table id.now told }
 {
     match told {
-        Told::Asked => allowed(table, id),
-        Told::LastPath => allowed(table, id),
+        Told::Asked | Told::LastPath => allowed(table, id),
         Told::Ask(_) => sessions::next::put(table, sessions::done(table)),
         _ => table,
     }

@@ -17,7 +17,8 @@ use Rattle.octets.proofs.Lists.{drop-end}
 use Rattle.frames.proofs.Choices.{by_cond}
 use Rattle.recordings.specs.Pieces.{Piece, cut, outside_first, joined, pieces_after, pieces_of, kept_bytes, rows_from, dropped}
 use Rattle.recordings.specs.Pieces.{mended_of, list_of}
-use Rattle.recordings.specs.Walk.{next_escape, Seen, escape_at, with_row, tallied, outside_to, refused_to, kept_to, Walk, walk, turn_of, Walked}
+use Rattle.recordings.specs.Walk.{next_escape, Seen, escape_at, with_row, tallied, outside_to, refused_to, kept_to, Walk, walk}
+use Rattle.recordings.specs.Walk.{turn_of, Walked}
 use Rattle.recordings.specs.declared.walk.Tally.{Tally}
 use Rattle.recordings.proofs.PieceLaws.{rows-length}
 use Rattle.recordings.proofs.SightLaws.{between, Sees, next-sees}

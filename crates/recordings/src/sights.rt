@@ -6,7 +6,7 @@ ghost use Rattle.recordings.specs.Walk.{next_escape, escape_at, meant, fault_num
 ghost use Rattle.recordings.specs.Texts.{text_between};
 
 use crate::texts::{TextSight, next_text};
-use command::{Reading, Refusal};
+use command::Refusal;
 
 // What is wrong with a command that is not kept: its text is abandoned, or refused by the reader.
 #[derive(Clone, Copy)]
@@ -55,7 +55,7 @@ fn judged(recording: &[u8], start: usize, end: usize, scratch: &mut [u8]) -> Sig
 {
     let text = &recording[start + 2..end - 2];
     match command_reader::read(text, scratch) {
-        Reading::Read(_) => Sight::Kept(start, end),
-        Reading::Refused(refusal) => Sight::Faulty(start, end, Fault::Refused(refusal)),
+        Ok(_) => Sight::Kept(start, end),
+        Err(refusal) => Sight::Faulty(start, end, Fault::Refused(refusal)),
     }
 }

@@ -10,7 +10,8 @@ use Rattle.recordings.specs.WrongMenders.{MendTeeth}
 use Rattle.recordings.proofs.Every.{mend-laws}
 use Rattle.recordings.proofs.Examples.{examples_hold, teeth}
 use Rattle.recordings.proofs.mend.Goals as goal
-use Rattle.recordings.proofs.mend.Goals.{then-needed-output-via-then-needed-output, then-needed-output-via-else-needed-output+then-needed-list}
+use Rattle.recordings.proofs.mend.Goals.{then-needed-output-via-then-needed-output}
+use Rattle.recordings.proofs.mend.Goals.{then-needed-output-via-else-needed-output+then-needed-list}
 
 -- what the contract says of every recording
 claims : MendLaws pieces_of × MendTeeth × MendExamples
