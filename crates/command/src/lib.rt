@@ -8,6 +8,7 @@
 
 pub mod keys;
 pub mod letters;
+mod refusals;
 pub mod words;
 
 ghost use Rattle.std.specs.Prelude.{◌||◌, ◌≡◌, eqb};
@@ -17,7 +18,7 @@ ghost use Rattle.command.specs.Slots as Slots;
 use decimal::Number;
 
 // "action": none is the case of a command without one, which only a writer can meet.
-#[derive(Clone, Copy)]
+#[derive(Clone, Copy, PartialEq, Eq, Debug)]
 pub enum Action {
     None,
     Send,
@@ -57,7 +58,7 @@ pub fn lacks(action: Action, id: Place) -> bool
 }
 
 // "file type"
-#[derive(Clone, Copy)]
+#[derive(Clone, Copy, PartialEq, Eq, Debug)]
 pub enum FileType {
     Regular,
     Directory,
@@ -66,14 +67,14 @@ pub enum FileType {
 }
 
 // "transmission"
-#[derive(Clone, Copy)]
+#[derive(Clone, Copy, PartialEq, Eq, Debug)]
 pub enum Transmission {
     Simple,
     Rsync,
 }
 
 // Where bytes stand in a buffer.
-#[derive(Clone, Copy)]
+#[derive(Clone, Copy, PartialEq, Eq, Debug)]
 pub struct Place {
     pub start: usize,
     pub len: usize,
@@ -134,7 +135,7 @@ impl Place {
 }
 
 // Why a text is not read, or a command not written.
-#[derive(Clone, Copy)]
+#[derive(Clone, Copy, PartialEq, Eq, Debug)]
 pub enum Refusal {
     TextTooLong,
     BadByte,
