@@ -1,5 +1,5 @@
 -- The calls: for any receiver and any lent buffers, the answer and every buffer afterwards.
-use Rattle.std.specs.Prelude.{ℕ, Bool, true, false, cond, ◌||◌, List, length, ltb, Option, Some, None}
+use Rattle.std.specs.Prelude.{ℕ, Bool, true, false, cond, ◌||◌, List, length, ltb, Option, is_some}
 use Rattle.octets.specs.Outcome.{Outcome, outcome}
 use Rattle.frames.specs.Stream.{is_drag_drop, text_limit}
 use Rattle.frames.specs.Calls.{refusal_number, scan_of, text_of}
@@ -23,8 +23,7 @@ use Rattle.protocol.specs.declared.Fed.{Fed}
 use Rattle.protocol.specs.declared.Answered.{Answered}
 
 abbrev pub is_owed : Option (ℕ × Due) → Bool
-is_owed None = false
-is_owed (Some (i, d)) = true
+is_owed o = is_some o
 
 -- ---- feed
 -- what a feed gives: its answer, and the carry, the scratch and the reply buffer afterwards

@@ -1,7 +1,7 @@
 -- "A statement for the auditors", of a machine: what one session gets does not hang on the others (the field says noninterference).
 -- Two runs from fresh receivers with the same commands, console calls and answers for session A, in the same order, agree on all that A
 -- gets.
-use Rattle.std.specs.Prelude.{ℕ, ◌≡◌, Bool, true, false, not, cond, ◌&&◌, ◌||◌, List, [], ◌∷◌, ◌++◌, take, eqb, Option, Some, None}
+use Rattle.std.specs.Prelude.{ℕ, ◌≡◌, Bool, true, false, not, cond, ◌&&◌, ◌||◌, List, [], ◌∷◌, ◌++◌, take, eqb, Option, Some, None, is_some}
 use Rattle.octets.specs.Slices.{equals}
 use Rattle.octets.specs.Outcome.{Outcome}
 use Rattle.frames.specs.Stream.{stream}
@@ -181,8 +181,7 @@ any_begins [] = false
 any_begins (a ∷ as') = begins a || any_begins as'
 
 abbrev pub is_at : Option ℕ → Bool
-is_at None = false
-is_at (Some i) = true
+is_at f = is_some f
 
 -- a place of the table is free: not "EBUSY was not answered", which a receiver that is busy with three present would meet
 abbrev pub has_room : Table → Bool

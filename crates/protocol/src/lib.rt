@@ -14,6 +14,7 @@ ghost use Rattle.protocol.specs.Isolation.{Isolated};
 ghost use Rattle.protocol.specs.IsolationExamples.{SeesAlike};
 ghost use Rattle.protocol.specs.LeakyMachines.{Leaks};
 ghost use Rattle.protocol.specs.Machine.{ours};
+ghost use Rattle.protocol.specs.Replies.{failure_status};
 ghost use Rattle.protocol.specs.Counts.{EveryCount};
 ghost use Rattle.protocol.specs.Sound.{EverySound};
 ghost use Rattle.protocol.specs.Starred.{AllHold, starred};
@@ -157,6 +158,20 @@ pub enum Failure {
     Eio,
     Enoent,
     Enospc,
+}
+
+// "It answers done, or failed with EPERM, EIO, ENOENT, ENOSPC"
+impl From<Failure> for Status {
+    ghost from_gives = { λ failure status. status ≡ failure_status failure };
+
+    fn from(failure: Failure) -> Status {
+        match failure {
+            Failure::Eperm => Status::Eperm,
+            Failure::Eio => Status::Eio,
+            Failure::Enoent => Status::Enoent,
+            Failure::Enospc => Status::Enospc,
+        }
+    }
 }
 
 // What the console decides of a session.

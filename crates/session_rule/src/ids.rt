@@ -7,12 +7,9 @@ ghost use Rattle.protocol.specs.Table.{padded};
 pub fn padded(id: &[u8]) -> [u8; 32]
     ensures { result ≡ padded id.now }
 {
-    let mut array = [0u8; 32];
-    if id.len() <= 32 {
-        array[..id.len()].copy_from_slice(id);
-        return array;
-    }
-    array.copy_from_slice(&id[..32]);
+    let mut array = [0; 32];
+    let n = id.len().min(32);
+    array[..n].copy_from_slice(&id[..n]);
     array
 }
 
@@ -20,9 +17,5 @@ pub fn padded(id: &[u8]) -> [u8; 32]
 pub fn same_id(own: [u8; 32], n: usize, id: &[u8]) -> bool
     ensures { result ≡ equals (take n own) id.now }
 {
-    if n < 32 {
-        octets::equal(&own[..n], id)
-    } else {
-        octets::equal(&own, id)
-    }
+    octets::equal(&own[..n.min(32)], id)
 }

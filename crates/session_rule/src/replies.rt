@@ -9,14 +9,13 @@ pub fn session_reply(status: Status, session: Session) -> Reply
     ensures { result ≡ session_reply status session }
 {
     let id = session.id;
-    let file_id = [0u8; 32];
+    let file_id = [0; 32];
     Reply {
-        due: true,
-        status: status,
+        status,
         quiet: session.quiet,
-        id: id,
+        id,
         id_len: session.id_len,
-        file_id: file_id,
+        file_id,
         file_id_len: 0,
         size: 0,
     }
@@ -29,13 +28,12 @@ pub(crate) fn file_reply(status: Status, session: Session, file: FileRecord, siz
     let id = session.id;
     let file_id = file.id;
     Reply {
-        due: true,
-        status: status,
+        status,
         quiet: session.quiet,
-        id: id,
+        id,
         id_len: session.id_len,
-        file_id: file_id,
+        file_id,
         file_id_len: file.id_len,
-        size: size,
+        size,
     }
 }

@@ -58,16 +58,16 @@ fn put_back(
     status: Status,
     size: u64,
 ) -> Change
-    ensures { result ≡ files j (moved file state count) status (file_reply status session file size) }
+    ensures { result ≡ files j (moved file state count) status (Some (file_reply status session file size)) }
 {
     Change {
         edit: Edit::Filed(j),
         file: FileRecord {
-            state: state,
-            count: count,
+            state,
+            count,
             ..file
         },
         news: News::Clears(Told::Status(status)),
-        reply: file_reply(status, session, file, size),
+        reply: Some(file_reply(status, session, file, size)),
     }
 }
