@@ -1,9 +1,8 @@
 -- The sender's session: room, ids, finding a file, and what becomes of the session and of a file of it.
-use Rattle.std.specs.Prelude.{ℕ, ◌+◌, ◌-◌, min, Bool, true, false, ◌&&◌, List, length, take, get_or, set, replicate}
+use Rattle.std.specs.Prelude.{ℕ, ◌+◌, ◌-◌, min, Bool, true, false, ◌&&◌, List, length, take, get_or, set, replicate, Option}
 use Rattle.octets.specs.Slices.{equals}
 use Rattle.frames.specs.declared.Framing.TheVariants as Framing
 use Rattle.protocol.specs.Table.{file_room, zeros, padded, first}
-use Rattle.protocol.specs.declared.Found.{Found}
 use Rattle.sending.specs.declared.Stage.{Stage}
 use Rattle.sending.specs.declared.FileStage.{FileStage}
 use Rattle.sending.specs.declared.SentFile.{SentFile}
@@ -49,7 +48,7 @@ is_known FileStage.Stopped = true
 abbrev pub has_file_id : List ℕ → SentFile → Bool
 has_file_id k f = is_known f.stage && equals (file_id_of f) k
 
-abbrev pub find_file : Transfer → List ℕ → Found
+abbrev pub find_file : Transfer → List ℕ → Option ℕ
 find_file t k = first (has_file_id k) t.files
 
 -- ---- stages

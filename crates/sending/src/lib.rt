@@ -71,18 +71,12 @@ pub struct Sender {
 }
 
 // ---- What a call answers.
-// A refusal by its number, or the length of the frame at the buffer's start.
-#[derive(Clone, Copy)]
-pub enum Writing {
-    Refused(u8),
-    Written(usize),
-}
-
-// What a call that writes answers.
+// What a call that writes answers: the sender, and the length of the frame at the buffer's start, or a
+// refusal. It is told by its number, as in the news: the writer's refusals are among them.
 #[derive(Clone, Copy)]
 pub struct Wrote {
     pub sender: Sender,
-    pub writing: Writing,
+    pub writing: Result<usize, u8>,
 }
 
 // What a hear tells. A file is named by its place, a status by where it stands in the scratch.

@@ -1,4 +1,5 @@
 -- A carry that has room keeps it.
+use Rattle.std.specs.Prelude.{Result, Ok, Err}
 use Prim.Native.Nat.{ℕ, ◌≤◌}
 use mathlib.Core.Bool.{Bool, true, false, cond, ◌||◌}
 use mathlib.Core.List.{List, [], ◌∷◌, ◌++◌}
@@ -21,7 +22,6 @@ use Rattle.sending.specs.Plans.{Order}
 use Rattle.sending.specs.Exchange.{Exchange, Turn, turn, after, write_turn, after_write, order_of}
 use Rattle.sending.specs.declared.Sender.{Sender}
 use Rattle.sending.specs.declared.Wrote.{Wrote}
-use Rattle.sending.specs.declared.Writing.{Writing}
 
 -- a scan replaces bytes of it
 replaced-room : (t c : List ℕ) → text_limit ≤ length c → text_limit ≤ length (t ++ drop (length t) c)
@@ -71,9 +71,9 @@ pub record Roomy (e : Exchange) : Type 0 where
 write-room : (e : Exchange) (os : List Order) (o : Outcome Wrote) → Roomy e → Roomy (after_write e os o)
 write-room e os o r = go o.answer.writing
   where
-    go : (x : Writing) → Roomy (after_write e os (outcome (record { sender = o.answer.sender; writing = x }) o.buffer))
-    go (Writing.Refused n) = record { office = r.office; console = r.console }
-    go (Writing.Written n) = record { office = r.office; console = r.console }
+    go : (x : Result ℕ ℕ) → Roomy (after_write e os (outcome (record { sender = o.answer.sender; writing = x }) o.buffer))
+    go (Err n) = record { office = r.office; console = r.console }
+    go (Ok n) = record { office = r.office; console = r.console }
 
 -- every turn leaves both carries their room
 pub room-kept : (e : Exchange) (t : Turn) → Roomy e → Roomy (turn ours e t)

@@ -1,10 +1,10 @@
 -- What a feed does to the console's world: nothing, or what the one text that its bytes tell does to the table.
+use Rattle.std.specs.Prelude.{None}
 use Rattle.frames.specs.Stream.{is_drag_drop, text_tells}
 use Rattle.protocol.specs.Calls.{text_act}
 use Prim.Native.Nat.{ℕ}
 use mathlib.Core.Path.{◌≡◌, refl, ◌∙◌}
 use mathlib.Core.Bool.{Bool, true, false, cond}
-use mathlib.Core.Option.{Option}
 use mathlib.Core.List.{List, [], ◌∷◌}
 use lib.ListN.{take}
 use lib.Dec.{lit≤}
@@ -41,7 +41,7 @@ reply_of f = take f.fed.reply_len f.reply
 pub record Quiet (w : World) (piece : List ℕ) (f : Feeding) : Type 0 where
   pub told : told_after w (consumed_of piece f) ≡ []
   pub table : f.fed.receiver.table ≡ w.receiver.table
-  pub hears : hearing f.fed.told f.scratch ≡ Option.none
+  pub hears : hearing f.fed.told f.scratch ≡ None
   pub reply : reply_of f ≡ []
 
 -- a text is told, while nothing is owed

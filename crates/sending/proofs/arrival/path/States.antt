@@ -3,6 +3,7 @@ use Prim.Native.Nat.{ℕ, ◌+◌, ◌-◌}
 use mathlib.Core.Bool.{true, false}
 use mathlib.Core.List.{List, [], ◌∷◌, ◌++◌, map}
 use lib.ListN.{length, replicate}
+use Rattle.std.specs.Prelude.{Option, Some, None}
 use Rattle.command.specs.Values.{Value}
 use Rattle.protocol.specs.Table.{file_room, padded, absent_session, total, free_file}
 use Rattle.protocol.specs.Files.{opening, write_due}
@@ -13,7 +14,6 @@ use Rattle.protocol.specs.declared.FileRecord.{FileRecord}
 use Rattle.protocol.specs.declared.SessionState.TheVariants as SessionState
 use Rattle.protocol.specs.declared.Session.{Session}
 use Rattle.protocol.specs.declared.Due.{Due}
-use Rattle.protocol.specs.declared.Owed.{Owed}
 use Rattle.protocol.specs.declared.Table.{Table}
 use Rattle.sending.specs.Transfers as Transfers
 use Rattle.sending.specs.Plans.{Order}
@@ -54,7 +54,7 @@ abbrev pub open_session : (id : List ℕ) (started : ℕ) → List Sent → List
 open_session id started past now = keeping id started (bytes_of past) (records_of past now)
 
 -- one session, in the first place
-abbrev pub alone_in : Session → Owed → Table
+abbrev pub alone_in : Session → Option (ℕ × Due) → Table
 alone_in s o = record { sessions = s ∷ absent_session ∷ absent_session ∷ absent_session ∷ []; owed = o }
 
 abbrev pub session_of : (id : List ℕ) → Point → Session
@@ -64,7 +64,7 @@ session_of id (Point.busy past f) = open_session id 1 past (record_of FileState.
 session_of id (Point.over past) = absent_session
 
 abbrev pub table_of : (id : List ℕ) → Point → Table
-table_of id p = alone_in (session_of id p) Owed.Nothing
+table_of id p = alone_in (session_of id p) None
 
 -- ---- the table once an order is read and before it is answered
 -- the place of the file that is being sent, or of the next one
@@ -81,11 +81,11 @@ past_of (Point.busy past f) = past
 past_of (Point.over past) = past
 
 abbrev pub owing_of : (id : List ℕ) → Point → Order → Table
-owing_of id p (Order.send k) = alone_in (asked_session 0 k) Owed.Nothing
+owing_of id p (Order.send k) = alone_in (asked_session 0 k) None
 owing_of id p (Order.file k name size) =
-    alone_in (open_session id 0 (past_of p) (opening k size ∷ [])) (Owed.For 0 (Due.OpenFile (place_of p)))
-owing_of id p (Order.piece c last) = alone_in (session_of id p) (Owed.For 0 (write_due last (place_of p) (length c)))
-owing_of id p Order.finish = alone_in (session_of id p) (Owed.For 0 Due.Commit)
+    alone_in (open_session id 0 (past_of p) (opening k size ∷ [])) (Some (0, Due.OpenFile (place_of p)))
+owing_of id p (Order.piece c last) = alone_in (session_of id p) (Some (0, write_due last (place_of p) (length c)))
+owing_of id p Order.finish = alone_in (session_of id p) (Some (0, Due.Commit))
 
 -- ---- the history's marks, newest first
 -- what is asked when an order is read; nothing for send, which the user is asked

@@ -6,13 +6,13 @@ use mathlib.Core.List.{List, [], ◌∷◌, ◌++◌, map, append-nil, append_as
 use native.Mathlib.Omega.{arith}
 use lib.ListN.{length, get_or, set, replicate, length-append, length-map}
 use lib.Seq.{set_at, get_or_at, append_snoc}
+use Rattle.std.specs.Prelude.{Some, None}
 use Rattle.octets.specs.Members.{every}
 use Rattle.octets.specs.Slices.{equals}
 use Rattle.octets.proofs.Compare.{equals_refl}
 use Rattle.command.proofs.Every.{every_cons}
 use Rattle.protocol.specs.Table.{file_room, padded, first}
 use Rattle.protocol.specs.Files.{count_limit}
-use Rattle.protocol.specs.declared.Found.TheVariants as Found
 use Rattle.protocol.proofs.Laws.{padded-id}
 use Rattle.sending.specs.Transfers.{free_file, current_file, is_known, has_file_id, is_sending, put_file, begun, grown, added}
 use Rattle.sending.specs.declared.Stage.{Stage}
@@ -81,7 +81,7 @@ module _ (closed others : List Sent) where
 
   -- an id that no file has
   pub none-there : (k : List ℕ) → AllIds closed → AllIds others → NotIn k closed → NotIn k others
-      → first (has_file_id k) (sent_files closed others []) ≡ Found.Nowhere
+      → first (has_file_id k) (sent_files closed others []) ≡ None
   none-there k ac ao nc ns =
       let e = every_append (λ (x : SentFile). not (has_file_id k x)) (closed_records closed) (written_records others)
       (apart FileStage.Closed k closed ac nc) (apart FileStage.Sent k others ao ns) in
@@ -196,14 +196,14 @@ module _ (closed : List Sent) (f : Sent) where
   -- it is found there by its id, which no closed file has
   module _ (k : List ℕ) (a : AllIds closed) (n : NotIn k closed) (l : length k ≤ 32) (e : f.id ≡ k) where
     found-behind : (g : FileStage) → is_known g ≡ true → (ys : List SentFile)
-        → first (has_file_id k) (shut ++ sent_record g f ∷ ys) ≡ Found.At (length closed)
+        → first (has_file_id k) (shut ++ sent_record g f ∷ ys) ≡ Some (length closed)
     found-behind g u ys =
         rw (← shut-length) (first_past (has_file_id k) shut (sent_record g f) ys (apart FileStage.Closed k closed a n)
         (has-id g f k u (rw e l) ∙ rw e (equals_refl k)))
 
-    pub found-sending : first (has_file_id k) (sent_files closed [] (sent_record FileStage.Sending f ∷ [])) ≡ Found.At (length closed)
+    pub found-sending : first (has_file_id k) (sent_files closed [] (sent_record FileStage.Sending f ∷ [])) ≡ Some (length closed)
     found-sending = rw (append-nil shut, append_snoc shut) (found-behind FileStage.Sending refl _)
 
     pub found-written : (others : List Sent) (now : List SentFile)
-        → first (has_file_id k) (sent_files closed (f ∷ others) now) ≡ Found.At (length closed)
+        → first (has_file_id k) (sent_files closed (f ∷ others) now) ≡ Some (length closed)
     found-written others now = rw (written_behind others now _) (found-behind FileStage.Sent refl _)
