@@ -45,14 +45,6 @@ reply-parts id file size word =
       append-nil (Base64.text_of word),
     )
 
--- how long they are
-pub parts-length : (id file size word : List ℕ)
-    → length (joined (parts_of id file size word))
-    ≡ 16 + length (key_for (ascii ";id=") id) + length id + length (key_for (ascii ";fid=") file) + length file
-    + length (key_for (ascii ";sz=") size) + length size + 4 + length word + 2
-unfolding joined
-parts-length id file size word = simp length-append (omega arith)
-
 -- ---- by the reply: due and not held back, not due, held back
 pub sent : (r : Reply) → r.due ≡ true → is_held r.status r.quiet ≡ false
     → reply_bytes r

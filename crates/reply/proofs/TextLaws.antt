@@ -4,6 +4,7 @@ use mathlib.Core.Path.{◌≡◌, refl, ◌∙◌, ap}
 use mathlib.Core.Bool.{Bool, true, false, not, cond, ◌&&◌}
 use mathlib.Core.List.{List, []}
 use native.Mathlib.Omega.{arith}
+use Rattle.std.proofs.Common.{lit≤}
 use lib.ListN.{length, take}
 use borrow.Author.Tests.{le-leb}
 use Rattle.octets.specs.Outcome.{Outcome, outcome, stored_at}
@@ -16,6 +17,8 @@ use Rattle.decimal.specs.declared.Written.{Written}
 use Rattle.decimal.proofs.Widths.{width-least}
 use Rattle.decimal.proofs.Digits.{length-fixed}
 use Rattle.command.specs.Values.{count}
+use Rattle.protocol.specs.Replies.{status_word}
+use Rattle.protocol.specs.declared.Status.{Status}
 use Rattle.reply.specs.Puts.{place_after}
 use Rattle.reply.specs.Texts.{end_of}
 
@@ -51,6 +54,23 @@ unfolding text_of
 digits-fit n = omega (arith, (width-least n).upto, length-fixed (width_of n) n)
 
 -- ---- Base64
+-- the longest word has eight bytes
+pub word-least : (w : Status) → length (status_word w) ≤ 8
+word-least Status.Ok = lit≤ tt
+word-least Status.Started = lit≤ tt
+word-least Status.Progress = lit≤ tt
+word-least Status.Canceled = lit≤ tt
+word-least Status.Eperm = lit≤ tt
+word-least Status.Eio = lit≤ tt
+word-least Status.Enoent = lit≤ tt
+word-least Status.Enospc = lit≤ tt
+word-least Status.Ebusy = lit≤ tt
+word-least Status.Enotsup = lit≤ tt
+word-least Status.Einval = lit≤ tt
+word-least Status.Eexist = lit≤ tt
+word-least Status.Emfile = lit≤ tt
+word-least Status.Efbig = lit≤ tt
+
 abbrev to_place : Outcome Stored → List ℕ
 to_place o = take (place_after o.answer 0) o.buffer
 

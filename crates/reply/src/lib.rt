@@ -35,8 +35,8 @@ pub fn send(reply: Reply, buffer: &mut [u8]) -> usize
         buffer,
         texts::first(&reply.id, reply.id_len),
         texts::first(&reply.file_id, reply.file_id_len),
-        texts::first(&size.bytes, size.len),
-        texts::first(&word.bytes, word.len),
+        size.as_slice(),
+        word.as_slice(),
     )
 }
 
@@ -44,33 +44,15 @@ pub fn send(reply: Reply, buffer: &mut [u8]) -> usize
 pub fn is_held(status: Status, quiet: u64) -> bool
     ensures { result ≡ is_held status quiet }
 {
-    if quiet >= 2 {
-        return true;
-    }
-    if quiet < 1 {
-        return false;
-    }
-    is_progress(status)
+    quiet >= 2 || quiet >= 1 && is_progress(status)
 }
 
 // Whether quiet 1 holds a reply with this status back.
 fn is_progress(status: Status) -> bool
     ensures { result ≡ is_progress status }
 {
-    match status {
-        Status::Ok => true,
-        Status::Started => true,
-        Status::Progress => true,
-        Status::Canceled => true,
-        Status::Eperm => false,
-        Status::Eio => false,
-        Status::Enoent => false,
-        Status::Enospc => false,
-        Status::Ebusy => false,
-        Status::Enotsup => false,
-        Status::Einval => false,
-        Status::Eexist => false,
-        Status::Emfile => false,
-        Status::Efbig => false,
-    }
+    matches!(
+        status,
+        Status::Ok | Status::Started | Status::Progress | Status::Canceled
+    )
 }

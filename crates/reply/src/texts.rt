@@ -11,19 +11,23 @@ use protocol::Status;
 // A text made here: the first len bytes of the array. 20 hold the digits of every u64.
 #[derive(Drop)]
 pub(crate) struct Text {
-    pub(crate) bytes: [u8; 20],
-    pub(crate) len: usize,
+    bytes: [u8; 20],
+    len: usize,
 }
 
-// A status word: the first so many bytes of the array.
-#[derive(Drop)]
-struct Word([u8; 8], usize);
+impl Text {
+    pub(crate) fn as_slice(&self) -> &[u8]
+        ensures { result.now ≡ text_in self.now }
+    {
+        first(&self.bytes, self.len)
+    }
+}
 
 // The first n bytes of s, or all of it where it has fewer.
 pub(crate) fn first(s: &[u8], n: usize) -> &[u8]
     ensures { result.now ≡ take n s.now }
 {
-    if n < s.len() { &s[..n] } else { s }
+    &s[..n.min(s.len())]
 }
 
 // The digits of a size; none where the reply leaves it out.
@@ -32,20 +36,14 @@ pub(crate) fn size_text(size: u64) -> Text
 {
     let mut bytes = [0; 20];
     if size == 0 {
-        return Text {
-            bytes: bytes,
-            len: 0,
-        };
+        return Text { bytes, len: 0 };
     }
     let n = Number {
         negative: false,
         magnitude: size,
     };
     let len = end_of(decimal::write(n, &mut bytes, 0));
-    Text {
-        bytes: bytes,
-        len: len,
-    }
+    Text { bytes, len }
 }
 
 // Where a number's text ends; 0 where none was written.
@@ -64,36 +62,32 @@ fn end_of(written: Written) -> usize
 pub(crate) fn status_text(status: Status) -> Text
     ensures { text_in result ≡ text_of (status_word status) }
 {
-    let word = word_of(status);
     let mut bytes = [0; 20];
     let len = writer::place_after(
-        base64_codec::encode(first(&word.0, word.1), &mut bytes, 0),
+        base64_codec::encode(word_of(status), &mut bytes, 0),
         0,
     );
-    Text {
-        bytes: bytes,
-        len: len,
-    }
+    Text { bytes, len }
 }
 
 // The word of a status.
-fn word_of(status: Status) -> Word
-    ensures { take result.1 result.0 ≡ status_word status }
+fn word_of(status: Status) -> &'static [u8]
+    ensures { result.now ≡ status_word status }
 {
     match status {
-        Status::Ok => Word(*b"OK      ", 2),
-        Status::Started => Word(*b"STARTED ", 7),
-        Status::Progress => Word(*b"PROGRESS", 8),
-        Status::Canceled => Word(*b"CANCELED", 8),
-        Status::Eperm => Word(*b"EPERM   ", 5),
-        Status::Eio => Word(*b"EIO     ", 3),
-        Status::Enoent => Word(*b"ENOENT  ", 6),
-        Status::Enospc => Word(*b"ENOSPC  ", 6),
-        Status::Ebusy => Word(*b"EBUSY   ", 5),
-        Status::Enotsup => Word(*b"ENOTSUP ", 7),
-        Status::Einval => Word(*b"EINVAL  ", 6),
-        Status::Eexist => Word(*b"EEXIST  ", 6),
-        Status::Emfile => Word(*b"EMFILE  ", 6),
-        Status::Efbig => Word(*b"EFBIG   ", 5),
+        Status::Ok => b"OK",
+        Status::Started => b"STARTED",
+        Status::Progress => b"PROGRESS",
+        Status::Canceled => b"CANCELED",
+        Status::Eperm => b"EPERM",
+        Status::Eio => b"EIO",
+        Status::Enoent => b"ENOENT",
+        Status::Enospc => b"ENOSPC",
+        Status::Ebusy => b"EBUSY",
+        Status::Enotsup => b"ENOTSUP",
+        Status::Einval => b"EINVAL",
+        Status::Eexist => b"EEXIST",
+        Status::Emfile => b"EMFILE",
+        Status::Efbig => b"EFBIG",
     }
 }

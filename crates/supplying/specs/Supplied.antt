@@ -13,12 +13,17 @@ use Rattle.sessions.specs.Leaving.{next_by}
 use Rattle.sessions.specs.declared.next.Next.{Next}
 use Rattle.supplying.specs.declared.Supplying.{Supplying}
 use Rattle.supplying.specs.declared.Supplied.{Supplied}
+use Rattle.supplying.specs.declared.Given.{Given}
 
 abbrev pub supply_in : Supplying → (text contents : List ℕ) → Supply
 supply_in (Supplying.List e) text contents = Supply.list e text contents
 supply_in (Supplying.ListFailed id path code) text contents = Supply.list_failed text id path code
 supply_in Supplying.Home text contents = Supply.home text contents
 supply_in (Supplying.Part last) text contents = Supply.part last contents
+
+-- with its two slices
+abbrev pub given_in : Given → Supply
+given_in g = supply_in g.supplying g.text.now g.contents.now
 
 -- ---- what is left
 abbrev pub leaves : Session → Owed → Told → ℕ → Supplied

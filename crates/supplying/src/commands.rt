@@ -1,5 +1,5 @@
 // The commands that are written, by places, and the slice in which a part's ids stand.
-ghost use Rattle.std.specs.Prelude.{◌≡◌, min};
+ghost use Rattle.std.specs.Prelude.{◌≡◌, length, min};
 ghost use Rattle.command.specs.Slots.{nowhere};
 ghost use Rattle.protocol.specs.Written.{piece_action};
 ghost use Rattle.protocol.specs.Supplies.{entry_command, error_command};
@@ -7,7 +7,6 @@ ghost use Rattle.protocol.specs.Table.{id_room};
 ghost use Rattle.supplying.specs.Places.{up_to, from, command_with, ids_of};
 
 use command::{Action, Command, Place};
-use octets::size::least;
 use protocol::Entry;
 
 // "at most 32 bytes" of an id: the length of its array.
@@ -17,28 +16,18 @@ pub(crate) const ID_ROOM: usize = 32;
 pub(crate) fn entry(entry: Entry) -> Command
     ensures { result ≡ entry_command entry }
 {
-    let file_type = entry.file_type;
-    let modified = entry.modified;
-    let permissions = entry.permissions;
-    let size = entry.size;
-    let id = entry.id;
-    let path_id = entry.path_id;
-    let name = entry.name;
-    let own_id = entry.own_id;
-    let parent = entry.parent;
-    let target = entry.target;
     Command {
         action: Action::File,
-        file_type: file_type,
-        id: id,
-        file_id: path_id,
-        modified: modified,
-        permissions: permissions,
-        size: size,
-        name: name,
-        status: own_id,
-        parent: parent,
-        payload: target,
+        file_type: entry.file_type,
+        id: entry.id,
+        file_id: entry.path_id,
+        modified: entry.modified,
+        permissions: entry.permissions,
+        size: entry.size,
+        name: entry.name,
+        status: entry.own_id,
+        parent: entry.parent,
+        payload: entry.target,
         ..Command::NONE
     }
 }
@@ -49,7 +38,7 @@ pub(crate) fn error(id: Place, path_id: Place, n: usize) -> Command
 {
     Command {
         action: Action::Status,
-        id: id,
+        id,
         file_id: path_id,
         status: Place { start: 0, len: n },
         ..Command::NONE
@@ -77,16 +66,15 @@ pub(crate) fn piece(last: bool, id: usize, file_id: usize, bytes: usize) -> Comm
     ensures { result
         ≡ command_with (piece_action last) (up_to (min id id_room)) (from id_room (min file_id id_room)) nowhere nowhere (up_to bytes) }
 {
-    let action = piece_action(last);
     Command {
-        action: action,
+        action: if last { Action::EndData } else { Action::Data },
         id: Place {
             start: 0,
-            len: least(id, ID_ROOM),
+            len: id.min(ID_ROOM),
         },
         file_id: Place {
             start: ID_ROOM,
-            len: least(file_id, ID_ROOM),
+            len: file_id.min(ID_ROOM),
         },
         payload: Place {
             start: 0,
@@ -96,15 +84,10 @@ pub(crate) fn piece(last: bool, id: usize, file_id: usize, bytes: usize) -> Comm
     }
 }
 
-fn piece_action(last: bool) -> Action
-    ensures { result ≡ piece_action last }
-{
-    if last { Action::EndData } else { Action::Data }
-}
-
 // The session's id and then the file's.
 pub(crate) fn ids(own: [u8; ID_ROOM], file: [u8; ID_ROOM]) -> [u8; 2 * ID_ROOM]
-    ensures { result ≡ ids_of own file }
+    ensures ids { result ≡ ids_of own file }
+    ensures lengths { (length own ≡ id_room) × (length file ≡ id_room) }
 {
     let mut ids = [0u8; 2 * ID_ROOM];
     octets::copy_at(&own, &mut ids, 0);

@@ -5,7 +5,6 @@
 // No public function has a `requires`: any session, any place and any slices are answered.
 #![tactic(auto)]
 
-mod changes;
 mod commands;
 pub mod turns;
 mod writers;
@@ -15,16 +14,25 @@ ghost use Rattle.octets.specs.Outcome.{outcome};
 ghost use Rattle.command.specs.Slots.{nowhere};
 ghost use Rattle.command.specs.Write.{answered};
 ghost use Rattle.command.specs.Framed.{frame_room};
-ghost use Rattle.protocol.specs.Supplies.{is_over, framed_for, is_held_back};
+ghost use Rattle.protocol.specs.Supplies.{is_over, framed_for, is_held_back, change_for};
 ghost use Rattle.sessions.specs.Leaving.{next_by};
-ghost use Rattle.supplying.specs.Supplied.{supply_in, held_answer, unsupplied, settled_by, taken_in, supplied_in};
+ghost use Rattle.supplying.specs.Supplied.{given_in, held_answer, unsupplied, settled_by, taken_in, supplied_in};
 
-use changes::change_for;
 use command::{Place, Written};
 use command_writer::framed::FRAME_ROOM;
-use protocol::{Change, Entry, Failure, FileRecord, Found, Owed, Session, Status, Told};
+use protocol::{
+    Change, Edit, Entry, Failure, FileRecord, Found, News, Owed, Reply, Session, SessionState, Status,
+    Told,
+};
 use reply::is_held;
 use sessions::next::step;
+
+// What a call is refused with: under 8,196 bytes lent, a part over its limit, out of turn.
+const SHORT_OUT: u8 = 9;
+
+const LONG_PART: u8 = 17;
+
+const OUT_OF_TURN: u8 = 18;
 
 // What is supplied; its strings stand in two slices, the text and the contents. The text of a home path
 // is the session's id, and its contents are the path; the contents of a part are its bytes.
@@ -39,6 +47,14 @@ pub enum Supplying {
     Part(bool),
 }
 
+// What is supplied, with its two slices.
+#[derive(Clone, Copy)]
+pub struct Given<'a> {
+    pub supplying: Supplying,
+    pub text: &'a [u8],
+    pub contents: &'a [u8],
+}
+
 // What a call leaves: the session to put back, what is owed, what is told, and how many bytes of the
 // buffer were written.
 #[derive(Clone, Copy)]
@@ -51,27 +67,24 @@ pub struct Supplied {
 
 // Supplies something in the session that was found in turn. 9 comes first, then 17, 18, and the writer's
 // refusals; a refused call changes nothing.
-pub fn supply_at<'a>(
-    supplying: Supplying,
+pub fn supply_at(
+    given: Given<'_>,
     found: Found,
     session: Session,
     owed: Owed,
-    text: &'a [u8],
-    contents: &'a [u8],
     out: &mut [u8],
 ) -> Supplied
-    ensures { outcome result out.new
-        ≡ supplied_in (supply_in supplying text.now contents.now) found session owed out.old }
+    ensures { outcome result out.new ≡ supplied_in (given_in given.entry) found session owed out.old }
 {
     if out.len() < FRAME_ROOM {
-        return unsupplied(session, owed, 9);
+        return unsupplied(session, owed, SHORT_OUT);
     }
-    if is_over(supplying, contents) {
-        return unsupplied(session, owed, 17);
+    if given.is_over() {
+        return unsupplied(session, owed, LONG_PART);
     }
     match found {
-        Found::Nowhere => unsupplied(session, owed, 18),
-        Found::At(i) => take(supplying, i, session, owed, text, contents, out),
+        Found::Nowhere => unsupplied(session, owed, OUT_OF_TURN),
+        Found::At(i) => take(given, i, session, owed, out),
     }
 }
 
@@ -80,96 +93,88 @@ fn unsupplied(session: Session, owed: Owed, number: u8) -> Supplied
     ensures { result ≡ unsupplied session owed number }
 {
     Supplied {
-        session: session,
-        owed: owed,
+        session,
+        owed,
         told: Told::Refused(number),
         written: 0,
     }
 }
 
-// "A part over 4,096 bytes gets 17"
-fn is_over(supplying: Supplying, contents: &[u8]) -> bool
-    ensures { (text : List ℕ) → result ≡ is_over (supply_in supplying text contents.now) }
-{
-    match supplying {
-        Supplying::List(_) => false,
-        Supplying::ListFailed(_, _, _) => false,
-        Supplying::Home => false,
-        Supplying::Part(_) => contents.len() > FileRecord::PART_LIMIT,
-    }
-}
-
 // In turn: it is written, or held back.
-fn take<'a>(
-    supplying: Supplying,
-    i: usize,
-    session: Session,
-    owed: Owed,
-    text: &'a [u8],
-    contents: &'a [u8],
-    out: &mut [u8],
-) -> Supplied
+fn take(given: Given<'_>, i: usize, session: Session, owed: Owed, out: &mut [u8]) -> Supplied
     requires { frame_room ≤ length out.old }
-    ensures { outcome result out.new
-        ≡ taken_in (supply_in supplying text.now contents.now) i session owed out.old }
+    ensures { outcome result out.new ≡ taken_in (given_in given.entry) i session owed out.old }
 {
-    let change = change_for(supplying);
-    if is_held_back(supplying, session.quiet) {
-        let written = write_nowhere(supplying, session, text, contents);
-        return settle(i, session, owed, change, written);
-    }
-    let written = write(supplying, session, text, contents, out);
-    settle(i, session, owed, change, written)
+    let written = if given.is_held_back(&session) {
+        given.write_nowhere(&session)
+    } else {
+        given.write(&session, out)
+    };
+    settle(i, session, owed, given.change(), written)
 }
 
-// "Quiet holds back only status replies", and every failure's as any other's.
-fn is_held_back(supplying: Supplying, quiet: u64) -> bool
-    ensures { (s : Session) (text contents : List ℕ) → s.quiet ≡ quiet
-        → result ≡ is_held_back s (supply_in supplying text contents) }
-{
-    match supplying {
-        Supplying::List(_) => false,
-        Supplying::ListFailed(_, _, _) => is_held(Status::Eio, quiet),
-        Supplying::Home => is_held(Status::Ok, quiet),
-        Supplying::Part(_) => false,
+impl Given<'_> {
+    // "A part over 4,096 bytes gets 17"
+    fn is_over(&self) -> bool
+        ensures { result ≡ is_over (given_in self.now) }
+    {
+        matches!(self.supplying, Supplying::Part(_))
+            && self.contents.len() > FileRecord::PART_LIMIT
     }
-}
 
-// The writer's refusal of what is held back; where there is none, no byte counts as written.
-fn write_nowhere<'a>(
-    supplying: Supplying,
-    session: Session,
-    text: &'a [u8],
-    contents: &'a [u8],
-) -> Written
-    ensures { (out : List ℕ) → frame_room ≤ length out → answered result
-        ≡ held_answer (framed_for session (supply_in supplying text.now contents.now) out).answer }
-{
-    let mut out = [0u8; FRAME_ROOM];
-    match write(supplying, session, text, contents, &mut out) {
-        Written::Length(_) => Written::Length(0),
-        Written::Refused(refusal) => Written::Refused(refusal),
-    }
-}
-
-// Writes it, in turn or not.
-fn write<'a>(
-    supplying: Supplying,
-    session: Session,
-    text: &'a [u8],
-    contents: &'a [u8],
-    out: &mut [u8],
-) -> Written
-    ensures { outcome (answered result) out.new
-        ≡ framed_for session (supply_in supplying text.now contents.now) out.old }
-{
-    match supplying {
-        Supplying::List(entry) => writers::write_entry(entry, text, contents, out),
-        Supplying::ListFailed(id, path_id, failure) => {
-            writers::write_error(text, id, path_id, failure, out)
+    // "Quiet holds back only status replies", and every failure's as any other's.
+    fn is_held_back(&self, session: &Session) -> bool
+        ensures { result ≡ is_held_back session.now (given_in self.now) }
+    {
+        match self.supplying {
+            Supplying::ListFailed(_, _, _) => is_held(Status::Eio, session.quiet),
+            Supplying::Home => is_held(Status::Ok, session.quiet),
+            _ => false,
         }
-        Supplying::Home => writers::write_home(text, contents, out),
-        Supplying::Part(last) => writers::write_part(session, last, contents, out),
+    }
+
+    // The writer's refusal of what is held back; where there is none, no byte counts as written.
+    fn write_nowhere(&self, session: &Session) -> Written
+        ensures { (out : List ℕ) → frame_room ≤ length out
+            → answered result ≡ held_answer (framed_for session.now (given_in self.now) out).answer }
+    {
+        let mut out = [0; FRAME_ROOM];
+        match self.write(session, &mut out) {
+            Written::Length(_) => Written::Length(0),
+            Written::Refused(refusal) => Written::Refused(refusal),
+        }
+    }
+
+    // Writes it, in turn or not.
+    fn write(&self, session: &Session, out: &mut [u8]) -> Written
+        ensures { outcome (answered result) out.new ≡ framed_for session.now (given_in self.now) out.old }
+    {
+        match self.supplying {
+            Supplying::List(entry) => writers::write_entry(entry, self.text, self.contents, out),
+            Supplying::ListFailed(id, path_id, failure) => {
+                writers::write_error(self.text, id, path_id, failure, out)
+            }
+            Supplying::Home => writers::write_home(self.text, self.contents, out),
+            Supplying::Part(last) => writers::write_part(session, last, self.contents, out),
+        }
+    }
+
+    // What becomes of the session that is supplied. After the home path, written or held back, it serves;
+    // a request is "owed until the console has supplied its last part".
+    fn change(&self) -> Change
+        ensures { result ≡ change_for (given_in self.now) }
+    {
+        let (edit, news) = match self.supplying {
+            Supplying::Home => (Edit::Turned(SessionState::Serving), News::Tells(Told::Nothing)),
+            Supplying::Part(true) => (Edit::Same, News::Clears(Told::Nothing)),
+            _ => (Edit::Same, News::Tells(Told::Nothing)),
+        };
+        Change {
+            edit,
+            file: FileRecord::FREE,
+            news,
+            reply: Reply::NONE,
+        }
     }
 }
 
@@ -180,13 +185,10 @@ fn settle(i: usize, session: Session, owed: Owed, change: Change, written: Writt
     match written {
         Written::Length(n) => {
             let next = step(session, i, owed, Place::NOWHERE, change);
-            let after = next.session;
-            let left = next.owed;
-            let told = next.told;
             Supplied {
-                session: after,
-                owed: left,
-                told: told,
+                session: next.session,
+                owed: next.owed,
+                told: next.told,
                 written: n,
             }
         }

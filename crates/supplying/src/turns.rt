@@ -10,12 +10,7 @@ use protocol::{Due, Found, Owed, SessionState};
 pub fn is_part(supplying: Supplying) -> bool
     ensures { result ≡ is_part supplying }
 {
-    match supplying {
-        Supplying::List(_) => false,
-        Supplying::ListFailed(_, _, _) => false,
-        Supplying::Home => false,
-        Supplying::Part(_) => true,
-    }
+    matches!(supplying, Supplying::Part(_))
 }
 
 // The id of the session that anything else concerns.
@@ -23,10 +18,7 @@ pub fn id_in(supplying: Supplying, text: &[u8]) -> &[u8]
     ensures { result.now ≡ id_for supplying text.now }
 {
     match supplying {
-        Supplying::List(entry) => {
-            let id = entry.id;
-            octets::part(text, id.start, id.len)
-        }
+        Supplying::List(entry) => octets::part(text, entry.id.start, entry.id.len),
         Supplying::ListFailed(id, _, _) => octets::part(text, id.start, id.len),
         Supplying::Home => text,
         Supplying::Part(_) => &text[..0],
@@ -47,28 +39,18 @@ pub fn seat(found: Found) -> usize
 pub fn in_turn(supplying: Supplying, state: SessionState, found: Found) -> Found
     ensures { result ≡ in_turn supplying state found }
 {
-    if is_part(supplying) {
-        return found;
+    if is_part(supplying) || is_listing(state) {
+        found
+    } else {
+        Found::Nowhere
     }
-    if is_listing(state) {
-        return found;
-    }
-    Found::Nowhere
 }
 
 // Whether a session takes a listing and the home path.
 fn is_listing(state: SessionState) -> bool
     ensures { result ≡ is_listing state }
 {
-    match state {
-        SessionState::Absent => false,
-        SessionState::Asked => false,
-        SessionState::Open => false,
-        SessionState::Naming => false,
-        SessionState::Waiting => false,
-        SessionState::Listing => true,
-        SessionState::Serving => false,
-    }
+    matches!(state, SessionState::Listing)
 }
 
 // The place of the session that asks for a file, where that is what is owed.
@@ -76,20 +58,7 @@ pub fn request_at(owed: Owed) -> Found
     ensures { result ≡ request_at owed }
 {
     match owed {
-        Owed::Nothing => Found::Nowhere,
-        Owed::For(i, due) => request_of(i, due),
-    }
-}
-
-fn request_of(i: usize, due: Due) -> Found
-    ensures { result ≡ request_at (Owed.For i due) }
-{
-    match due {
-        Due::OpenFile(_) => Found::Nowhere,
-        Due::OpenDirectory(_) => Found::Nowhere,
-        Due::Write(_, _) => Found::Nowhere,
-        Due::WriteLast(_, _) => Found::Nowhere,
-        Due::Commit => Found::Nowhere,
-        Due::Request => Found::At(i),
+        Owed::For(i, Due::Request) => Found::At(i),
+        _ => Found::Nowhere,
     }
 }

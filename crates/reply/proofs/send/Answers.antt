@@ -31,9 +31,9 @@ returns-clause-buffer_after c =
     ∙ rw (
       c.first.ensures,
       c.first-2.ensures,
-      c.first-3.ensures,
+      c.as_slice.ensures,
       c.size_text-size.ensures,
-      c.first-4.ensures,
+      c.as_slice-2.ensures,
       c.status_text-word.ensures,
     )
     (ap (λ (bs : List ℕ). written bs a.buffer.now) (sym (sent a.reply c.if-not-reply.false (sym c.is_held.ensures ∙ c.if-is_held.false))))

@@ -13,7 +13,7 @@ returns-then-is_over c =
     rw (
       c.unsupplied-then-is_over.ensures,
       le-ltb _ frame_room c.if-out-lt-FRAME_ROOM.false,
-      ← c.is_over.ensures _,
+      ← c.is_over.ensures,
       c.if-is_over.true,
     )
 
@@ -23,7 +23,7 @@ returns-in-Nowhere c =
     rw (
       c.unsupplied-in-Nowhere.ensures,
       le-ltb _ frame_room c.if-out-lt-FRAME_ROOM.false,
-      ← c.is_over.ensures _,
+      ← c.is_over.ensures,
       c.if-is_over.false,
       c.in-Nowhere.is,
     )
@@ -33,7 +33,7 @@ unfolding supplied_in
 returns-in-At c =
     rw (
       le-ltb _ frame_room c.if-out-lt-FRAME_ROOM.false,
-      ← c.is_over.ensures _,
+      ← c.is_over.ensures,
       c.if-is_over.false,
       c.in-At.is,
     )

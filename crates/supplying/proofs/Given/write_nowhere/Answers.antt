@@ -1,5 +1,5 @@
 use Rattle.supplying.proofs.SupplyLaws.{framed_aside}
-use Rattle.supplying.proofs.write_nowhere.Goals as goal
+use Rattle.supplying.proofs.Given.write_nowhere.Goals as goal
 
 pub returns-in-Length : goal.returns-in-Length
 returns-in-Length c out room = rw (framed_aside _ _ out room, ← c.in-Length.ensures)
