@@ -4,15 +4,18 @@ use mathlib.Core.Path.{◌≡◌, refl, sym, ◌∙◌}
 use mathlib.Core.List.{List, [], ◌∷◌}
 use native.Mathlib.Nat.{add-zero, zero-add}
 use native.Mathlib.Omega.{arith}
-use lib.ListN.{length, take}
+use lib.ListN.{length, take, drop, length-append, length-drop}
+use Rattle.std.specs.Prelude.{Option, Some, None}
 use lib.Dec.{ltb, leb}
 use borrow.Author.Tests.{lt-ltb, le-ltb, ltb-false}
 use Rattle.octets.specs.Outcome.{Outcome, outcome}
 use Rattle.frames.specs.Stream.{text_limit}
+use Rattle.frames.specs.Carry.{text_at, carry_of, left_of}
 use Rattle.frames.specs.Framings.{capped_of}
 use Rattle.frames.specs.Steps.{step_of, after, walk_from}
 use Rattle.frames.specs.Calls.{refusal_number, report_of, taken_of, scan_of}
 use Rattle.frames.specs.Claims.{Consumes, RefusesShort}
+use Rattle.frames.specs.declared.carry.Held.{Held}
 use Rattle.frames.specs.declared.Framing.{Framing}
 use Rattle.frames.specs.declared.step.Event.{Event}
 use Rattle.frames.specs.declared.step.Event.TheVariants.{On, Closed, Abandoned}
@@ -70,6 +73,17 @@ pub by_call : (P : Outcome Scanned → Type 0) (f : Framing) (xs c : List ℕ)
     → P (scan_of f xs c)
 unfolding scan_of
 by_call P f xs c p q = by_cond P (ltb (length c) text_limit) (λ _. p) (λ e. q (ltb-false (length c) text_limit e))
+
+-- ---- a carry with room keeps it
+left-room : (c xs : List ℕ) (o : Option Held) → text_limit ≤ length c → text_limit ≤ length (left_of c xs o)
+unfolding carry_of
+left-room c xs None h = h
+left-room c xs (Some p) h =
+    let t : List ℕ = take text_limit (text_at c xs p.end p.count) in
+    omega (arith, length-append t (drop (length t) c), length-drop (length t) c)
+
+pub scan-room : (f : Framing) (xs c : List ℕ) → text_limit ≤ length c → text_limit ≤ length (scan_of f xs c).buffer
+scan-room f xs c h = by_call (λ (o : Outcome Scanned). text_limit ≤ length o.buffer) f xs c h (λ _. left-room c xs _ h)
 
 -- ---- how much is consumed
 pub consumed_le : (f : Framing) (xs c : List ℕ) → (scan_of f xs c).answer.consumed ≤ length xs

@@ -5,7 +5,6 @@ ghost use Rattle.frames.specs.Framings.{count, framing_of, capped_of, mark_of};
 ghost use Rattle.frames.specs.Steps.{first_byte, in_mark, in_text, step_of, framing_after};
 
 use crate::{Framing, Mark};
-use octets::size::least;
 
 // The bytes go on, or a text of so many bytes that has its mark ends.
 #[derive(Clone, Copy)]
@@ -15,35 +14,29 @@ pub(crate) enum Event {
     Abandoned(usize, Framing),
 }
 
+#[tactic(auto, unfolding(crate::specs::Steps::step_of))]
 pub(crate) fn step(f: Framing, b: u8) -> Event
     requires { count f + 1 < 2 ^ 64 }
     ensures { result ≡ step_of f b }
 {
     match f {
-        Framing::Plain => if b == 0x1B {
-            Event::On(Framing::Escape)
-        } else {
-            Event::On(Framing::Plain)
-        },
+        Framing::Plain if b == 0x1B => Event::On(Framing::Escape),
+        Framing::Plain => Event::On(Framing::Plain),
         Framing::Escape => Event::On(after_escape(b)),
         Framing::Text(mark, n) => Event::On(in_text(mark, n, b)),
-        Framing::TextEscape(n) => if b == 0x5C {
-            Event::Closed(n)
-        } else {
-            Event::Abandoned(n, after_escape(b))
-        },
+        Framing::TextEscape(n) if b == 0x5C => Event::Closed(n),
+        Framing::TextEscape(n) => Event::Abandoned(n, after_escape(b)),
     }
 }
 
+#[tactic(auto, unfolding(crate::specs::Framings::may_be, octets::specs::Slices::starts_with))]
 fn after_escape(b: u8) -> Framing
     ensures { result ≡ framing_of (after_escape b) }
 {
-    if b == 0x5D {
-        Framing::Text(Mark::Transfer, 0)
-    } else if b == 0x1B {
-        Framing::Escape
-    } else {
-        Framing::Plain
+    match b {
+        0x5D => Framing::Text(Mark::Transfer, 0),
+        0x1B => Framing::Escape,
+        _ => Framing::Plain,
     }
 }
 
@@ -64,16 +57,12 @@ fn in_text(mark: Mark, n: usize, b: u8) -> Framing
 fn first_byte(b: u8) -> Framing
     ensures { result ≡ first_byte b }
 {
-    if b == 0x1B {
-        return Framing::Escape;
+    match b {
+        0x1B => Framing::Escape,
+        b'5' => Framing::Text(Mark::Transfer, 1),
+        b'7' => Framing::Text(Mark::DragDrop, 1),
+        _ => Framing::Plain,
     }
-    if b == 0x35 {
-        return Framing::Text(Mark::Transfer, 1);
-    }
-    if b == 0x37 {
-        return Framing::Text(Mark::DragDrop, 1);
-    }
-    Framing::Plain
 }
 
 // A later byte. `word` is the mark: handed in, so that one function does for both.
@@ -81,19 +70,18 @@ fn in_mark(mark: Mark, word: &[u8], n: usize, b: u8) -> Framing
     requires { (n + 1 < 2 ^ 64) × (word.now ≡ mark_of mark) }
     ensures { result ≡ in_mark mark n b }
 {
-    if n < word.len() {
-        if b == 0x1B {
-            return Framing::Escape;
-        }
-        if b == word[n] {
-            return Framing::Text(mark, n + 1);
-        }
-        return Framing::Plain;
-    }
+    let is_within = n < word.len();
     if b == 0x1B {
-        return Framing::TextEscape(n);
+        if is_within {
+            Framing::Escape
+        } else {
+            Framing::TextEscape(n)
+        }
+    } else if is_within && b != word[n] {
+        Framing::Plain
+    } else {
+        Framing::Text(mark, n + 1)
     }
-    Framing::Text(mark, n + 1)
 }
 
 // The framing with its count at most one more than a reported text may have.
@@ -101,10 +89,9 @@ pub(crate) fn capped(f: Framing) -> Framing
     ensures { result ≡ capped_of f }
 {
     match f {
-        Framing::Plain => Framing::Plain,
-        Framing::Escape => Framing::Escape,
-        Framing::Text(mark, n) => Framing::Text(mark, least(n, Framing::TEXT_LIMIT + 1)),
-        Framing::TextEscape(n) => Framing::TextEscape(least(n, Framing::TEXT_LIMIT + 1)),
+        Framing::Plain | Framing::Escape => f,
+        Framing::Text(mark, n) => Framing::Text(mark, n.min(Framing::TEXT_LIMIT + 1)),
+        Framing::TextEscape(n) => Framing::TextEscape(n.min(Framing::TEXT_LIMIT + 1)),
     }
 }
 
@@ -112,8 +99,7 @@ pub(crate) fn framing_after(event: Event) -> Framing
     ensures { result ≡ framing_after event }
 {
     match event {
-        Event::On(g) => g,
+        Event::On(g) | Event::Abandoned(_, g) => g,
         Event::Closed(_) => Framing::Plain,
-        Event::Abandoned(_, g) => g,
     }
 }
