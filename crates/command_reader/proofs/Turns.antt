@@ -10,6 +10,7 @@ use lib.ListN.{length, get_or, take, drop, length-take, length-drop}
 use lib.Seq.{take-nil, take-take, drop-drop, get_or-drop, get_or-take}
 use lib.Dec.{ltb, eqb}
 use borrow.Author.Tests.{lt-ltb, le-ltb, le-leb, lt-leb, ltb-true, not-true}
+use Rattle.std.specs.Prelude.{Option, Some, None, Ok}
 use Rattle.octets.specs.Search.{index_of, index_after}
 use Rattle.octets.specs.Members.{every}
 use Rattle.octets.specs.Split.{split}
@@ -24,7 +25,6 @@ use Rattle.command.specs.Read.{Reader, kept}
 use Rattle.command.proofs.Calm.{calm, plain, key-plain}
 use Rattle.command.proofs.Runs.{run_is}
 use Rattle.command_reader.specs.States.{left, Names}
-use Rattle.command_reader.specs.declared.fields.Named.TheVariants as Named
 
 -- ---- a field, cut off what is left of a text
 -- a key's byte is neither `;` nor `=`
@@ -188,8 +188,9 @@ module _ (t : List ℕ) (at sign : ℕ) (h : at ≤ length t) (q : sign ≡ at +
 
       -- which is that of key n, or of none
       pub field-named : (n : ℕ) → n ≡ number_of keys (take (sign - at) l)
-          → (15 ≤ n → Names (Named.Unknown end) t at) × (n < 15 → Names (Named.Key n (sign + 1) end) t at)
+          → (15 ≤ n → Names (Ok (record { key = None; from = sign + 1; end = end })) t at)
+          × (n < 15 → Names (Ok (record { key = Some n; from = sign + 1; end = end })) t at)
       field-named n m = (
-        λ k. (omega arith, end-within, λ s. left-next t at end h ends s ∙ rw (here s, ← m, le-ltb n 15 k)),
-        λ k. (k, omega arith, omega arith, end-within, λ s. left-next t at end h ends s ∙ rw (here s, ← m, lt-ltb n 15 k)),
+        λ k. (omega arith, omega arith, end-within, tt, λ s. left-next t at end h ends s ∙ rw (here s, ← m, le-ltb n 15 k)),
+        λ k. (omega arith, omega arith, end-within, k, λ s. left-next t at end h ends s ∙ rw (here s, ← m, lt-ltb n 15 k)),
       )

@@ -16,8 +16,8 @@ use Rattle.command.specs.Write.{Checked, before}
 use Rattle.command.specs.declared.Refusal.{Refusal}
 use Rattle.decimal.specs.Write.{text_of, negative_zero, out_of_range, write_of}
 use Rattle.decimal.specs.declared.Number.{Number}
-use Rattle.decimal.specs.declared.Written as Decimal
-use Rattle.decimal.specs.declared.Written.TheVariants as DecimalWritten
+use Rattle.decimal.specs.declared.WriteError.{WriteError}
+use Rattle.decimal.specs.declared.WriteError.TheVariants.{NegativeZero, OutOfRange, NoRoom}
 use Rattle.command_writer.specs.Stores.{spare, Put, PutOr}
 
 pub put-none : (out : List ℕ) (at : ℕ) → Put [] out at at out
@@ -44,13 +44,13 @@ put_then {x} {y} {l} {m} {n} {o} {p} {q} f g =
 
 -- ---- a number
 -- what is answered: its end, as it was stored or else as it was counted, or that it is no integer of ours
-abbrev pub number_told : Decimal.Written → ℕ → Result ℕ Refusal
-number_told (DecimalWritten.End at) end = Ok at
-number_told DecimalWritten.NegativeZero end = Err Refusal.MalformedInteger
-number_told DecimalWritten.OutOfRange end = Err Refusal.OutOfRange
-number_told DecimalWritten.NoRoom end = Ok end
+abbrev pub number_told : Result ℕ WriteError → ℕ → Result ℕ Refusal
+number_told (Ok at) end = Ok at
+number_told (Err NegativeZero) end = Err Refusal.MalformedInteger
+number_told (Err OutOfRange) end = Err Refusal.OutOfRange
+number_told (Err NoRoom) end = Ok end
 
-pub put-number : (n : Number) (out after : List ℕ) (at end : ℕ) (w : Decimal.Written) → outcome w after ≡ write_of n out at
+pub put-number : (n : Number) (out after : List ℕ) (at end : ℕ) (w : Result ℕ WriteError) → outcome w after ≡ write_of n out at
     → spare end ≡ spare (at + length (text_of n))
     → PutOr (before (integer_shown n) Checked.fine) (text_of n) out at (number_told w end) after
 unfolding write_of integer_shown
@@ -63,8 +63,8 @@ put-number n out after at end w e s =
     fine false = refl
 
     go : (z x y f : Bool) → leb (at + length (text_of n)) (length out) ≡ f
-        → outcome w after ≡ cond z (outcome DecimalWritten.NegativeZero out) (cond x (outcome DecimalWritten.OutOfRange out)
-        (cond f (outcome (DecimalWritten.End (at + length (text_of n))) (sets out at (text_of n))) (outcome DecimalWritten.NoRoom out)))
+        → outcome w after ≡ cond z (outcome (Err NegativeZero) out) (cond x (outcome (Err OutOfRange) out)
+        (cond f (outcome (Ok (at + length (text_of n))) (sets out at (text_of n))) (outcome (Err NoRoom) out)))
         → PutOr (before (cond z (unshown Refusal.MalformedInteger) (cond x (unshown Refusal.OutOfRange)
         (cond y Shown.left_out (Shown.text (text_of n))))) Checked.fine) (text_of n) out at (number_told w end) after
     go true x y f ef q = rw (ap (λ o. o.answer) q)

@@ -8,7 +8,7 @@ ghost use Rattle.command.specs.Write.{Checked, before};
 ghost use Rattle.command_writer.specs.Stores.{spare, Put, PutOr};
 
 use command::Refusal;
-use decimal::Number;
+use decimal::{Number, WriteError};
 use frames::Framing;
 
 // Where n bytes from place `at` on end, or any place over the limit.
@@ -55,9 +55,9 @@ pub(crate) fn put_number(n: Number, out: &mut [u8], at: usize) -> Result<usize, 
         out.old at result out.new }
 {
     match decimal::write(n, out, at) {
-        decimal::Written::End(end) => Ok(end),
-        decimal::Written::NegativeZero => Err(Refusal::MalformedInteger),
-        decimal::Written::OutOfRange => Err(Refusal::OutOfRange),
-        decimal::Written::NoRoom => Ok(end_of(at, decimal::text_length(n))),
+        Ok(end) => Ok(end),
+        Err(WriteError::NegativeZero) => Err(Refusal::MalformedInteger),
+        Err(WriteError::OutOfRange) => Err(Refusal::OutOfRange),
+        Err(WriteError::NoRoom) => Ok(end_of(at, decimal::text_length(n))),
     }
 }

@@ -7,14 +7,14 @@ pub returns-then-n-count : goal.returns-then-n-count
 returns-then-n-count c =
     let a = c.args in
     let word = word-known a.k a.unknown a.first a.v.now c.place_of-n.result c.place_of-n.ensures in
-    λ at scratch used n slots. rw (c.coded.ensures, word (omega (arith, c.if-n-count.true, c.requires.1)))
+    λ at scratch used n slots. rw (c.plain.ensures, c.coded.ensures, word (omega (arith, c.if-n-count.true, c.requires.1)))
 
 pub returns-then-equal : goal.returns-then-equal
 returns-then-equal c =
     let a = c.args in
     let e = sym c.equal.ensures ∙ c.if-equal.true in
     let alias = word-alias a.k a.unknown a.first a.v.now (omega arith) in
-    λ at scratch used n slots. rw (c.coded-then-equal.ensures, alias c.if-k-eq0.true e)
+    λ at scratch used n slots. rw (c.plain-then-equal.ensures, c.coded-then-equal.ensures, alias c.if-k-eq0.true e)
 
 pub returns-else-equal : goal.returns-else-equal
 returns-else-equal c =
