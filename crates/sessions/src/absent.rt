@@ -12,7 +12,7 @@ use crate::find::free_session;
 use crate::next::{Next, still, tell};
 use command::Action;
 use decimal::Number;
-use protocol::{Found, Kind, Reply, Session, SessionState, Status, Table, Told};
+use protocol::{Kind, Session, SessionState, Status, Table, Told};
 use session_rule::actions::look_up;
 use session_rule::ids::padded;
 use session_rule::replies::session_reply;
@@ -33,8 +33,8 @@ fn send(table: Table, session: Session) -> Next
     ensures { taken table result ≡ send_room table session (first is_absent table.sessions) }
 {
     match free_session(table) {
-        Found::Nowhere => absent_status(table, session, Status::Ebusy),
-        Found::At(i) => placed(table, i, session, Told::Asked),
+        None => absent_status(table, session, Status::Ebusy),
+        Some(i) => placed(table, i, session, Told::Asked),
     }
 }
 
@@ -43,8 +43,8 @@ fn receive(table: Table, session: Session, paths: Number) -> Next
     ensures { taken table result ≡ receive_room table session paths (first is_absent table.sessions) }
 {
     match free_session(table) {
-        Found::Nowhere => absent_status(table, session, Status::Ebusy),
-        Found::At(i) => receive_at(table, i, session, paths),
+        None => absent_status(table, session, Status::Ebusy),
+        Some(i) => receive_at(table, i, session, paths),
     }
 }
 
@@ -63,26 +63,19 @@ fn receive_at(table: Table, i: usize, session: Session, paths: Number) -> Next
 pub fn bad_paths(paths: Number) -> bool
     ensures { result ≡ bad_paths paths }
 {
-    if paths.negative {
-        return true;
-    }
-    if paths.magnitude == 0 {
-        return true;
-    }
-    paths.magnitude > 32
+    paths.negative || paths.magnitude == 0 || paths.magnitude > 32
 }
 
 // A new session at place i, and nothing else but something told.
 fn placed(table: Table, i: usize, session: Session, told: Told) -> Next
     ensures { taken table result ≡ telling (put_session table i session) told }
 {
-    let owed = table.owed;
     Next {
         place: i,
-        session: session,
-        owed: owed,
-        told: told,
-        reply: Reply::NONE,
+        session,
+        owed: table.owed,
+        told,
+        reply: None,
     }
 }
 
@@ -90,7 +83,11 @@ fn placed(table: Table, i: usize, session: Session, told: Told) -> Next
 fn absent_status(table: Table, session: Session, status: Status) -> Next
     ensures { taken table result ≡ absent_status table session status }
 {
-    still(table, Told::Status(status), session_reply(status, session))
+    still(
+        table,
+        Told::Status(status),
+        Some(session_reply(status, session)),
+    )
 }
 
 // The session that `send` makes.
@@ -100,7 +97,7 @@ pub fn asked(quiet: u64, id: &[u8]) -> Session
     let own = padded(id);
     Session {
         state: SessionState::Asked,
-        quiet: quiet,
+        quiet,
         id: own,
         id_len: id.len(),
         ..Session::ABSENT
@@ -115,9 +112,9 @@ pub fn naming(session: Session, wanted: u64) -> Session
     Session {
         state: SessionState::Naming,
         quiet: session.quiet,
-        id: id,
+        id,
         id_len: session.id_len,
-        wanted: wanted,
+        wanted,
         ..Session::ABSENT
     }
 }

@@ -20,20 +20,16 @@ pub(crate) fn emptied(session: Session) -> Session
     ensures { result ≡ absent_session }
 {
     let mut files = session.files;
-    let mut j = 0;
-    while j < Session::FILES {
-        files[j] = FileRecord::FREE;
-        j += 1;
-    }
-    let id = [0u8; 32];
+    files.fill(FileRecord::FREE);
+    let id = [0; 32];
     Session {
         state: SessionState::Absent,
         quiet: 0,
-        id: id,
+        id,
         id_len: 0,
         wanted: 0,
         started: 0,
         done_bytes: 0,
-        files: files,
+        files,
     }
 }
