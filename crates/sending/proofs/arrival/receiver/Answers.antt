@@ -65,11 +65,12 @@ allow-order id i =
 -- the others: done
 file-bytes : (w : Status) (id : List ℕ) (n : ℕ) (past : List Sent) (now : List FileRecord) (g : FileState) (f : Sent) (size : ℕ)
     → IsId id → IsId f.id
-    → reply_bytes (file_reply w (open_session id n past now) (record_of g f) size) ≡ framed (status_text id f.id size (status_word w))
+    → reply_bytes (Some (file_reply w (open_session id n past now) (record_of g f) size))
+    ≡ framed (status_text id f.id size (status_word w))
 unfolding reply_bytes
 file-bytes w id n past now g f size i k = rw (padded-id id i.short, padded-id f.id k.short)
 
-settles-as : (s : Session) (d : Due) (j : ℕ) (a : FileRecord) (w : Status) (r : Reply) → done_by s d ≡ files j a w r
+settles-as : (s : Session) (d : Due) (j : ℕ) (a : FileRecord) (w : Status) (r : Option Reply) → done_by s d ≡ files j a w r
     → settle_done (alone_in s (Some (0, d))) ≡ stepped (alone_in (put_file s j a) None) (Told.Status w) r
 unfolding settle_done
 settles-as s d j a w r e = ap (λ (c : Change). step_by (alone_in s (Some (0, d))) 0 nowhere c) e
@@ -91,11 +92,12 @@ module _ {id : List ℕ} (past : List Sent) (f : Sent) (i : IsId id) (now : Now 
       → AnsweredAs (settle_done (alone_in (busy m g) (Some (0, d)))) (alone_in s None)
       (framed (status_text id f.id n (status_word w)) ++ [])
   settles-now m g g' d w n s e p =
-      let r : Reply = file_reply w (busy m g) (record_of g f) n in
+      let r : Option Reply = Some (file_reply w (busy m g) (record_of g f) n) in
       let a : FileRecord = record_of g' (sent f.id f.size n) in
       let moves : done_by (busy m g) d ≡ files (length past) a w r =
       e
-      ∙ ap (λ (x : FileRecord). files (length past) (moved x g' n) w (file_reply w (busy m g) x n)) (now-at id m past (record_of g f)) in
+      ∙ ap (λ (x : FileRecord). files (length past) (moved x g' n) w (Some (file_reply w (busy m g) x n)))
+        (now-at id m past (record_of g f)) in
       let told : settle_done (alone_in (busy m g) (Some (0, d))) ≡ stepped (alone_in s None) (Told.Status w) r =
       settles-as (busy m g) d (length past) a w r moves ∙ ap (λ (x : Session). stepped (alone_in x None) (Told.Status w) r) p in
       record {

@@ -19,7 +19,7 @@ use Rattle.command.specs.declared.Command.{Command as PlacedCommand}
 use Rattle.protocol.specs.Table.{no_file, first, has_id, find_session, find_file}
 use Rattle.protocol.specs.Actions.{kind_of, result_in}
 use Rattle.protocol.specs.Written.{values_with, piece_action, piece_values}
-use Rattle.protocol.specs.Replies.{no_reply, reply_bytes}
+use Rattle.protocol.specs.Replies.{reply_bytes}
 use Rattle.protocol.specs.Change.{change, edited, opens, asks, ask_of, telling, step_by}
 use Rattle.protocol.specs.Files.{Request, opening, write_due, part_limit, count_limit, passes, ends_short}
 use Rattle.protocol.specs.Files.{file_of, file_checked, data_of, part_asked, finish_of}
@@ -68,7 +68,7 @@ lands : {t t' t'' : Table} {text : List ℕ} {w : Saying} → t' ≡ t'' → Rea
 lands e r = record { table = r.table ∙ e; says = r.says; silent = r.silent }
 
 -- where no reply is due
-pub no_bytes : reply_bytes no_reply ≡ []
+pub no_bytes : reply_bytes None ≡ []
 unfolding reply_bytes
 no_bytes = refl
 
@@ -110,10 +110,10 @@ module _ (s : Session) {text : List ℕ} (a : Action) (id file : List ℕ) (size
       ∙ ap (λ f. acted (found_result t c id q f) c after) found)
 
   -- something is asked of the console
-  asks_as : (e : Edit) (f : FileRecord) (d : Due) → obeyed_by s q ≡ change e f (News.Asks d) no_reply
+  asks_as : (e : Edit) (f : FileRecord) (d : Due) → obeyed_by s q ≡ change e f (News.Asks d) None
       → ReadAs t text (alone_in (edited s f e) (Some (0, d))) (Saying.asks (heard_for d contents))
   asks_as e f d h =
-      let x : Acted = acted (step_by t 0 c.payload (change e f (News.Asks d) no_reply)) c after in
+      let x : Acted = acted (step_by t 0 c.payload (change e f (News.Asks d) None)) c after in
       rw (← hears d) (acts_as x (obeys ∙ ap (λ (y : Change). acted (step_by t 0 c.payload y) c after) h) no_bytes)
     where
       hears : (d : Due) → heard_ask (ask_of c.payload d) after ≡ heard_for d contents
