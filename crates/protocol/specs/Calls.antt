@@ -1,5 +1,5 @@
 -- The calls: for any receiver and any lent buffers, the answer and every buffer afterwards.
-use Rattle.std.specs.Prelude.{ℕ, Bool, true, false, cond, ◌||◌, List, length, ltb, Option, is_some}
+use Rattle.std.specs.Prelude.{ℕ, Bool, cond, ◌||◌, List, length, ltb, Option, is_some}
 use Rattle.octets.specs.Outcome.{Outcome, outcome}
 use Rattle.frames.specs.Stream.{is_drag_drop, text_limit}
 use Rattle.frames.specs.Calls.{refusal_number, scan_of, text_of}

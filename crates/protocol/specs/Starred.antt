@@ -1,9 +1,8 @@
 -- The starred cases of document 01's "Both sides of the line", as one list.
-use Rattle.std.specs.Prelude.{ℕ, ◌+◌, ◌≡◌, List, [], ◌∷◌, ◌++◌, length, get_or, replicate, Some}
+use Rattle.std.specs.Prelude.{ℕ, ◌+◌, ◌≡◌, List, [], ◌∷◌, ◌++◌, length, get_or, replicate, Ok, Some}
 use Rattle.octets.specs.Ascii.{ascii}
 use Rattle.octets.specs.Outcome.{outcome}
 use Rattle.base64_codec.specs.Decode.{decode_of}
-use Rattle.base64_codec.specs.declared.Decoded.TheVariants as Decoded
 use Rattle.command.specs.Keys.{keys, number_of}
 use Rattle.command.specs.Values.{Value, Got}
 use Rattle.command.specs.Meaning.{Meaning, meaning_of}
@@ -43,7 +42,7 @@ abbrev pub count_after : Table → ℕ
 count_after t = (file_at (session_at (settle_done t).table 0) 0).count
 
 abbrev pub Holds : Case → Type 0
-Holds (Case.decodes text bytes) = decode_of text (replicate (length bytes) 0) 0 ≡ outcome (Decoded.Length (length bytes)) bytes
+Holds (Case.decodes text bytes) = decode_of text (replicate (length bytes) 0) 0 ≡ outcome (Ok (length bytes)) bytes
 Holds (Case.reads text key result) = value_of (number_of keys key) (meaning_of text) ≡ result
 Holds (Case.adds text n) = ((obeyed text).owed ≡ Some (0, Due.Write 0 n)) × (count_after (obeyed text) ≡ 3 + n)
 Holds (Case.shows w text) = status_text (ascii "m") [] 0 (status_word w) ≡ ascii "5113;ac=status;id=m;st=" ++ text

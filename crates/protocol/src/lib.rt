@@ -40,7 +40,8 @@ pub enum FileState {
 }
 
 // A file record: its id is the first id_len bytes of id, and a length of 0 was not declared. It holds no
-// file type: what was opened is told from the command read.
+// file type: what was opened is told from the command read. Ids are an array and a length, here and below:
+// memory is fixed, and a slice of the caller's text would not outlive the call.
 #[derive(Clone, Copy)]
 pub struct FileRecord {
     pub state: FileState,

@@ -14,7 +14,7 @@ use protocol::{Change, Due, FileRecord, Session, Status};
 pub(crate) fn part(session: Session, last: bool, id: &[u8], n: usize) -> Change
     ensures { result ≡ data_of session last id.now n }
 {
-    match find_file(session, id) {
+    match find_file(&session.files, id) {
         None => ignored(),
         Some(j) => part_at(session, j, last, n),
     }
@@ -24,7 +24,7 @@ pub(crate) fn part(session: Session, last: bool, id: &[u8], n: usize) -> Change
 fn part_at(session: Session, j: usize, last: bool, n: usize) -> Change
     ensures { result ≡ cond (is_started (file_at session j)) (part_asked session j last n) ignored }
 {
-    let file = file_at(session, j);
+    let file = file_at(&session.files, j);
     if is_started(file.state) {
         ask_part(session, j, file, last, n)
     } else {

@@ -26,7 +26,7 @@ pub(crate) fn if_new(session: Session, id: &[u8], change: Change) -> Change
     if id.is_empty() {
         return file_status(session, id, Status::Einval);
     }
-    match find_file(session, id) {
+    match find_file(&session.files, id) {
         None => change,
         Some(_) => file_status(session, id, Status::Eexist),
     }
@@ -54,7 +54,7 @@ fn recorded(session: Session, command: Command, id: &[u8], name: &[u8]) -> Chang
     ensures { result ≡ file_recorded session (request command id.now name.now) (first is_free session.files) }
 {
     let declared = declared_by(command.file_type, command.size);
-    match free_file(session) {
+    match free_file(&session.files) {
         None => file_status(session, id, Status::Emfile),
         Some(j) => opens(j, opening(id, declared), open_due(command.file_type, j)),
     }
@@ -73,6 +73,7 @@ pub(crate) fn file_status(session: Session, id: &[u8], status: Status) -> Change
 pub(crate) fn opening(id: &[u8], declared: u64) -> FileRecord
     ensures { result ≡ opening id.now declared }
 {
+    // An array goes into a struct by a variable: the check covers no other form.
     let own = padded(id);
     FileRecord {
         state: FileState::Opening,

@@ -33,7 +33,7 @@ fn checked(session: Session, id: &[u8], name: &[u8]) -> Change
 fn counted(session: Session, id: &[u8]) -> Change
     ensures { result ≡ path_named session id.now (first is_free session.files) }
 {
-    match free_file(session) {
+    match free_file(&session.files) {
         None => file_status(session, id, Status::Emfile),
         Some(j) => path_at(session.wanted, j, id),
     }
@@ -82,7 +82,7 @@ pub(crate) fn fail_request(session: Session, status: Status) -> Change
 {
     settles(
         status,
-        Some(file_reply(status, session, file_at(session, 0), 0)),
+        Some(file_reply(status, session, file_at(&session.files, 0), 0)),
     )
 }
 

@@ -8,6 +8,7 @@ use protocol::{FileRecord, Reply, Session, Status};
 pub fn session_reply(status: Status, session: Session) -> Reply
     ensures { result ≡ session_reply status session }
 {
+    // Arrays go into a struct by variables: the check covers no other form.
     let id = session.id;
     let file_id = [0; 32];
     Reply {
@@ -21,7 +22,8 @@ pub fn session_reply(status: Status, session: Session) -> Reply
     }
 }
 
-// A reply about a file of a session, with a size.
+// A reply about a file of a session, with a size. From session_reply by struct update it would be no
+// plainer, and would copy the session once more.
 pub(crate) fn file_reply(status: Status, session: Session, file: FileRecord, size: u64) -> Reply
     ensures { result ≡ file_reply status session file size }
 {

@@ -8,7 +8,7 @@ ghost use Rattle.protocol.specs.Receives.{bad_paths};
 ghost use Rattle.protocol.specs.Sessions.{asked_session, naming_session, absent_status, send_room, receive_room, absent_result};
 ghost use Rattle.sessions.specs.Leaving.{taken};
 
-use crate::find::free_session;
+use crate::find::free;
 use crate::next::{Next, still, tell};
 use command::Action;
 use decimal::Number;
@@ -32,7 +32,7 @@ pub(crate) fn absent(table: Table, action: Action, quiet: u64, size: Number, id:
 fn send(table: Table, session: Session) -> Next
     ensures { taken table result ≡ send_room table session (first is_absent table.sessions) }
 {
-    match free_session(table) {
+    match free(&table.sessions) {
         None => absent_status(table, session, Status::Ebusy),
         Some(i) => placed(table, i, session, Told::Asked),
     }
@@ -42,7 +42,7 @@ fn send(table: Table, session: Session) -> Next
 fn receive(table: Table, session: Session, paths: Number) -> Next
     ensures { taken table result ≡ receive_room table session paths (first is_absent table.sessions) }
 {
-    match free_session(table) {
+    match free(&table.sessions) {
         None => absent_status(table, session, Status::Ebusy),
         Some(i) => receive_at(table, i, session, paths),
     }
@@ -94,6 +94,7 @@ fn absent_status(table: Table, session: Session, status: Status) -> Next
 pub fn asked(quiet: u64, id: &[u8]) -> Session
     ensures { result ≡ asked_session quiet id.now }
 {
+    // An array goes into a struct by a variable: the check covers no other form.
     let own = padded(id);
     Session {
         state: SessionState::Asked,

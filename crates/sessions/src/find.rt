@@ -1,31 +1,35 @@
-// Finding: a session by its id, and free room for a new one.
-ghost use Rattle.std.specs.Prelude.{◌≡◌, ◌&&◌, not, take};
-ghost use Rattle.octets.specs.Slices.{equals};
-ghost use Rattle.protocol.specs.Table.{first, is_present, is_absent, find_session};
+// Finding: a session by its id, and free room for a new one. The sessions are lent: a callee copies what
+// it is given.
+ghost use Rattle.std.specs.Prelude.{◌≡◌, not};
+ghost use Rattle.protocol.specs.Table.{first, has_id, is_present, is_absent, find_session};
 
-use protocol::{SessionState, Table};
+use protocol::{Session, SessionState, Table};
 use session_rule::ids::same_id;
 
 pub fn find_session(table: Table, id: &[u8]) -> Option<usize>
     ensures { result ≡ find_session table id.now }
 {
-    table.sessions.iter().position(|session| has_id(session.state, session.id, session.id_len, id))
+    find(&table.sessions, id)
 }
 
-pub(crate) fn free_session(table: Table) -> Option<usize>
-    ensures { result ≡ first is_absent table.sessions }
+// The place of the session with an id.
+pub fn find(sessions: &[Session], id: &[u8]) -> Option<usize>
+    ensures { result ≡ first (has_id id.now) sessions.now }
 {
-    table
-        .sessions
-        .iter()
-        .position(|session| is_absent(session.state))
+    sessions.iter().position(|session| has_id(session, id))
 }
 
-// Whether a session has the id, by its state and the first n bytes of its own.
-pub fn has_id(state: SessionState, own: [u8; 32], n: usize, id: &[u8]) -> bool
-    ensures { result ≡ (is_present state && equals (take n own) id.now) }
+// The first place that no session has.
+pub fn free(sessions: &[Session]) -> Option<usize>
+    ensures { result ≡ first is_absent sessions.now }
 {
-    is_present(state) && same_id(own, n, id)
+    sessions.iter().position(|session| is_absent(session.state))
+}
+
+fn has_id(session: &Session, id: &[u8]) -> bool
+    ensures { result ≡ has_id id.now session.now }
+{
+    is_present(session.state) && same_id(session.id, session.id_len, id)
 }
 
 fn is_present(state: SessionState) -> bool

@@ -63,7 +63,8 @@ pub fn present(
     step(session, i, owed, command.payload, change)
 }
 
-// The console has done what it was asked.
+// The console has done what it was asked. `done`, `failed` and `unlisted` stay apart: one function over the
+// answer as a closure needs a ghost function that each of the three picks, which is no plainer.
 #[tactic(auto, unfolding(protocol::specs::Sessions::settle_done))]
 pub fn done(table: Table) -> Next
     ensures { taken table result ≡ settle_done table }
