@@ -15,17 +15,9 @@ fn little(bytes: &[u8]) -> u64
     requires { length bytes.now ≤ 8 }
     ensures { (result ≡ number bytes.now) × (result < 256 ^ length bytes.now) }
 {
-    let mut n: u64 = 0;
-    let mut i = bytes.len();
-    while i > 0 {
-        i -= 1;
-        n = n * 256 + wide(bytes[i]);
+    let mut n = 0u64;
+    for byte in bytes.iter().rev() {
+        n = n * 256 + u64::from(*byte);
     }
     n
-}
-
-fn wide(b: u8) -> u64
-    ensures { result ≡ b }
-{
-    b as u64
 }
