@@ -7,6 +7,7 @@ use native.Mathlib.Omega.{arith}
 use lib.ListN.{length, take, drop, replicate, length-append, length-drop, take-append-drop}
 use lib.Dec.{lit≤}
 use borrow.Author.Tests.{le-ltb}
+use Rattle.std.specs.Prelude.{None}
 use Rattle.octets.specs.Outcome.{Outcome}
 use Rattle.frames.specs.Stream.{text_limit}
 use Rattle.frames.specs.Carry.{text_at, carry_of, overlay}
@@ -20,7 +21,6 @@ use Rattle.protocol.specs.Calls.{is_owed, Feeding, scanned_feed, is_short, feed_
 use Rattle.protocol.specs.History.{bytes_of}
 use Rattle.protocol.specs.Machine.{World, is_unfed, start}
 use Rattle.protocol.specs.declared.Receiver.{Receiver}
-use Rattle.protocol.specs.declared.Owed.TheVariants as Owed
 use Rattle.protocol.proofs.CutsRun.{zeros}
 use Rattle.protocol.specs.Replay.{Turn, turned, replayed, Answerable}
 use Rattle.hearing.specs.Hearing.{heard_in}
@@ -54,7 +54,7 @@ feed-long r piece carry scratch reply h =
 reply_zeros : List ℕ
 reply_zeros = replicate reply_room 0
 
-feed-on : (r : Receiver) → r.table.owed ≡ Owed.Nothing → (piece carry : List ℕ) → Long carry → 0 < length piece
+feed-on : (r : Receiver) → r.table.owed ≡ None → (piece carry : List ℕ) → Long carry → 0 < length piece
     → 0 < (feed_of r piece carry zeros reply_zeros).fed.consumed
 unfolding feed_of scanned_feed reply_zeros
 feed-on r e piece carry h l =

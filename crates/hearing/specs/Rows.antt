@@ -1,5 +1,5 @@
 -- How a recording's happenings stand in numbers and bytes: seven numbers each, in order.
-use Rattle.std.specs.Prelude.{ℕ, ◌+◌, ◌≤◌, cond, List, [], ◌∷◌, get_or, eqb}
+use Rattle.std.specs.Prelude.{ℕ, ◌+◌, ◌≤◌, Bool, true, false, cond, List, [], ◌∷◌, get_or, eqb}
 use Rattle.octets.specs.Slices.{part_of}
 use Rattle.protocol.specs.Stretches.{Key}
 use Rattle.command.specs.declared.Place.{Place}
@@ -40,6 +40,10 @@ Apart from to (k ∷ a ∷ b ∷ c ∷ d ∷ p ∷ n ∷ ns) = (from ≤ p) × A
 abbrev pub kind_number : Kind → ℕ
 kind_number Kind.Part = 0
 kind_number Kind.Start = 1
+
+abbrev pub is_start : Kind → Bool
+is_start Kind.Part = false
+is_start Kind.Start = true
 
 abbrev pub kind_of : ℕ → Kind
 kind_of n = cond (eqb n 0) Kind.Part Kind.Start

@@ -1,7 +1,7 @@
 // A row of what was heard, as seven numbers and read from them.
 ghost use Rattle.std.specs.Prelude.{◌≡◌, ◌+◌, ◌*◌, ◌≤◌, length};
 ghost use Rattle.std.proofs.lemmas.List.Edits.{sets};
-ghost use Rattle.hearing.specs.Rows.{kind_of, row_at, row_numbers};
+ghost use Rattle.hearing.specs.Rows.{is_start, kind_of, row_at, row_numbers};
 
 use command::Place;
 
@@ -46,6 +46,12 @@ impl Row {
                 len: events[at + 6],
             },
         }
+    }
+
+    pub fn is_start(self) -> bool
+        ensures { result ≡ is_start self.kind }
+    {
+        matches!(self.kind, Kind::Start)
     }
 
     // Stores it, with so many before it.

@@ -11,7 +11,7 @@ use lib.Dec.{ltb, leb}
 use borrow.Author.Tests.{ltb-true, ltb-false, le-leb}
 use Rattle.octets.specs.Outcome.{Outcome, outcome}
 use Rattle.octets.specs.Slices.{part_of, copy_at}
-use Rattle.octets.specs.declared.Stored.{Stored}
+use Rattle.std.specs.Prelude.{Option}
 use Rattle.octets.proofs.Stores.{sets-append}
 use Rattle.octets.proofs.Lists.{drop-end}
 use Rattle.frames.proofs.Choices.{by_cond}
@@ -66,7 +66,7 @@ bytes-put f out at h = rw (le-leb (at + length f) (length out) h)
 bytes-size : (f out : List ℕ) (at : ℕ) → length (copy_at f out at).buffer ≡ length out
 unfolding copy_at
 bytes-size f out at =
-    by_cond (λ (o : Outcome Stored). length o.buffer ≡ length out) (leb (at + length f) (length out))
+    by_cond (λ (o : Outcome (Option ℕ)). length o.buffer ≡ length out) (leb (at + length f) (length out))
     (λ _. length-sets out at f) (λ _. refl)
 
 module _ (xs out₀ list₀ : List ℕ) where
