@@ -2,13 +2,7 @@
 use Rattle.std.specs.Prelude.{ℕ, ◌+◌, List, [], ◌∷◌, length, map}
 use denote.Ref.{Bor, at_last}
 use Rattle.octets.specs.Outcome.{Outcome, outcome, stored_at}
-use Rattle.octets.specs.declared.Stored.{Stored}
 use Rattle.reply.specs.declared.writer.Writer.{Writer}
-
--- where bytes end that were to be stored from a place on: there, where they did not fit
-abbrev pub place_after : Stored → ℕ → ℕ
-place_after (Stored.End end) at = end
-place_after Stored.NoRoom at = at
 
 -- place and buffer after one more part, which is left out where it does not fit
 unfoldable pub put : Outcome ℕ → List ℕ → Outcome ℕ

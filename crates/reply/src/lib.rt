@@ -14,23 +14,23 @@ ghost use Rattle.protocol.specs.Promises.{EveryStatus};
 ghost use Rattle.protocol.specs.Replies.{is_progress, is_held, replied_of};
 
 use protocol::{Reply, Status};
+pub use texts::word_of;
 
-// Stores a reply at the buffer's start and says how long it is. A reply that is not due, that quiet
-// holds back, or that does not fit has length 0 and leaves the buffer as before. That every reply is
-// canonical text and reads back as what it says stands here too.
-pub fn send(reply: Reply, buffer: &mut [u8]) -> usize
+// Stores a reply at the buffer's start and says how long it is. Where none is due, quiet holds it back, or
+// it does not fit, the length is 0 and the buffer as before. That every reply is canonical text and reads
+// back as what it says stands here too.
+pub fn send(reply: Option<Reply>, buffer: &mut [u8]) -> usize
     ensures buffer_after { outcome result buffer.new ≡ replied_of reply buffer.old }
     ensures every_status { EveryStatus }
 {
-    if !reply.due {
+    let Some(reply) = reply else {
         return 0;
-    }
-    let status = reply.status;
-    if is_held(status, reply.quiet) {
+    };
+    if is_held(reply.status, reply.quiet) {
         return 0;
     }
     let size = texts::size_text(reply.size);
-    let word = texts::status_text(status);
+    let word = texts::status_text(reply.status);
     fields::put_fields(
         buffer,
         texts::first(&reply.id, reply.id_len),

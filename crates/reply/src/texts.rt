@@ -2,10 +2,9 @@
 ghost use Rattle.std.specs.Prelude.{◌≡◌, take};
 ghost use Rattle.base64_codec.specs.Encode.{text_of};
 ghost use Rattle.protocol.specs.Replies.{status_word, size_text};
-ghost use Rattle.reply.specs.Texts.{text_in, end_of};
+ghost use Rattle.reply.specs.Texts.{text_in};
 
-use crate::writer;
-use decimal::{Number, Written};
+use decimal::Number;
 use protocol::Status;
 
 // A text made here: the first len bytes of the array. 20 hold the digits of every u64.
@@ -42,20 +41,8 @@ pub(crate) fn size_text(size: u64) -> Text
         negative: false,
         magnitude: size,
     };
-    let len = end_of(decimal::write(n, &mut bytes, 0));
+    let len = decimal::write(n, &mut bytes, 0).unwrap_or(0);
     Text { bytes, len }
-}
-
-// Where a number's text ends; 0 where none was written.
-fn end_of(written: Written) -> usize
-    ensures { result ≡ end_of written }
-{
-    match written {
-        Written::End(end) => end,
-        Written::NegativeZero => 0,
-        Written::OutOfRange => 0,
-        Written::NoRoom => 0,
-    }
 }
 
 // The Base64 of a status' word.
@@ -63,15 +50,12 @@ pub(crate) fn status_text(status: Status) -> Text
     ensures { text_in result ≡ text_of (status_word status) }
 {
     let mut bytes = [0; 20];
-    let len = writer::place_after(
-        base64_codec::encode(word_of(status), &mut bytes, 0),
-        0,
-    );
+    let len = base64_codec::encode(word_of(status), &mut bytes, 0).unwrap_or(0);
     Text { bytes, len }
 }
 
 // The word of a status.
-fn word_of(status: Status) -> &'static [u8]
+pub fn word_of(status: Status) -> &'static [u8]
     ensures { result.now ≡ status_word status }
 {
     match status {

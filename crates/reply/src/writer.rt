@@ -3,9 +3,7 @@
 // What a part does to the buffer is decided in `put_at`, on slice and number.
 ghost use Rattle.std.specs.Prelude.{◌≡◌};
 ghost use Rattle.octets.specs.Outcome.{outcome};
-ghost use Rattle.reply.specs.Puts.{place_after, put, put_all, stored, stored_all, texts};
-
-use octets::Stored;
+ghost use Rattle.reply.specs.Puts.{put, put_all, stored, stored_all, texts};
 
 #[derive(Drop)]
 struct Writer<'b> {
@@ -46,15 +44,5 @@ pub(crate) fn put_parts(buf: &mut [u8], parts: &[&[u8]]) -> usize
 fn put_at(buf: &mut [u8], at: usize, part: &[u8]) -> usize
     ensures { outcome result buf.new ≡ put (outcome at buf.old) part.now }
 {
-    place_after(octets::copy_at(part, buf, at), at)
-}
-
-// Where bytes end that were to be stored from place `at` on: there, where they did not fit.
-pub(crate) fn place_after(stored: Stored, at: usize) -> usize
-    ensures { result ≡ place_after stored at }
-{
-    match stored {
-        Stored::End(end) => end,
-        Stored::NoRoom => at,
-    }
+    octets::copy_at(part, buf, at).unwrap_or(at)
 }
