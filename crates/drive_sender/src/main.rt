@@ -9,14 +9,14 @@ mod script;
 use office::Office;
 use script_parts::{SCRIPT_LIMIT, bad_script};
 use std::io::Stdout;
-use streams::{Got, Run};
+use streams::Run;
 
 // One byte more is read, so that a longer script is seen.
 fn main(rt: HostRuntime) {
     let mut bytes = [0u8; SCRIPT_LIMIT + 1];
     let run = match streams::read_all(rt.stdin(), &mut bytes) {
-        Got::Bytes(n) => play(rt.stdout(), &bytes[..n]),
-        Got::Failed => Run::NotRead,
+        Some(n) => play(rt.stdout(), &bytes[..n]),
+        None => Run::NotRead,
     };
     run.end(rt.stderr(), b"drive_sender");
 }
@@ -31,15 +31,10 @@ fn play(stdout: Stdout, bytes: &[u8]) -> Run {
     let mut scratch = [0xA5u8; Office::SCRATCH];
     let mut state = office::fresh(Run::Well(stdout));
     let mut at = 0;
-    while at < bytes.len() {
-        let run = state.run;
-        if !run.is_well() {
-            break;
-        }
-        let n = script::operation_length(bytes, at);
-        if n == 0 {
-            return bad_script(run);
-        }
+    while at < bytes.len() && state.run.is_well() {
+        let Some(n) = script::operation_length(bytes, at) else {
+            return bad_script(state.run);
+        };
         state = office::perform(state, bytes, at, n, &mut out, &mut carry, &mut scratch);
         at += n;
     }

@@ -4,7 +4,6 @@ use crate::script::{eight_bytes, id_length};
 use command::Command;
 use command_writer::framed::FRAME_ROOM;
 use frames::{Framing, Report};
-use octets::size::least;
 use script_parts::{byte, rest, two_bytes};
 use sending::{Listened, Sender, Wrote};
 use streams::Run;
@@ -46,7 +45,7 @@ impl Office {
 // A fresh sender, every buffer lent whole, no hear made yet.
 pub(crate) fn fresh(run: Run) -> Office {
     Office {
-        run: run,
+        run,
         sender: Sender::fresh(),
         rooms: Rooms {
             out: Office::OUT,
@@ -73,18 +72,15 @@ pub(crate) fn perform(
 ) -> Office {
     let operation = octets::part(bytes, at, n);
     let letter = byte(operation, 0);
-    let run = office.run;
-    let rooms = office.rooms;
-    let heard = office.heard;
     match letter {
         b'h' => hear(office, operation, at, out, carry, scratch),
         b't' => Office {
-            run: text(run, heard, bytes, carry, rooms.carry),
+            run: text(office.run, office.heard, bytes, carry, office.rooms.carry),
             ..office
         },
-        b'n' => anew(run, out, carry, scratch),
+        b'n' => anew(office.run, out, carry, scratch),
         b'b' | b'c' | b'w' => Office {
-            rooms: lend(rooms, letter, two_bytes(operation, 1)),
+            rooms: lend(office.rooms, letter, two_bytes(operation, 1)),
             ..office
         },
         _ => call(office, operation, out, carry, scratch),
@@ -94,18 +90,10 @@ pub(crate) fn perform(
 // ---- What prints nothing.
 // Starts anew: a fresh sender, and the buffers as at first.
 fn anew(run: Run, out: &mut [u8], carry: &mut [u8], scratch: &mut [u8]) -> Office {
-    fill(out);
-    fill(carry);
-    fill(scratch);
+    out.fill(0xA5);
+    carry.fill(0xA5);
+    scratch.fill(0xA5);
     fresh(run)
-}
-
-fn fill(buffer: &mut [u8]) {
-    let mut i = 0;
-    while i < buffer.len() {
-        buffer[i] = 0xA5;
-        i += 1;
-    }
 }
 
 // From now on only the first n bytes of a buffer are lent.
@@ -130,22 +118,21 @@ fn hear(
     carry: &mut [u8],
     scratch: &mut [u8],
 ) -> Office {
-    let sender = office.sender;
-    let rooms = office.rooms;
-    let run = office.run;
-    let listened = hear_lent(sender, rest(operation, 3), rooms, carry, scratch);
-    let news = listened.news;
-    let next = listened.sender;
-    let report = listened.report;
-    let told = line::heard(run, listened.consumed, news);
-    let transfer = next.transfer;
+    let listened = hear_lent(
+        office.sender,
+        rest(operation, 3),
+        office.rooms,
+        carry,
+        scratch,
+    );
+    let told = line::heard(office.run, listened.consumed, listened.news);
     Office {
-        run: line::end(told, transfer, out, carry, scratch),
-        sender: next,
+        run: line::end(told, listened.sender.transfer, out, carry, scratch),
+        sender: listened.sender,
         heard: Heard {
-            at: at,
+            at,
             len: operation.len(),
-            report: report,
+            report: listened.report,
         },
         ..office
     }
@@ -159,17 +146,16 @@ fn hear_lent(
     carry: &mut [u8],
     scratch: &mut [u8],
 ) -> Listened {
-    let c = least(rooms.carry, carry.len());
-    let s = least(rooms.scratch, scratch.len());
+    let c = rooms.carry.min(carry.len());
+    let s = rooms.scratch.min(scratch.len());
     sender::hear(sender, piece, &mut carry[..c], &mut scratch[..s])
 }
 
 // The text of a hear's report, given that hear's piece and so many bytes of the carry as it is now.
 fn text<'a>(run: Run, heard: Heard, bytes: &'a [u8], carry: &'a [u8], room: usize) -> Run {
-    let report = heard.report;
     let piece = rest(octets::part(bytes, heard.at, heard.len), 3);
-    let lent = octets::part(carry, 0, least(room, carry.len()));
-    line::text(run, frames::text(piece, lent, report))
+    let lent = &carry[..room.min(carry.len())];
+    line::text(run, frames::text(piece, lent, heard.report))
 }
 
 // ---- Calls that write.
@@ -180,18 +166,12 @@ fn call<'a>(
     carry: &'a [u8],
     scratch: &'a [u8],
 ) -> Office {
-    let sender = office.sender;
-    let rooms = office.rooms;
-    let run = office.run;
-    let b = least(rooms.out, out.len());
-    let wrote = call_lent(sender, operation, &mut out[..b]);
-    let writing = wrote.writing;
-    let next = wrote.sender;
-    let told = line::wrote(run, byte(operation, 0), writing, out);
-    let transfer = next.transfer;
+    let b = office.rooms.out.min(out.len());
+    let wrote = call_lent(office.sender, operation, &mut out[..b]);
+    let told = line::wrote(office.run, byte(operation, 0), wrote.writing, out);
     Office {
-        run: line::end(told, transfer, out, carry, scratch),
-        sender: next,
+        run: line::end(told, wrote.sender.transfer, out, carry, scratch),
+        sender: wrote.sender,
         ..office
     }
 }
