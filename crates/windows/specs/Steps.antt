@@ -90,9 +90,9 @@ abbrev pub found_at : Side → Option ℕ → Option Start
 found_at s None = None
 found_at s (Some row) = Some (start_at s (row * 7))
 
-abbrev pub (Option ℕ) : Side → Option ℕ → Type 0
-Option ℕ s None = Unit {0}
-Option ℕ s (Some row) = row * 7 + 7 ≤ length s.numbers
+abbrev pub IsRow : Side → Option ℕ → Type 0
+IsRow s None = Unit {0}
+IsRow s (Some row) = row * 7 + 7 ≤ length s.numbers
 
 -- ---- the line of a row
 -- how many starts of its pair stand before it

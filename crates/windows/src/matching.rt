@@ -2,7 +2,7 @@
 // before it is matched with the one in the second that has as many before it.
 ghost use Rattle.std.specs.Prelude.{◌≡◌, ◌+◌, ◌*◌, ◌≤◌, length};
 ghost use Rattle.windows.specs.Ranks.{count_of, nth};
-ghost use Rattle.windows.specs.Steps.{heard, key_of, rank_at, partner_of, is_left, found_at, Found, starts_in};
+ghost use Rattle.windows.specs.Steps.{heard, key_of, rank_at, partner_of, is_left, found_at, IsRow, starts_in};
 
 use crate::side::{Pair, Side};
 
@@ -21,7 +21,7 @@ fn count(side: Side, pair: Pair) -> usize
 
 // The start of a pair that has so many others of it before it.
 fn nth_start(side: Side, rank: usize, pair: Pair) -> Option<usize>
-    ensures { Found (heard side.entry) result × (found_at (heard side.entry) result
+    ensures { IsRow (heard side.entry) result × (found_at (heard side.entry) result
         ≡ nth (key_of pair.entry) rank (starts_in (heard side.entry))) }
 {
     let mut left = rank;
@@ -47,7 +47,7 @@ fn rank(side: Side, row: usize) -> usize
 // The partner of a start in the first.
 pub(crate) fn partner(first: Side, row: usize, second: Side) -> Option<usize>
     requires { row * 7 + 7 ≤ length first.events.now }
-    ensures { Found (heard second.entry) result × (found_at (heard second.entry) result
+    ensures { IsRow (heard second.entry) result × (found_at (heard second.entry) result
         ≡ partner_of (heard first.entry) (heard second.entry) (row * 7)) }
 {
     nth_start(second, rank(first, row), first.pair_at(row))
