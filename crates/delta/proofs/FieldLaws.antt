@@ -7,7 +7,7 @@ use native.Mathlib.Omega.{arith}
 use native.Mathlib.Nat.{pow-le-pow_right, pow-succ'}
 use native.Mathlib.Numerals.{add-one}
 use lib.ListN.{length, get_or, take, drop, length-take, length-drop, length-append}
-use lib.Seq.{get_or-append_seam}
+use lib.Seq.{get_or-append_seam, length-take-le}
 use Rattle.std.specs.List.{push}
 use lib.Dec.{leb}
 use borrow.Author.Tests.{le-leb}
@@ -69,3 +69,6 @@ part_small s at n = by (leb (at + n) (length s))
     by : (u : Bool) → length (cond u (take n (drop at s)) []) ≤ length s
     by true = omega (arith, length-take n (drop at s), length-drop at s)
     by false = omega arith
+
+-- a part that lies within is as long as was asked
+pub ruleset in_part = (part-within, length-take-le, length-drop)

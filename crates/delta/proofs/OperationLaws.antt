@@ -1,11 +1,11 @@
 -- An operation read from bytes, and by its place in the delta.
 use Prim.Native.Nat.{ℕ, ◌+◌, ◌≤◌}
-use mathlib.Core.Path.{◌≡◌, refl}
+use mathlib.Core.Path.{◌≡◌, refl, ap, ◌∙◌}
 use mathlib.Core.Bool.{Bool, true, false, cond}
 use mathlib.Core.List.{List}
 use native.Mathlib.Omega.{arith}
 use lib.ListN.{length, take, drop, length-drop, length-append}
-use lib.Seq.{length-take-le}
+use lib.Seq.{length-take-le, drop-drop}
 use lib.Dec.{leb, eqb}
 use borrow.Author.Tests.{leb-true, eqb-true}
 use Rattle.std.proofs.lemmas.Bool.{cond_both}
@@ -61,6 +61,10 @@ hash-placed at r = payload-placed at 2 (λ bs. Op.hash bs) (λ p. Operation.Hash
     go : (bs : List ℕ) (m : ℕ)
         → placed at (Read.one (Op.hash bs) m) ≡ Ok (step (Operation.Hash (span (at + 1 + 2) (length bs))) (at + 1 + m))
     go bs m = let e : at + 1 + 2 ≡ at + 3 = omega arith in rw e
+
+-- the second number of a range
+pub range_more : (at : ℕ) (d : List ℕ) → drop 8 (drop (at + 1) d) ≡ drop (at + 9) d
+range_more at d = let e : at + 1 + 8 ≡ at + 9 = omega arith in drop-drop 8 (at + 1) d ∙ ap (λ (k : ℕ). drop k d) e
 
 -- ---- what is known of an operation that was read, from its type and the bytes after it
 abbrev pub HeldPayload : ℕ → List ℕ → List ℕ → ℕ → Type 0

@@ -18,7 +18,7 @@ refusal_number Refusal.NoRoom = 9
 unfoldable pub inputs_of : List ℕ → List ℕ → List ℕ → Result Signature Refusal
 inputs_of s old d = cond (ltb limit (length old) || ltb limit (length d)) (Err Refusal.TooLong) (signature_of s)
 
--- the new file and its hash; or why there is none
+-- the new file and its hash; or why there is none: named as in `Read`
 pub data Patched : Type 0 where
   refused : Refusal → Patched
   patched : List ℕ → Option Span → Patched

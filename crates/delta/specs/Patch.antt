@@ -62,6 +62,7 @@ hash_from at (Delta.next (Op.bytes bs) d) = hash_from (at + length (laid (Op.byt
 hash_from at (Delta.next (Op.hash bs) d) = Some (span (at + 3) (length bs))
 hash_from at (Delta.next (Op.blocks i n) d) = hash_from (at + length (laid (Op.blocks i n))) d
 
+-- the new file and its hash, or damage: named as in `Read`
 pub data NewFile : Type 0 where
   damaged : NewFile
   made : List ℕ → Option Span → NewFile

@@ -56,7 +56,7 @@ unfoldable pub entry_of : List ℕ → ℕ → Result (Option Entry) Refusal
 entry_of s i = entry_by (signature_of s) s i
 
 -- ---- an operation, from its type and the bytes after it
--- the operation, and how many bytes its operands are
+-- the operation, and how many bytes its operands are. A type with names, and no Option of a pair, so that theorems speak of damage
 pub data Read : Type 0 where
   damaged : Read
   one : Op → ℕ → Read
@@ -119,7 +119,7 @@ step_of d at =
 
 -- ---- what the functions under them answer
 -- the place after n bytes of operands
-unfoldable pub past_of : ℕ → ℕ → List ℕ → Result ℕ Refusal
+abbrev pub past_of : ℕ → ℕ → List ℕ → Result ℕ Refusal
 past_of at n r = cond (leb n (length r)) (Ok (at + 1 + n)) (Err Refusal.Damaged)
 
 -- where a payload stands

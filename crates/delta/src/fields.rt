@@ -3,6 +3,7 @@ ghost use Rattle.std.specs.Prelude.{◌≡◌, ◌+◌, ◌^◌, ◌≤◌, ◌<
 ghost use Rattle.octets.specs.Little.{number};
 
 // The number in the n bytes from a place on.
+#[tactic(auto, using(crate::proofs::FieldLaws::in_part))]
 pub(crate) fn field(s: &[u8], at: usize, n: usize) -> u64
     requires { (n ≤ 8) × (at + n ≤ length s.now) }
     ensures { (result ≡ number (take n (drop at s.now))) × (result < 256 ^ n) }

@@ -51,7 +51,7 @@ pub(crate) fn next(delta: &[u8], at: usize) -> Result<Step, Refusal>
 
 // A block and a range differ in a number and in what is made of them, not in a type or a size, so one
 // function of both would be no plainer.
-#[tactic(auto, unfolding(crate::specs::Read::past_of, crate::specs::Read::block_in, crate::specs::Read::placed))]
+#[tactic(auto, unfolding(crate::specs::Read::block_in, crate::specs::Read::placed))]
 fn block(delta: &[u8], at: usize) -> Result<Step, Refusal>
     requires { (at < length delta.now) × (length delta.now ≤ Read.limit) }
     ensures { result ≡ Read.placed at (Read.block_in (drop (at + 1) delta.now)) }
@@ -64,7 +64,7 @@ fn block(delta: &[u8], at: usize) -> Result<Step, Refusal>
     })
 }
 
-#[tactic(auto, unfolding(crate::specs::Read::past_of, crate::specs::Read::blocks_in, crate::specs::Read::placed))]
+#[tactic(auto, using(crate::proofs::OperationLaws::range_more), unfolding(crate::specs::Read::blocks_in, crate::specs::Read::placed))]
 fn blocks(delta: &[u8], at: usize) -> Result<Step, Refusal>
     requires { (at < length delta.now) × (length delta.now ≤ Read.limit) }
     ensures { result ≡ Read.placed at (Read.blocks_in (drop (at + 1) delta.now)) }
@@ -79,7 +79,7 @@ fn blocks(delta: &[u8], at: usize) -> Result<Step, Refusal>
 }
 
 // A payload whose size is a number of some bytes.
-#[tactic(auto, unfolding(crate::specs::Read::past_of, crate::specs::Read::payload_at))]
+#[tactic(auto, unfolding(crate::specs::Read::payload_at))]
 fn sized(delta: &[u8], at: usize, width: usize) -> Result<Span, Refusal>
     requires { (width ≤ 8) × (at < length delta.now) × (length delta.now ≤ Read.limit) }
     ensures value { result ≡ Read.payload_at at width (drop (at + 1) delta.now) }
@@ -94,7 +94,6 @@ fn sized(delta: &[u8], at: usize, width: usize) -> Result<Span, Refusal>
 }
 
 // The place after n bytes of operands.
-#[tactic(auto, unfolding(crate::specs::Read::past_of))]
 fn past(delta: &[u8], at: usize, n: usize) -> Result<usize, Refusal>
     requires { (n < 13) × (at < length delta.now) × (length delta.now ≤ Read.limit) }
     ensures { result ≡ Read.past_of at n (drop (at + 1) delta.now) }
