@@ -40,12 +40,12 @@ by-closed P n u piece carry long =
 -- and these report no refusal with 9
 report-taken : (e : Event) (u : ℕ) → report_of e u ≡ Report.ShortCarry → ⊥
 unfolding report_of
-report-taken (On g) u q = let z : ◌≡◌ {A = ℕ} 0 1 = cc in omega arith
+report-taken (On g) u q = cc
 report-taken (Closed n) u q =
     by-closed (λ r. r ≡ Report.ShortCarry → ⊥) n u
-    (λ start e. let z : ◌≡◌ {A = ℕ} 0 1 = cc in omega arith) (λ e. let z : ◌≡◌ {A = ℕ} 0 1 = cc in omega arith)
-    (λ e. let z : ◌≡◌ {A = ℕ} 0 1 = cc in omega arith) q
-report-taken (Abandoned n g) u q = let z : ◌≡◌ {A = ℕ} 0 1 = cc in omega arith
+    (λ start e. cc) (λ e. cc)
+    (λ e. cc) q
+report-taken (Abandoned n g) u q = cc
 
 pub call-report : (f : Framing) (xs c : List ℕ) → text_limit ≤ length c → (scan_of f xs c).answer.report ≡ Report.ShortCarry → ⊥
 call-report f xs c h e = report-taken _ _ (rw (call-taken f xs c h) at e)
@@ -105,8 +105,8 @@ used-some f i (b ∷ xs) = by (step_of f b) (λ g. used-some g (i + 1) xs)
 report-some : (n u : ℕ) → report_of (Closed n) u ≡ Report.Nothing → ⊥
 report-some n u =
     by-closed (λ r. r ≡ Report.Nothing → ⊥) n u
-    (λ start e. let z : ◌≡◌ {A = ℕ} 0 1 = cc in omega arith) (λ e. let z : ◌≡◌ {A = ℕ} 0 1 = cc in omega arith)
-    (λ e. let z : ◌≡◌ {A = ℕ} 0 1 = cc in omega arith)
+    (λ start e. cc) (λ e. cc)
+    (λ e. cc)
 
 abbrev silent : Walked → Type 0
 silent w = report_of w.event w.used ≡ Report.Nothing
@@ -121,7 +121,7 @@ used_all f i (b ∷ xs) e = by (step_of f b) (λ g. used_all g (i + 1) xs) e
         → (after r (i + 1) (λ (g : Framing). walk_from g (i + 1) xs)).used ≡ i + suc (length xs)
     by (On g) h q = omega (arith, h g q)
     by (Closed n) h q = absurd (report-some n (i + 1) q)
-    by (Abandoned n g) h q = let z : ◌≡◌ {A = ℕ} 0 1 = cc in absurd (omega arith)
+    by (Abandoned n g) h q = cc
 
 -- fewer bytes report nothing
 used-first : (f : Framing) (i k u : ℕ) (xs : List ℕ) → i + k < (walk_from f i xs).used

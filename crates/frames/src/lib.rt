@@ -14,6 +14,7 @@ mod walk;
 ghost use Rattle.std.specs.Prelude.{◌≡◌, ◌≤◌, length};
 ghost use Rattle.octets.specs.Outcome.{outcome};
 ghost use Rattle.frames.specs.Stream.{text_limit};
+ghost use Rattle.frames.specs.Framings.{mark_of};
 ghost use Rattle.frames.specs.Calls.{place_of, report_of, taken_of, scan_of, text_of};
 ghost use Rattle.frames.specs.Claims.{TellsTheStream, SameHoweverCut, Consumes, RefusesShort, FramedTells};
 ghost use Rattle.frames.specs.DragDrop.{DraggedTells, MarkExamples};
@@ -40,6 +41,17 @@ pub enum Framing {
 pub enum Mark {
     Transfer,
     DragDrop,
+}
+
+impl Mark {
+    pub(crate) fn word(self) -> &'static [u8]
+        ensures { result.now ≡ mark_of self }
+    {
+        match self {
+            Mark::Transfer => b"5113;",
+            Mark::DragDrop => b"72;",
+        }
+    }
 }
 
 impl Framing {

@@ -14,7 +14,7 @@ use Rattle.octets.proofs.Lists.{drop_at, drop-end}
 -- a choice that leaves false holds only where its test does
 pub pick_test : (t u : Bool) → cond t u false ≡ true → (t ≡ true) × (u ≡ true)
 pick_test true u e = (refl, e)
-pick_test false u e = let z : ◌≡◌ {A = ℕ} 0 1 = cc in absurd (omega arith)
+pick_test false u e = cc
 
 both_choice : (t u : Bool) → (t && u) ≡ cond t u false
 both_choice true u = refl
@@ -29,8 +29,8 @@ equals_refl (x ∷ a) = rw (eq-eqb x x refl) (equals_refl a)
 pub equals-sound : (a b : List ℕ) → equals a b ≡ true → a ≡ b
 unfolding equals
 equals-sound [] [] e = refl
-equals-sound [] (y ∷ b) e = let z : ◌≡◌ {A = ℕ} 0 1 = cc in absurd (omega arith)
-equals-sound (x ∷ a) [] e = let z : ◌≡◌ {A = ℕ} 0 1 = cc in absurd (omega arith)
+equals-sound [] (y ∷ b) e = cc
+equals-sound (x ∷ a) [] e = cc
 equals-sound (x ∷ a) (y ∷ b) e =
     let h = pick_test (eqb x y) (equals a b) e in
     rw (eqb-true x y h.0, equals-sound a b h.1)
@@ -82,7 +82,7 @@ starts-append (x ∷ p) r = rw (eq-eqb x x refl) (starts-append p r)
 pub starts-sound : (s p : List ℕ) → starts_with s p ≡ true → s ≡ p ++ drop (length p) s
 unfolding starts_with
 starts-sound s [] e = refl
-starts-sound [] (y ∷ p) e = let z : ◌≡◌ {A = ℕ} 0 1 = cc in absurd (omega arith)
+starts-sound [] (y ∷ p) e = cc
 starts-sound (x ∷ s) (y ∷ p) e =
     let h = pick_test (eqb x y) (starts_with s p) e in
     rw (eqb-true x y h.0) (ap (λ (l : List ℕ). y ∷ l) (starts-sound s p h.1))

@@ -51,7 +51,7 @@ index-past b (suc n) (y ∷ ys) l h = by (eqb y b) (sym (lacks_cons b y (take n 
   where
     by : (t : Bool) → cond t false (lacks b (take n ys)) ≡ true → (lacks b (take n ys) ≡ true → index_of b ys ≡ n + index_of b (drop n ys))
         → index_after t (index_of b ys) ≡ suc n + index_of b (drop n ys)
-    by true q ih = let z : ◌≡◌ {A = ℕ} 0 1 = cc in absurd (omega arith)
+    by true q ih = cc
     by false q ih = omega (arith, ih q)
 
 -- a search may start behind a block of n bytes without the byte, which an iterator gave from place `at` on

@@ -21,7 +21,8 @@ pub(crate) fn pass(s: &[u8], from: usize, b: u8, n: usize) -> usize
     at
 }
 
-// Whether b is not in s.
+// Whether b is not in s. Not the library's `contains`, which has a way out after each group of bytes: with
+// it the scan of 100 MB of texts takes 18.8 ms where it takes 17.6 (bench/frames.sh).
 fn clear(s: &[u8], b: u8) -> bool
     ensures { result ≡ lacks b s.now }
 {

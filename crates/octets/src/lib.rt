@@ -30,6 +30,7 @@ pub fn starts_with(s: &[u8], prefix: &[u8]) -> bool
 // The first place at or after `from` where b stands in s; where there is none, the end of s, or
 // `from` where it lies past that. Long blocks are passed first, then short ones, then a few bytes at
 // once: an escape that is near is found without a look at each byte before it.
+// The end and no `None`: each caller goes on from there, so that it is a place as any other.
 pub fn find(s: &[u8], from: usize, b: u8) -> usize
     ensures { result ≡ from + index_of b (drop from s.now) }
 {

@@ -13,7 +13,7 @@ use Rattle.pathname.specs.Utf8.{Range, Row, inside, rows, followers_in, begun, s
 use Rattle.pathname.specs.Claims.{CutsCharactersNowhere}
 
 no : {A : Type 0} → false ≡ true → A
-no e = let z : ◌≡◌ {A = ℕ} 0 1 = cc in absurd (omega arith)
+no e = cc
 
 -- ---- the bytes that follow are 80 or more
 unfoldable high : List Range → Bool
@@ -24,7 +24,7 @@ high_row r = high r.rest
 
 high_in : (rs : List Row) (x : ℕ) (qs : List Range) → every high_row rs ≡ true → followers_in rs x ≡ Some qs → high qs ≡ true
 unfolding every followers_in high_row
-high_in [] x qs h e = let z : ◌≡◌ {A = ℕ} 0 1 = cc in absurd (omega arith)
+high_in [] x qs h e = cc
 high_in (r ∷ rs) x qs h e =
     let here = both_test (high_row r) (every high_row rs) h in
     go (inside r.first x) here.0 (λ q. high_in rs x qs here.1 q) e
