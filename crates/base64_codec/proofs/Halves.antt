@@ -97,7 +97,7 @@ group-append a b c d r s = by (eqb c pad) (eqb d pad)
     by false true = refl
     by false false = refl
 
-bytes_halves : (h g : List ℕ) → length h % 4 ≡ 0 → bytes_of (h ++ g) ≡ bytes_of h ++ bytes_of g
+pub bytes_halves : (h g : List ℕ) → length h % 4 ≡ 0 → bytes_of (h ++ g) ≡ bytes_of h ++ bytes_of g
 unfolding bytes_of
 bytes_halves [] g e = refl
 bytes_halves (a ∷ []) g e = absurd (omega arith)

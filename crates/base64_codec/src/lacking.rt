@@ -1,9 +1,8 @@
 // Texts that may leave their padding out. The last group is completed in four bytes of its own, and the
 // whole groups before it are read where they lie: nothing is copied, and a text that has its padding
 // takes the strict way.
-ghost use Rattle.std.specs.Prelude.{◌≡◌, ◌++◌, ◌%◌, length, get_or};
+ghost use Rattle.std.specs.Prelude.{◌≡◌, ◌++◌, ◌%◌, length};
 ghost use Rattle.octets.specs.Outcome.{outcome};
-ghost use Rattle.base64_codec.specs.Alphabet.{pad};
 ghost use Rattle.base64_codec.specs.Decode.{decode_of};
 ghost use Rattle.base64_codec.specs.Padding.{decode_with, joined_verdict};
 ghost use Rattle.base64_codec.specs.declared.Padding.TheVariants.{Optional};
@@ -17,32 +16,18 @@ use crate::{DecodeError, Fault};
 pub(crate) fn decode(text: &[u8], out: &mut [u8], at: usize) -> Result<usize, DecodeError>
     ensures { outcome result out.new ≡ decode_with Optional text.now out.old at }
 {
-    let n = text.len();
-    let over = n % 4;
-    if over < 2 {
+    let whole = text.len() / 4 * 4;
+    let left = &text[whole..];
+    if left.len() < 2 || left[left.len() - 1] == PAD {
         return crate::decode(text, out, at);
     }
-    if text[n - 1] == PAD {
-        return crate::decode(text, out, at);
-    }
-    let i = n - over;
-    let third = or_pad(text, i + 2);
-    in_two(&text[..i], &[text[i], text[i + 1], third, PAD], out, at)
-}
-
-// The character at place i, and `=` past the text's end.
-fn or_pad(text: &[u8], i: usize) -> u8
-    ensures { result ≡ get_or text.now i pad }
-{
-    if i < text.len() {
-        return text[i];
-    }
-    PAD
+    let third = left.get(2).copied().unwrap_or(PAD);
+    in_two(&text[..whole], &[left[0], left[1], third, PAD], out, at)
 }
 
 // Stores the bytes of whole groups and of a last one, which stands apart.
-fn in_two(groups: &[u8], last: &[u8], out: &mut [u8], at: usize) -> Result<usize, DecodeError>
-    requires { (length groups.now % 4 ≡ 0) × (length last.now ≡ 4) }
+fn in_two(groups: &[u8], last: &[u8; 4], out: &mut [u8], at: usize) -> Result<usize, DecodeError>
+    requires { length groups.now % 4 ≡ 0 }
     ensures { outcome result out.new ≡ decode_of (groups.now ++ last.now) out.old at }
 {
     let table = VALUES;
@@ -52,8 +37,8 @@ fn in_two(groups: &[u8], last: &[u8], out: &mut [u8], at: usize) -> Result<usize
     if !octets::fits(at, n, out.len()) {
         return Err(DecodeError::NoRoom);
     }
-    fill(&table, groups, 0, out, at);
-    fill(&table, last, padding, out, at + whole);
+    fill(&table, groups, out, at);
+    fill(&table, last, out, at + whole);
     Ok(n)
 }
 

@@ -65,7 +65,7 @@ pub fn decode(text: &[u8], out: &mut [u8], at: usize) -> Result<usize, DecodeErr
     if !octets::fits(at, n, out.len()) {
         return Err(DecodeError::NoRoom);
     }
-    decoder::fill(&table, text, padding, out, at);
+    decoder::fill(&table, text, out, at);
     Ok(n)
 }
 
@@ -92,7 +92,7 @@ pub fn encode(data: &[u8], out: &mut [u8], at: usize) -> Option<usize>
     ensures out_after { outcome result out.new ≡ encode_of «data».now out.old at }
     ensures encoded_decodes { EncodedDecodes }
 {
-    let n = (data.len() + 2) / 3 * 4;
+    let n = data.len().div_ceil(3) * 4;
     if !octets::fits(at, n, out.len()) {
         return None;
     }

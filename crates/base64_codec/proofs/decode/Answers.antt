@@ -38,9 +38,10 @@ unfolding values_from value_of
 fill-requires-clause-table_value c = refl
 
 pub fill-requires-clause-text_value : goal.fill-requires-clause-text_value
-fill-requires-clause-text_value c =
-    let valid = sym c.in_ok-padding.ensures in
-    (valid, rw (size _ _ valid) (leb-true _ _ (sym c.fits.ensures ∙ c.if-not-fits.false)))
+fill-requires-clause-text_value c = (c.in_ok-padding.padding, sym c.in_ok-padding.ensures)
+
+pub fill-requires-clause-room : goal.fill-requires-clause-room
+fill-requires-clause-room c = rw (size _ _ (sym c.in_ok-padding.ensures)) (leb-true _ _ (sym c.fits.ensures ∙ c.if-not-fits.false))
 
 pub returns-clause-out_after : goal.returns-clause-out_after
 unfolding decode_of

@@ -46,28 +46,29 @@ check-requires-2 c = refl
 pub overflow_sub-n : goal.overflow_sub-n
 overflow_sub-n c =
     let joint = rw (c.check.ensures, c.check-2.ensures) at (sym c.in_ok-padding.ensures) in
-    omega (arith, count-last _ _ c.requires.0 c.requires.1 _ joint)
+    omega (arith, count-last _ _ c.requires c.told-last _ joint)
 
 pub returns-then-not-fits : goal.returns-then-not-fits
 unfolding decode_of
 returns-then-not-fits c =
     let joint = rw (c.check.ensures, c.check-2.ensures) at (sym c.in_ok-padding.ensures) in
-    let q = c.requires in
-    rw (together _ _ q.0 q.1 _ joint, count _ _ q.0 q.1 _ joint, ← c.fits.ensures, c.if-not-fits.true)
+    rw (together _ _ c.requires c.told-last _ joint, count _ _ c.requires c.told-last _ joint, ← c.fits.ensures, c.if-not-fits.true)
 
 pub fill-requires-clause-table_value : goal.fill-requires-clause-table_value
 unfolding values_from value_of
 fill-requires-clause-table_value c = refl
 
--- past the test there is room for both
 pub fill-requires-clause-text_value : goal.fill-requires-clause-text_value
 fill-requires-clause-text_value c =
     let joint = rw (c.check.ensures, c.check-2.ensures) at (sym c.in_ok-padding.ensures) in
-    let q = c.requires in
-    let room = leb-true _ _ (sym c.fits.ensures ∙ c.if-not-fits.false) in (
-      first _ _ q.0 q.1 _ joint,
-      omega (arith, count-first _ _ q.0 q.1 _ joint, count-last _ _ q.0 q.1 _ joint, room),
-    )
+    (0, first _ _ c.requires c.told-last _ joint)
+
+-- past the test there is room for both
+pub fill-requires-clause-room : goal.fill-requires-clause-room
+fill-requires-clause-room c =
+    let joint = rw (c.check.ensures, c.check-2.ensures) at (sym c.in_ok-padding.ensures) in
+    let room = leb-true _ _ (sym c.fits.ensures ∙ c.if-not-fits.false) in
+    omega (arith, count-first _ _ c.requires c.told-last _ joint, count-last _ _ c.requires c.told-last _ joint, room)
 
 pub fill-requires-2-clause-table_value : goal.fill-requires-2-clause-table_value
 unfolding values_from value_of
@@ -76,23 +77,26 @@ fill-requires-2-clause-table_value c = refl
 pub fill-requires-2-clause-text_value : goal.fill-requires-2-clause-text_value
 fill-requires-2-clause-text_value c =
     let joint = rw (c.check.ensures, c.check-2.ensures) at (sym c.in_ok-padding.ensures) in
-    let q = c.requires in
+    (c.in_ok-padding.padding, second _ _ c.requires c.told-last _ joint)
+
+pub fill-requires-2-clause-room : goal.fill-requires-2-clause-room
+fill-requires-2-clause-room c =
+    let joint = rw (c.check.ensures, c.check-2.ensures) at (sym c.in_ok-padding.ensures) in
     let room = leb-true _ _ (sym c.fits.ensures ∙ c.if-not-fits.false) in
-    (second _ _ q.0 q.1 _ joint, omega (arith, count-last _ _ q.0 q.1 _ joint, room))
+    omega (arith, count-last _ _ c.requires c.told-last _ joint, room)
 
 pub returns : goal.returns
 unfolding decode_of
 returns c =
     let joint = rw (c.check.ensures, c.check-2.ensures) at (sym c.in_ok-padding.ensures) in
-    let q = c.requires in
     rw (
-      together _ _ q.0 q.1 _ joint,
-      count _ _ q.0 q.1 _ joint,
+      together _ _ c.requires c.told-last _ joint,
+      count _ _ c.requires c.told-last _ joint,
       ← c.fits.ensures,
       c.if-not-fits.false,
       c.fill-2.ensures,
       c.fill.ensures,
-      sets-both _ _ q.0 q.1 _ (first _ _ q.0 q.1 _ joint) (second _ _ q.0 q.1 _ joint),
+      sets-both _ _ c.requires c.told-last _ (first _ _ c.requires c.told-last _ joint) (second _ _ c.requires c.told-last _ joint),
     )
 
 pub returns-in_err-padding : goal.returns-in_err-padding
@@ -100,4 +104,4 @@ unfolding decode_of
 returns-in_err-padding c =
     let told = err_from_is_err_and c.from_residual.result c.from_residual.ensures.1 in
     let fault = rw (c.check.ensures, c.check-2.ensures) at (sym c.in_err-padding.ensures) in
-    rw (told.1, told.2, verdict-joined _ _ c.requires.0 c.requires.1, fault)
+    rw (told.1, told.2, verdict-joined _ _ c.requires c.told-last, fault)
