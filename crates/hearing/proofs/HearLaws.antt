@@ -267,7 +267,8 @@ module _ (xs : List ℕ) (fits : length xs ≤ recording_limit) where
 
 -- ---- a command's places are no large numbers
 pub near : (xs scratch after : List ℕ) (start end : ℕ) {r : Result Command Refusal} {c : Command} → length xs ≤ recording_limit
-    → start + 4 ≤ end → end ≤ length xs → outcome (answered r) after ≡ read_of (text_between xs start end) scratch → r ≡ Ok c → Near (start + 2) c
+    → start + 4 ≤ end → end ≤ length xs → outcome (answered r) after ≡ read_of (text_between xs start end) scratch → r ≡ Ok c
+    → Near (start + 2) c
 near xs scratch after start end {r} {c} fits h w e k =
     let t = text_between xs start end in
     let a : (read_of t scratch).answer ≡ Answer.read c = ap (λ (o : Outcome Answer). o.answer) (sym e) ∙ ap answered k in

@@ -13,7 +13,7 @@ pub enum Kind {
 
 // A part or a start; where the session's id and the file's id stand in the recording; and where its part
 // stands in the bytes.
-#[derive(Clone, Copy)]
+#[derive(Clone, Copy, Debug, PartialEq, Eq)]
 pub struct Row {
     pub kind: Kind,
     pub id: Place,

@@ -4,28 +4,24 @@
 
 mod line;
 
-use octets::size::least;
-use recordings::Mended;
+use recordings::{Mended, Refusal};
 use script_parts::{SCRIPT_LIMIT, bad_script, rest, three_bytes};
 use std::io::Stdout;
-use streams::{Got, Run};
+use streams::Run;
 
 // One byte more is read, so that a longer script is seen.
 fn main(rt: HostRuntime) {
     let mut bytes = [0u8; SCRIPT_LIMIT + 1];
     let run = match streams::read_all(rt.stdin(), &mut bytes) {
-        Got::Bytes(n) => play(rt.stdout(), &bytes[..n]),
-        Got::Failed => Run::NotRead,
+        Some(n) => play(rt.stdout(), &bytes[..n]),
+        None => Run::NotRead,
     };
     run.end(rt.stderr(), b"mend_script");
 }
 
 // The buffers have all the room that a recording can need, of which the script lends a part.
 fn play(out: Stdout, script: &[u8]) -> Run {
-    if script.len() < 6 {
-        return bad_script(Run::Well(out));
-    }
-    if script.len() > SCRIPT_LIMIT {
+    if script.len() < 6 || script.len() > SCRIPT_LIMIT {
         return bad_script(Run::Well(out));
     }
     let mut output = [0xA5u8; Mended::LIMIT];
@@ -35,9 +31,9 @@ fn play(out: Stdout, script: &[u8]) -> Run {
 }
 
 // The script's first numbers are the rooms of the output and of the list; the recording follows.
-fn mend_lent(script: &[u8], output: &mut [u8], list: &mut [usize]) -> Mended {
-    let o = least(three_bytes(script, 0), output.len());
-    let l = least(three_bytes(script, 3), list.len());
+fn mend_lent(script: &[u8], output: &mut [u8], list: &mut [usize]) -> Result<Mended, Refusal> {
+    let o = three_bytes(script, 0).min(output.len());
+    let l = three_bytes(script, 3).min(list.len());
     let recording = rest(script, 6);
     recordings::mend(recording, &mut output[..o], &mut list[..l])
 }

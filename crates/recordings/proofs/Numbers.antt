@@ -20,7 +20,8 @@ use Rattle.frames.specs.Stream.{text_limit}
 use Rattle.command.specs.Refusals.{refusal_number}
 use Rattle.command.specs.Keys.{Alias, Kind, place_in, keys, kind_at, number_of}
 use Rattle.command.specs.Letters.{safe_byte, text_byte}
-use Rattle.command.specs.Values.{Got, alias_read, word_read, over, safe_read, integer_refusal, integer_read, base64_refusal, base64_read, value_read}
+use Rattle.command.specs.Values.{Got, alias_read, word_read, over, safe_read}
+use Rattle.command.specs.Values.{integer_refusal, integer_read, base64_refusal, base64_read, value_read}
 use Rattle.command.specs.Fields.{Turn, and_then, is_key, equals_sign, key_of, value_of, field_read, fields_read, text_read}
 use Rattle.command.specs.Meaning.{Field, stored, once, meant, blank, values_in, missing, Meaning, finished, meaning_of}
 use Rattle.command.specs.declared.Refusal.{Refusal}

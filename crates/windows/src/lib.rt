@@ -25,7 +25,8 @@ ghost use Rattle.windows.specs.WrongHearers.{HearerTeeth};
 ghost use Rattle.windows.specs.Steps.{heard, Laid, lines_between, beside_of, listed_in};
 
 pub use line::{Judgement, Line};
-use recordings::{Mended, Refusal};
+use recordings::Mended;
+pub use recordings::Refusal;
 use side::Side;
 
 // Compares two recordings, and lists each start once: the first's in order, then those only the second

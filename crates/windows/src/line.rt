@@ -4,6 +4,7 @@ ghost use Rattle.std.proofs.lemmas.List.Edits.{sets};
 ghost use Rattle.windows.specs.Lines.{judgement_number, judgement_offset, line_numbers};
 
 use command::Place;
+use recordings::Mended;
 
 // What is found of a start: only the first recording has it, only the second has it, or both have it with
 // the same contents, or with contents that differ at an offset first.
@@ -49,7 +50,7 @@ impl Judgement {
 }
 
 // What was found, and where the session's id and the file's id stand.
-#[derive(Clone, Copy)]
+#[derive(Clone, Copy, Debug, PartialEq, Eq)]
 pub struct Line {
     pub found: Judgement,
     pub id: Place,
@@ -63,19 +64,20 @@ impl Line {
     // How many numbers are room for the list of any two recordings: 3,854 lines.
     pub const LIST_ROOM: usize = 23124;
 
-    // The line of so many numbers.
-    pub fn read(numbers: &[usize]) -> Line
-        requires { length numbers.now ≡ 6 }
-    {
+    // How many bytes a recording has at most.
+    pub const LIMIT: usize = Mended::LIMIT;
+
+    pub fn read(numbers: &[usize; Line::LEN]) -> Line {
+        let [number, offset, id, id_len, file, file_len] = *numbers;
         Line {
-            found: Judgement::of(numbers[0], numbers[1]),
+            found: Judgement::of(number, offset),
             id: Place {
-                start: numbers[2],
-                len: numbers[3],
+                start: id,
+                len: id_len,
             },
             file_id: Place {
-                start: numbers[4],
-                len: numbers[5],
+                start: file,
+                len: file_len,
             },
         }
     }
