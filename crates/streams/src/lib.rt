@@ -20,7 +20,7 @@ pub use arguments::{argument, argument_count};
 pub use files::{open_read, path_text};
 pub use input::{fill, read, read_all, read_all_from, read_from};
 pub use numbers::put_number;
-pub use said::{say, say_error, say_hex, say_number};
+pub use said::{say, say_end, say_error, say_hex, say_number};
 use std::io::Stdout;
 
 // How a run stands: well, or the first thing that failed. Only a run that is well has standard output to
