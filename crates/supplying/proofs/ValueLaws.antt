@@ -17,7 +17,7 @@ use Rattle.command.specs.declared.Place.{Place}
 use Rattle.command.specs.declared.Command.{Command}
 use Rattle.protocol.specs.Written.{values_with, piece_action, piece_values}
 use Rattle.protocol.specs.Supplies.{Supply, home_room, home_values, framed_for}
-use Rattle.protocol.specs.Table.{no_file, id_room, id_of, file_id_of}
+use Rattle.protocol.specs.Table.{no_file, id_of, file_id_of}
 use Rattle.protocol.specs.declared.FileRecord.{FileRecord}
 use Rattle.protocol.specs.declared.Session.{Session}
 use Rattle.supplying.specs.Places.{up_to, from, command_with, both_in, ids_of}

@@ -6,6 +6,7 @@
 #![tactic(auto)]
 
 mod commands;
+pub mod refusals;
 pub mod turns;
 mod writers;
 
@@ -18,21 +19,14 @@ ghost use Rattle.protocol.specs.Supplies.{is_over, framed_for, is_held_back, cha
 ghost use Rattle.sessions.specs.Leaving.{next_by};
 ghost use Rattle.supplying.specs.Supplied.{given_in, held_answer, unsupplied, settled_by, taken_in, supplied_in};
 
-use command::{Place, Written};
+use command::{Place, Refusal};
 use command_writer::framed::FRAME_ROOM;
 use protocol::{
-    Change, Edit, Entry, Failure, FileRecord, Found, News, Owed, Reply, Session, SessionState, Status,
-    Told,
+    Change, Due, Edit, Entry, Failure, FileRecord, News, Session, SessionState, Status, Told,
 };
+use refusals::{LONG_PART, OUT_OF_TURN, SHORT_BUFFER};
 use reply::is_held;
 use sessions::next::step;
-
-// What a call is refused with: under 8,196 bytes lent, a part over its limit, out of turn.
-const SHORT_OUT: u8 = 9;
-
-const LONG_PART: u8 = 17;
-
-const OUT_OF_TURN: u8 = 18;
 
 // What is supplied; its strings stand in two slices, the text and the contents. The text of a home path
 // is the session's id, and its contents are the path; the contents of a part are its bytes.
@@ -58,9 +52,9 @@ pub struct Given<'a> {
 // What a call leaves: the session to put back, what is owed, what is told, and how many bytes of the
 // buffer were written.
 #[derive(Clone, Copy)]
-pub struct Supplied {
+pub struct Left {
     pub session: Session,
-    pub owed: Owed,
+    pub owed: Option<(usize, Due)>,
     pub told: Told,
     pub written: usize,
 }
@@ -69,30 +63,30 @@ pub struct Supplied {
 // refusals; a refused call changes nothing.
 pub fn supply_at(
     given: Given<'_>,
-    found: Found,
+    found: Option<usize>,
     session: Session,
-    owed: Owed,
+    owed: Option<(usize, Due)>,
     out: &mut [u8],
-) -> Supplied
+) -> Left
     ensures { outcome result out.new ≡ supplied_in (given_in given.entry) found session owed out.old }
 {
     if out.len() < FRAME_ROOM {
-        return unsupplied(session, owed, SHORT_OUT);
+        return unsupplied(session, owed, SHORT_BUFFER);
     }
     if given.is_over() {
         return unsupplied(session, owed, LONG_PART);
     }
-    match found {
-        Found::Nowhere => unsupplied(session, owed, OUT_OF_TURN),
-        Found::At(i) => take(given, i, session, owed, out),
-    }
+    let Some(i) = found else {
+        return unsupplied(session, owed, OUT_OF_TURN);
+    };
+    take(given, i, session, owed, out)
 }
 
 // Nothing is changed.
-fn unsupplied(session: Session, owed: Owed, number: u8) -> Supplied
+fn unsupplied(session: Session, owed: Option<(usize, Due)>, number: u8) -> Left
     ensures { result ≡ unsupplied session owed number }
 {
-    Supplied {
+    Left {
         session,
         owed,
         told: Told::Refused(number),
@@ -101,7 +95,13 @@ fn unsupplied(session: Session, owed: Owed, number: u8) -> Supplied
 }
 
 // In turn: it is written, or held back.
-fn take(given: Given<'_>, i: usize, session: Session, owed: Owed, out: &mut [u8]) -> Supplied
+fn take(
+    given: Given<'_>,
+    i: usize,
+    session: Session,
+    owed: Option<(usize, Due)>,
+    out: &mut [u8],
+) -> Left
     requires { frame_room ≤ length out.old }
     ensures { outcome result out.new ≡ taken_in (given_in given.entry) i session owed out.old }
 {
@@ -118,8 +118,7 @@ impl Given<'_> {
     fn is_over(&self) -> bool
         ensures { result ≡ is_over (given_in self.now) }
     {
-        matches!(self.supplying, Supplying::Part(_))
-            && self.contents.len() > FileRecord::PART_LIMIT
+        matches!(self.supplying, Supplying::Part(_)) && self.contents.len() > FileRecord::PART_LIMIT
     }
 
     // "Quiet holds back only status replies", and every failure's as any other's.
@@ -134,19 +133,17 @@ impl Given<'_> {
     }
 
     // The writer's refusal of what is held back; where there is none, no byte counts as written.
-    fn write_nowhere(&self, session: &Session) -> Written
+    fn write_nowhere(&self, session: &Session) -> Result<usize, Refusal>
         ensures { (out : List ℕ) → frame_room ≤ length out
             → answered result ≡ held_answer (framed_for session.now (given_in self.now) out).answer }
     {
         let mut out = [0; FRAME_ROOM];
-        match self.write(session, &mut out) {
-            Written::Length(_) => Written::Length(0),
-            Written::Refused(refusal) => Written::Refused(refusal),
-        }
+        self.write(session, &mut out)?;
+        Ok(0)
     }
 
     // Writes it, in turn or not.
-    fn write(&self, session: &Session, out: &mut [u8]) -> Written
+    fn write(&self, session: &Session, out: &mut [u8]) -> Result<usize, Refusal>
         ensures { outcome (answered result) out.new ≡ framed_for session.now (given_in self.now) out.old }
     {
         match self.supplying {
@@ -165,7 +162,10 @@ impl Given<'_> {
         ensures { result ≡ change_for (given_in self.now) }
     {
         let (edit, news) = match self.supplying {
-            Supplying::Home => (Edit::Turned(SessionState::Serving), News::Tells(Told::Nothing)),
+            Supplying::Home => (
+                Edit::Turned(SessionState::Serving),
+                News::Tells(Told::Nothing),
+            ),
             Supplying::Part(true) => (Edit::Same, News::Clears(Told::Nothing)),
             _ => (Edit::Same, News::Tells(Told::Nothing)),
         };
@@ -173,25 +173,31 @@ impl Given<'_> {
             edit,
             file: FileRecord::FREE,
             news,
-            reply: Reply::NONE,
+            reply: None,
         }
     }
 }
 
 // The session's step, unless the writer refuses.
-fn settle(i: usize, session: Session, owed: Owed, change: Change, written: Written) -> Supplied
+fn settle(
+    i: usize,
+    session: Session,
+    owed: Option<(usize, Due)>,
+    change: Change,
+    written: Result<usize, Refusal>,
+) -> Left
     ensures { result ≡ settled_by session owed (next_by session i owed nowhere change) (answered written) }
 {
     match written {
-        Written::Length(n) => {
+        Ok(n) => {
             let next = step(session, i, owed, Place::NOWHERE, change);
-            Supplied {
+            Left {
                 session: next.session,
                 owed: next.owed,
                 told: next.told,
                 written: n,
             }
         }
-        Written::Refused(refusal) => unsupplied(session, owed, refusal.number()),
+        Err(refusal) => unsupplied(session, owed, refusal.number()),
     }
 }

@@ -1,10 +1,12 @@
 // Which session is supplied, and whether it is in turn.
 ghost use Rattle.std.specs.Prelude.{◌≡◌};
+ghost use Rattle.protocol.specs.Table.{first, has_id};
 ghost use Rattle.protocol.specs.Supplies.{is_listing, request_at};
-ghost use Rattle.supplying.specs.Turns.{is_part, id_for, seat_of, in_turn};
+ghost use Rattle.supplying.specs.Turns.{is_part, id_for, concerned, in_turn};
 
-use crate::Supplying;
-use protocol::{Due, Found, Owed, SessionState};
+use crate::{Given, Supplying};
+use protocol::{Due, Session, SessionState};
+use sessions::find::find;
 
 // Whether it is a part, which concerns the session that asks for a file.
 pub fn is_part(supplying: Supplying) -> bool
@@ -25,24 +27,31 @@ pub fn id_in(supplying: Supplying, text: &[u8]) -> &[u8]
     }
 }
 
-// The place of the session that is concerned; where there is none, the first.
-pub fn seat(found: Found) -> usize
-    ensures { result ≡ seat_of found }
+// The place of the session that is concerned: for a part that of the one that asks for a file, for
+// anything else that of the one with its id.
+pub fn concerned(
+    given: Given<'_>,
+    owed: Option<(usize, Due)>,
+    sessions: &[Session],
+) -> Option<usize>
+    ensures { result ≡ concerned given.entry.supplying owed given.entry.text.now
+        (λ id. first (has_id id) sessions.now) }
 {
-    match found {
-        Found::Nowhere => 0,
-        Found::At(i) => i,
+    if is_part(given.supplying) {
+        request_at(owed)
+    } else {
+        find(sessions, id_in(given.supplying, given.text))
     }
 }
 
 // Where it is in turn, by the state of the session that is concerned.
-pub fn in_turn(supplying: Supplying, state: SessionState, found: Found) -> Found
+pub fn in_turn(supplying: Supplying, state: SessionState, found: Option<usize>) -> Option<usize>
     ensures { result ≡ in_turn supplying state found }
 {
     if is_part(supplying) || is_listing(state) {
         found
     } else {
-        Found::Nowhere
+        None
     }
 }
 
@@ -54,11 +63,11 @@ fn is_listing(state: SessionState) -> bool
 }
 
 // The place of the session that asks for a file, where that is what is owed.
-pub fn request_at(owed: Owed) -> Found
+pub fn request_at(owed: Option<(usize, Due)>) -> Option<usize>
     ensures { result ≡ request_at owed }
 {
     match owed {
-        Owed::For(i, Due::Request) => Found::At(i),
-        _ => Found::Nowhere,
+        Some((i, Due::Request)) => Some(i),
+        _ => None,
     }
 }
