@@ -5,6 +5,7 @@ ghost use Rattle.hearing.specs.Rows.{row_at};
 ghost use Rattle.windows.specs.Compare.{same_key};
 ghost use Rattle.windows.specs.Steps.{heard, heard_before, key_of, key_at, starts_at};
 
+use command::Place;
 use hearing::Row;
 
 // The recording, the bytes where its parts stand, and the numbers of its rows.
@@ -48,14 +49,21 @@ impl<'a> Side<'a> {
         Row::read(self.events, row)
     }
 
+    // What stands at a place of the recording.
+    fn named(self, place: Place) -> &'a [u8]
+        ensures { result.now ≡ part_of self.entry.recording.now place.start place.len }
+    {
+        octets::part(self.recording, place.start, place.len)
+    }
+
     pub(crate) fn pair_at(self, row: usize) -> Pair<'a>
         requires { row * 7 + 7 ≤ length self.events.now }
         ensures { key_of result ≡ key_at self.entry.recording.now self.entry.events.now (row * 7) }
     {
         let row = self.row(row);
         Pair {
-            id: octets::part(self.recording, row.id.start, row.id.len),
-            file: octets::part(self.recording, row.file_id.start, row.file_id.len),
+            id: self.named(row.id),
+            file: self.named(row.file_id),
         }
     }
 
@@ -75,8 +83,9 @@ impl<'a> Side<'a> {
         ensures { result ≡ same_key (key_of pair.entry)
             (key_at self.entry.recording.now self.entry.events.now (row * 7)) }
     {
-        let other = self.pair_at(row);
-        octets::equal(pair.id, other.id) && octets::equal(pair.file, other.file)
+        let row = self.row(row);
+        octets::equal(pair.id, self.named(row.id))
+            && octets::equal(pair.file, self.named(row.file_id))
     }
 
     // Whether it is a start of a pair.
