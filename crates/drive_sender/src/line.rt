@@ -1,4 +1,5 @@
 // The lines that are printed.
+use crate::office::Buffers;
 use command::Place;
 use decimal::Number;
 use script_parts::sum;
@@ -52,19 +53,13 @@ fn place(run: Run, status: Place) -> Run {
 }
 
 // What ends the line of a call: the sums of the whole buffers, and the session.
-pub(crate) fn end<'a>(
-    run: Run,
-    transfer: Transfer,
-    out: &'a [u8],
-    carry: &'a [u8],
-    scratch: &'a [u8],
-) -> Run {
+pub(crate) fn end(run: Run, transfer: Transfer, buffers: &Buffers) -> Run {
     let two = run
         .text(b" ")
-        .number(sum(out))
+        .number(sum(&buffers.out))
         .text(b" ")
-        .number(sum(carry));
-    let summed = two.text(b" ").number(sum(scratch)).text(b" ");
+        .number(sum(&buffers.carry));
+    let summed = two.text(b" ").number(sum(&buffers.scratch)).text(b" ");
     files(stage_state(summed, transfer.stage), transfer.files).text(b"\n")
 }
 

@@ -26,17 +26,14 @@ fn play(stdout: Stdout, bytes: &[u8]) -> Run {
     if bytes.len() > SCRIPT_LIMIT {
         return bad_script(Run::Well(stdout));
     }
-    let mut out = [0xA5u8; Office::OUT];
-    let mut carry = [0xA5u8; Office::CARRY];
-    let mut scratch = [0xA5u8; Office::SCRATCH];
-    let mut state = office::fresh(Run::Well(stdout));
+    let mut office = Office::fresh(Run::Well(stdout));
     let mut at = 0;
-    while at < bytes.len() && state.run.is_well() {
+    while at < bytes.len() && office.run.is_well() {
         let Some(n) = script::operation_length(bytes, at) else {
-            return bad_script(state.run);
+            return bad_script(office.run);
         };
-        state = office::perform(state, bytes, at, n, &mut out, &mut carry, &mut scratch);
+        office.perform(&bytes[at..at + n]);
         at += n;
     }
-    state.run
+    office.run
 }
