@@ -3,7 +3,6 @@ pub mod Every
 mod Ranges
 pub mod Runs
 pub mod Names
-pub mod WordPlaces
 pub mod Calm
 pub mod Table
 pub mod WrittenValues

@@ -40,6 +40,11 @@ pub data Got : Type 0 where
 abbrev pub refuses : Refusal → Got
 refuses r = Got.refused (refusal_number r)
 
+-- a code that was read, or a refusal
+abbrev pub code_got : Result ℕ Refusal → Got
+code_got (Ok code) = Got.got (Value.number (count code))
+code_got (Err r) = refuses r
+
 -- the code of an alias
 unfoldable pub alias_read : Refusal → List Alias → List ℕ → Got
 alias_read unknown [] v = refuses unknown

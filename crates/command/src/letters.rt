@@ -16,10 +16,8 @@ pub fn all(class: Class, s: &[u8]) -> bool
     ensures { result ≡ every (byte_of class) s.now }
 {
     let mut all = true;
-    let mut i = 0;
-    while i < s.len() {
-        all = all & is(class, s[i]);
-        i += 1;
+    for c in s {
+        all = all & is(class, *c);
     }
     all
 }
@@ -29,14 +27,12 @@ pub fn all(class: Class, s: &[u8]) -> bool
 pub fn pass(class: Class, s: &[u8], from: usize) -> usize
     ensures { result ≡ from + run (byte_of class) (drop from s.now) }
 {
-    let mut i = from;
-    while i < s.len() {
+    for i in from..s.len() {
         if !is(class, s[i]) {
             return i;
         }
-        i += 1;
     }
-    i
+    from.max(s.len())
 }
 
 // Whether a string is not "at most 32 bytes", where that is asked.

@@ -6,6 +6,7 @@
 // `command_writer`.
 #![tactic(auto)]
 
+mod codes;
 pub mod keys;
 pub mod letters;
 mod refusals;
@@ -29,32 +30,6 @@ pub enum Action {
     Finish,
     Cancel,
     Status,
-}
-
-impl Action {
-    // Its code; 0 is that of none.
-    pub fn code(self) -> u64
-        ensures { result ≡ Slots.action_code self }
-    {
-        match self {
-            Action::None => 0,
-            Action::Send => 1,
-            Action::Receive => 2,
-            Action::File => 3,
-            Action::Data => 4,
-            Action::EndData => 5,
-            Action::Finish => 6,
-            Action::Cancel => 7,
-            Action::Status => 8,
-        }
-    }
-}
-
-// Whether one of an action and an id, which a command must have, is lacking.
-pub fn lacks(action: Action, id: Place) -> bool
-    ensures { result ≡ (eqb (Slots.action_code action) 0 || eqb id.len 0) }
-{
-    (action.code() == 0) | (id.len == 0)
 }
 
 // "file type"
@@ -107,6 +82,13 @@ pub struct Command {
 }
 
 impl Command {
+    // Whether one of an action and an id, which a command must have, is lacking.
+    pub fn lacks(&self) -> bool
+        ensures { result ≡ (eqb (Slots.action_code self.now.action) 0 || eqb self.now.id.len 0) }
+    {
+        self.action == Action::None || self.id.len == 0
+    }
+
     // How many bytes a scratch has at least: three for each four of the longest text.
     pub const SCRATCH_ROOM: usize = 6144;
 
@@ -177,24 +159,28 @@ impl Refusal {
     }
 }
 
-// One field of a command, whichever its key: whether it has stood, a word's code or an integer,
-// and a string's place. What a key's kind does not use is zero.
+// One field of a command, whichever its key: a word's code or an integer, and a string's place. What a
+// key's kind does not use is zero.
 #[derive(Clone, Copy)]
 pub struct Slot {
-    pub stood: bool,
     pub number: Number,
     pub place: Place,
 }
 
 impl Slot {
+    // What a key that has not stood means, whichever its kind.
+    pub const EMPTY: Slot = Slot {
+        number: ZERO,
+        place: Place::NOWHERE,
+    };
+
     // That of an integer.
     pub fn numbered(number: Number) -> Slot
         ensures { result ≡ Slots.numbered number }
     {
         Slot {
-            stood: true,
-            number: number,
-            place: Place::NOWHERE,
+            number,
+            ..Slot::EMPTY
         }
     }
 
@@ -213,9 +199,8 @@ impl Slot {
         ensures { result ≡ Slots.placed place }
     {
         Slot {
-            stood: true,
-            number: ZERO,
-            place: place,
+            place,
+            ..Slot::EMPTY
         }
     }
 }

@@ -11,7 +11,7 @@ use crate::slots::complete;
 use crate::values;
 use command::keys::{COUNT, number_of};
 use command::letters::Class;
-use command::{Command, Place, Refusal, Slot, ZERO, letters};
+use command::{Command, Refusal, letters};
 
 // A field: the number of its key, if it is known, and where its value starts and ends.
 #[derive(Clone, Copy)]
@@ -28,31 +28,24 @@ pub(crate) fn read_fields(text: &[u8], scratch: &mut [u8]) -> Result<Command, Re
     ensures { outcome (answered result) scratch.new
         ≡ finished (fields_read kept 5 (split 59 (drop 5 text.now)) (begun scratch.old)) }
 {
-    let mut slots = [FREE; COUNT];
+    let mut slots = [None; COUNT];
     let mut used = 0;
     let mut at = 5;
     while at <= text.len() {
         let field = next_field(text, at)?;
         if let Some(n) = field.key {
-            if slots[n].stood {
+            if slots[n].is_some() {
                 return Err(Refusal::Repeated);
             }
             let value = &text[field.from..field.end];
             let kept = values::keep(n, field.from, value, scratch, used)?;
-            slots[n] = kept.slot;
+            slots[n] = Some(kept.slot);
             used += kept.stored;
         }
         at = field.end + 1;
     }
     complete(slots)
 }
-
-// The slot of a key that has not stood.
-const FREE: Slot = Slot {
-    stood: false,
-    number: ZERO,
-    place: Place::NOWHERE,
-};
 
 // The field at place `at`, refused where no key stands before a `=`. The bytes of its key are passed, and
 // then its value.
@@ -66,7 +59,6 @@ fn next_field(text: &[u8], at: usize) -> Result<Field, Refusal>
     }
     let from = sign + 1;
     let end = octets::find(text, from, b';');
-    let n = number_of(&text[at..sign]);
-    let key = if n < COUNT { Some(n) } else { None };
+    let key = number_of(&text[at..sign]);
     Ok(Field { key, from, end })
 }

@@ -2,10 +2,11 @@
 ghost use Rattle.std.specs.Prelude.{◌≡◌, ℕ, ◌+◌, ◌*◌, ◌≤◌, ◌<◌, length};
 ghost use Rattle.command.specs.Keys as Keys;
 ghost use Rattle.command.specs.Rows.{words_of};
-ghost use Rattle.command_reader.specs.Keeping.{plain, word_at, Plain, Keeps};
+ghost use Rattle.command_reader.specs.Keeping.{plain, Plain, Keeps};
 
-use command::keys::{Kind, place_of, row_at};
+use command::keys::{Kind, Row, row_at};
 use command::letters::Class;
+use command::words::Words;
 use command::{Place, Refusal, Slot, letters};
 
 // What a value is kept as: its slot, and how many bytes it stored in the scratch.
@@ -36,32 +37,21 @@ pub(crate) fn keep(
     requires { 4 * used + 3 * length v.now ≤ 4 * length scratch.old }
     ensures { Keeps (Keys.kind_at Keys.keys k) at v.now scratch.old used result scratch.new }
 {
-    let row = row_at(k);
-    let kind = row.2;
+    let Row(_, kind) = row_at(k);
     match kind {
-        Kind::Word(unknown, first, count) => word(k, unknown, first as u64, count as u64, v),
-        Kind::Safe(short) => safe(short, at, v),
+        Kind::Word(words) => word(words, v),
+        Kind::Safe(short) => safe(*short, at, v),
         Kind::Integer => integer(v),
         Kind::Base64 => base64(v, scratch, used),
     }
 }
 
-// One of the words of key k, of which there are `count`; the first one's code is `first`. `finished`
-// reads as `finish`; another word is refused as unknown.
-fn word(k: usize, unknown: Refusal, first: u64, count: u64, v: &[u8]) -> Result<Kept, Refusal>
-    requires { (first ≤ 1) × (length (words_of (Keys.kind_at Keys.keys k)) ≡ count) × (count ≤ 8) }
-    ensures { (at : ℕ) → Plain (word_at k unknown first) at v.now result }
+// One of the words of a key.
+fn word(words: &Words, v: &[u8]) -> Result<Kept, Refusal>
+    ensures { (at : ℕ) → Plain (words_of words.now) at v.now result }
 {
-    let n = place_of(k, v) as u64;
-    if n < count {
-        return Ok(Kept::plain(Slot::coded(first + n)));
-    }
-    if k == 0 {
-        if octets::equal(v, b"finished") {
-            return Ok(Kept::plain(Slot::coded(6)));
-        }
-    }
-    Err(unknown)
+    let code = words.code(v)?;
+    Ok(Kept::plain(Slot::coded(code)))
 }
 
 // A safe string, of at most 32 bytes if it is to be short. It stays where it stands.

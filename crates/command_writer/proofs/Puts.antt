@@ -43,16 +43,20 @@ put_then {x} {y} {l} {m} {n} {o} {p} {q} f g =
     }
 
 -- ---- a number
--- what is answered: its end, as it was stored or else as it was counted, or that it is no integer of ours
-abbrev pub number_told : Result ℕ WriteError → ℕ → Result ℕ Refusal
-number_told (Ok at) end = Ok at
-number_told (Err NegativeZero) end = Err Refusal.MalformedInteger
-number_told (Err OutOfRange) end = Err Refusal.OutOfRange
-number_told (Err NoRoom) end = Ok end
+-- what is answered, and its end, as it was stored or else as it was counted
+abbrev pub number_told : Result ℕ WriteError → Result (Unit {0}) Refusal
+number_told (Ok at) = Ok tt
+number_told (Err NegativeZero) = Err Refusal.MalformedInteger
+number_told (Err OutOfRange) = Err Refusal.OutOfRange
+number_told (Err NoRoom) = Ok tt
+
+abbrev pub end_told : Result ℕ WriteError → ℕ → ℕ
+end_told (Ok at) end = at
+end_told (Err e) end = end
 
 pub put-number : (n : Number) (out after : List ℕ) (at end : ℕ) (w : Result ℕ WriteError) → outcome w after ≡ write_of n out at
     → spare end ≡ spare (at + length (text_of n))
-    → PutOr (before (integer_shown n) Checked.fine) (text_of n) out at (number_told w end) after
+    → PutOr (before (integer_shown n) Checked.fine) (text_of n) out at (number_told w) (end_told w end) after
 unfolding write_of integer_shown
 put-number n out after at end w e s =
     go (negative_zero n) (out_of_range n) (eqb n.magnitude 0) (leb (at + length (text_of n)) (length out)) refl e
@@ -66,11 +70,10 @@ put-number n out after at end w e s =
         → outcome w after ≡ cond z (outcome (Err NegativeZero) out) (cond x (outcome (Err OutOfRange) out)
         (cond f (outcome (Ok (at + length (text_of n))) (sets out at (text_of n))) (outcome (Err NoRoom) out)))
         → PutOr (before (cond z (unshown Refusal.MalformedInteger) (cond x (unshown Refusal.OutOfRange)
-        (cond y Shown.left_out (Shown.text (text_of n))))) Checked.fine) (text_of n) out at (number_told w end) after
+        (cond y Shown.left_out (Shown.text (text_of n))))) Checked.fine) (text_of n) out at (number_told w) (end_told w end) after
     go true x y f ef q = rw (ap (λ o. o.answer) q)
     go false true y f ef q = rw (ap (λ o. o.answer) q)
-    go false false y true ef q =
-        rw (fine y, ap (λ o. o.answer) q) (at + length (text_of n), refl, record { ends = refl; stores = λ h k. ap (λ o. o.buffer) q })
+    go false false y true ef q = rw (fine y, ap (λ o. o.answer) q) (refl, record { ends = refl; stores = λ h k. ap (λ o. o.buffer) q })
     go false false y false ef q =
         let over = leb-false (at + length (text_of n)) (length out) ef in
-        rw (fine y, ap (λ o. o.answer) q) (end, refl, record { ends = s; stores = λ h k. absurd (omega (arith, over)) })
+        rw (fine y, ap (λ o. o.answer) q) (refl, record { ends = s; stores = λ h k. absurd (omega (arith, over)) })

@@ -2,7 +2,7 @@
 ghost use Rattle.std.specs.Prelude.{◌≡◌, ◌+◌, ◌≤◌, length};
 ghost use Rattle.octets.specs.Outcome.{outcome};
 ghost use Rattle.command.specs.Slots.{values_of};
-ghost use Rattle.command.specs.Write.{Answer, answered};
+ghost use Rattle.command.specs.Write.{answered};
 ghost use Rattle.command.specs.Framed.{framed_of, FramedThenRead};
 ghost use Rattle.command_writer.specs.Frames.{enclosed};
 
@@ -29,20 +29,18 @@ pub fn write_framed<'a>(
     if out.len() < FRAME_ROOM {
         return Err(Refusal::ShortBuffer);
     }
-    match write(command, text, scratch, &mut out[2..]) {
-        Ok(n) => enclose(out, n),
-        Err(refusal) => Err(refusal),
-    }
+    let n = write(command, text, scratch, &mut out[2..])?;
+    enclose(out, n);
+    Ok(n + 4)
 }
 
 // Puts the opener before a text of n bytes that stands at place 2, and the closer after it.
-fn enclose(out: &mut [u8], n: usize) -> Result<usize, Refusal>
+fn enclose(out: &mut [u8], n: usize)
     requires { n + 4 ≤ length out.old }
-    ensures { outcome (answered result) out.new ≡ outcome (Answer.written (n + 4)) (enclosed out.old n) }
+    ensures { out.new ≡ enclosed out.old n }
 {
     out[0] = 0x1B;
     out[1] = 0x5D;
     out[n + 2] = 0x1B;
     out[n + 3] = 0x5C;
-    Ok(n + 4)
 }

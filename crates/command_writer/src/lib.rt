@@ -20,7 +20,9 @@ ghost use Rattle.command.specs.RoundTrips.{WrittenThenRead, WritesCanonical};
 ghost use Rattle.command_writer.specs.Pieces.{whole};
 ghost use Rattle.command_writer.specs.Stores.{spare};
 
-use command::{Command, Refusal, lacks};
+use crate::fields::{Sources, put_fields};
+use crate::store::Draft;
+use command::{Command, Refusal};
 use frames::Framing;
 
 // Stores the canonical text of a command, whose places lie in text and scratch, at the start of out.
@@ -36,42 +38,42 @@ pub fn write<'a>(
         ≡ write_of (values_of command text.now scratch.now) out.old }
     ensures written_then_read { WrittenThenRead × WritesCanonical }
 {
+    let sources = Sources { text, scratch };
     let mut empty = [0u8; 0];
-    match fields::put_fields(command, text, scratch, &mut empty) {
-        Ok(n) => write_measured(command, text, scratch, out, n),
-        Err(refusal) => Err(refusal),
-    }
+    let mut measured = Draft {
+        out: &mut empty,
+        end: 0,
+    };
+    put_fields(&command, &sources, &mut measured)?;
+    write_measured(&command, &sources, out, measured.end)
 }
 
 // Writes a command of which no field is at fault, and whose text has n bytes.
-fn write_measured<'a>(
-    command: Command,
-    text: &'a [u8],
-    scratch: &'a [u8],
+fn write_measured(
+    command: &Command,
+    sources: &Sources<'_>,
     out: &mut [u8],
     n: usize,
 ) -> Result<usize, Refusal>
-    requires { (checked_of keys (values_of command text.now scratch.now) ≡ Checked.fine)
-        × (spare n ≡ spare (length (whole (values_of command text.now scratch.now)))) }
+    requires { (checked_of keys (values_of command.now sources.now.text.now sources.now.scratch.now) ≡ Checked.fine)
+        × (spare n ≡ spare (length (whole (values_of command.now sources.now.text.now sources.now.scratch.now)))) }
     ensures { outcome (answered result) out.new
-        ≡ write_of (values_of command text.now scratch.now) out.old }
+        ≡ write_of (values_of command.now sources.now.text.now sources.now.scratch.now) out.old }
 {
-    let action = command.action;
-    let id = command.id;
-    let missing = lacks(action, id);
-    let short = no_room(n, out.len());
-    if missing {
+    if command.lacks() {
         return Err(Refusal::Missing);
     }
-    if short {
+    if no_room(n, out.len()) {
         return Err(Refusal::ShortBuffer);
     }
-    fields::put_fields(command, text, scratch, out)
+    let mut draft = Draft { out, end: 0 };
+    put_fields(command, sources, &mut draft)?;
+    Ok(draft.end)
 }
 
 // Whether a text of n bytes passes the limit, or a buffer of this length is shorter.
 fn no_room(n: usize, len: usize) -> bool
     ensures { result ≡ (ltb text_limit n || ltb len n) }
 {
-    (n > Framing::TEXT_LIMIT) | (n > len)
+    n > Framing::TEXT_LIMIT || n > len
 }

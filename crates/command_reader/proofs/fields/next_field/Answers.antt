@@ -33,16 +33,9 @@ returns-then-sign-text c =
     ]
 
 -- the field, known by the number of its key
-pub returns-then-n-lt-COUNT : goal.returns-then-n-lt-COUNT
-returns-then-n-lt-COUNT c =
+pub returns : goal.returns
+returns c =
     let i = within c.args.text.now c.args.at c.pass-sign.result c.requires.0 c.pass-sign.ensures in
     let field = field-named c.args.text.now c.args.at c.pass-sign.result c.requires.0 c.pass-sign.ensures (omega arith) in
     let named = field c.if-text-sign-ne61.false (omega (arith, c.pass-sign.ensures)) c.find-end.result c.find-end.ensures in
-    (named c.number_of-n.result c.number_of-n.ensures).1 c.if-n-lt-COUNT.true
-
-pub returns-else-n-lt-COUNT : goal.returns-else-n-lt-COUNT
-returns-else-n-lt-COUNT c =
-    let i = within c.args.text.now c.args.at c.pass-sign.result c.requires.0 c.pass-sign.ensures in
-    let field = field-named c.args.text.now c.args.at c.pass-sign.result c.requires.0 c.pass-sign.ensures (omega arith) in
-    let named = field c.if-text-sign-ne61.false (omega (arith, c.pass-sign.ensures)) c.find-end.result c.find-end.ensures in
-    (named c.number_of-n.result c.number_of-n.ensures).0 c.if-n-lt-COUNT.false
+    named c.number_of-key.result c.number_of-key.ensures
