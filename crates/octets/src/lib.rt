@@ -6,7 +6,6 @@
 #![tactic(auto)]
 
 mod blocks;
-pub mod size;
 
 ghost use Rattle.std.specs.Prelude.{◌≡◌, ◌+◌, leb, drop};
 ghost use Rattle.octets.specs.Search.{index_of};

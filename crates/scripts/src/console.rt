@@ -4,7 +4,6 @@ use crate::{Calls, lending, line, supplies};
 use command::{Command, Place};
 use command_writer::framed::FRAME_ROOM;
 use frames::{Framing, Report};
-use octets::size::{least, less};
 use protocol::{Found, Receiver, Reply, Session, Table, Told};
 use script_parts::{byte, two_bytes};
 use sessions::find::find_session;
@@ -111,7 +110,7 @@ pub(crate) fn perform(console: Console, bytes: &[u8], at: usize, n: usize) -> Co
         b'n' => fresh(run, calls),
         b'c' | b's' | b'r' | b'o' => lend(console, letter, two_bytes(operation, 1)),
         b't' | b'y' => print(console, letter, bytes, operation),
-        b'f' => feed(console, bytes, after(at, 3), less(n, 3)),
+        b'f' => feed(console, bytes, after(at, 3), n.saturating_sub(3)),
         b'l' | b'g' | b'h' | b'p' | b'z' => supply(console, letter, operation),
         _ => call(console, letter, operation),
     }
@@ -241,7 +240,7 @@ fn numbers_of(run: Run, session: Session) -> Run {
 
 // The id of an operation that has nothing else.
 pub(crate) fn id_of(operation: &[u8]) -> &[u8] {
-    octets::part(operation, 2, less(operation.len(), 2))
+    octets::part(operation, 2, operation.len().saturating_sub(2))
 }
 
 // ---- From now on only the first n bytes of a buffer are lent.
@@ -256,19 +255,19 @@ fn lend(console: Console, letter: u8, n: usize) -> Console {
 fn lent_anew(lent: Lent, letter: u8, n: usize) -> Lent {
     match letter {
         b'c' => Lent {
-            carry: least(n, CARRY),
+            carry: n.min(CARRY),
             ..lent
         },
         b's' => Lent {
-            scratch: least(n, SCRATCH),
+            scratch: n.min(SCRATCH),
             ..lent
         },
         b'r' => Lent {
-            reply: least(n, REPLY),
+            reply: n.min(REPLY),
             ..lent
         },
         _ => Lent {
-            out: least(n, OUT),
+            out: n.min(OUT),
             ..lent
         },
     }

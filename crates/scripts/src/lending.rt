@@ -3,7 +3,6 @@ use crate::Calls;
 use crate::console::{Answer, Buffers, CARRY, Called, Lent, REPLY, SCRATCH, id_of};
 use command::Place;
 use frames::Report;
-use octets::size::least;
 use protocol::{Answered, Failure, Fed, Receiver};
 use receiver_in_place::Call;
 use script_parts::byte;
@@ -19,9 +18,9 @@ pub(crate) fn feed(
     let mut carry = buffers.carry;
     let mut scratch = buffers.scratch;
     let mut reply = buffers.reply;
-    let c = least(lent.carry, CARRY);
-    let s = least(lent.scratch, SCRATCH);
-    let r = least(lent.reply, REPLY);
+    let c = lent.carry.min(CARRY);
+    let s = lent.scratch.min(SCRATCH);
+    let r = lent.reply.min(REPLY);
     let fed = calls.feed(
         receiver,
         piece,
@@ -65,7 +64,7 @@ pub(crate) fn answer(
     operation: &[u8],
 ) -> Called {
     let mut reply = buffers.reply;
-    let r = least(n, REPLY);
+    let r = n.min(REPLY);
     let answered = calls.answer(
         receiver,
         call_of(operation),

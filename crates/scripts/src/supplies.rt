@@ -2,7 +2,6 @@
 use crate::console::{Buffers, Called, OUT};
 use crate::lending::{answer_of, failure};
 use crate::{Calls, operands};
-use octets::size::least;
 use protocol::Receiver;
 use script_parts::byte;
 use supplying::Supplying;
@@ -19,7 +18,7 @@ pub(crate) fn supply(
     let text = text_of(operation);
     let contents = contents_of(operation);
     let mut out = buffers.out;
-    let o = least(n, OUT);
+    let o = n.min(OUT);
     let answered = calls.supply(receiver, supplying, text, contents, &mut out[..o]);
     let next = answered.receiver;
     Called {
