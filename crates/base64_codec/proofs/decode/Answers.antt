@@ -37,9 +37,6 @@ pub fill-requires-clause-table_value : goal.fill-requires-clause-table_value
 unfolding values_from value_of
 fill-requires-clause-table_value c = refl
 
-pub fill-requires-clause-text_value : goal.fill-requires-clause-text_value
-fill-requires-clause-text_value c = (c.in_ok-padding.padding, sym c.in_ok-padding.ensures)
-
 pub fill-requires-clause-room : goal.fill-requires-clause-room
 fill-requires-clause-room c = rw (size _ _ (sym c.in_ok-padding.ensures)) (leb-true _ _ (sym c.fits.ensures ∙ c.if-not-fits.false))
 

@@ -147,13 +147,6 @@ put-requires-in-Some-clause-room c =
     let n = single-room c.args.text.now c.loop-a.a-index _ c.as_chunks.ensures.back (omega arith) _ q.0 (omega (arith, q.2)) c.requires.letters.0 in
     omega (arith, n)
 
-pub returns-in-Some : goal.returns-in-Some
-returns-in-Some c =
-    let l = c.loop-a in
-    let q = c.in-Some.ensures.cases in
-    let e = single-is c.args.text.now l.a-index _ c.as_chunks.ensures.back (omega arith) _ q.0 (omega (arith, q.2)) c.requires.letters.0 in
-    c.put-in-Some.ensures ∙ rw e at l.invariant.1
-
 pub returns-in_default : goal.returns-in_default
 returns-in_default c =
     let l = c.loop-a in

@@ -58,11 +58,6 @@ pub fill-requires-clause-table_value : goal.fill-requires-clause-table_value
 unfolding values_from value_of
 fill-requires-clause-table_value c = refl
 
-pub fill-requires-clause-text_value : goal.fill-requires-clause-text_value
-fill-requires-clause-text_value c =
-    let joint = rw (c.check.ensures, c.check-2.ensures) at (sym c.in_ok-padding.ensures) in
-    (0, first _ _ c.requires c.told-last _ joint)
-
 -- past the test there is room for both
 pub fill-requires-clause-room : goal.fill-requires-clause-room
 fill-requires-clause-room c =
@@ -73,11 +68,6 @@ fill-requires-clause-room c =
 pub fill-requires-2-clause-table_value : goal.fill-requires-2-clause-table_value
 unfolding values_from value_of
 fill-requires-2-clause-table_value c = refl
-
-pub fill-requires-2-clause-text_value : goal.fill-requires-2-clause-text_value
-fill-requires-2-clause-text_value c =
-    let joint = rw (c.check.ensures, c.check-2.ensures) at (sym c.in_ok-padding.ensures) in
-    (c.in_ok-padding.padding, second _ _ c.requires c.told-last _ joint)
 
 pub fill-requires-2-clause-room : goal.fill-requires-2-clause-room
 fill-requires-2-clause-room c =
