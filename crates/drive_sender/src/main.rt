@@ -27,13 +27,13 @@ fn play(stdout: Stdout, bytes: &[u8]) -> Run {
         return bad_script(Run::Well(stdout));
     }
     let mut office = Office::fresh(Run::Well(stdout));
-    let mut at = 0;
-    while at < bytes.len() && office.run.is_well() {
-        let Some(n) = script::operation_length(bytes, at) else {
+    let mut left = bytes;
+    while !left.is_empty() && office.run.is_well() {
+        let Some((operation, behind)) = script::operation(left) else {
             return bad_script(office.run);
         };
-        office.perform(&bytes[at..at + n]);
-        at += n;
+        office.perform(operation);
+        left = behind;
     }
     office.run
 }

@@ -1,25 +1,19 @@
 // A script: operations one after another, each a letter and its operands.
-ghost use Rattle.std.specs.Prelude.{◌-◌, ◌<◌, ◌≤◌, length, IfSome};
+ghost use Rattle.std.specs.Prelude.{◌<◌, ◌≤◌, length, IfSome};
 
 use script_parts::{byte, four_bytes, rest, two_bytes};
 
-// The length of the operation at a place, with its operands, where there is one.
-pub(crate) fn operation_length(bytes: &[u8], at: usize) -> Option<usize>
-    ensures { IfSome result (λ n. (0 < n) × (n ≤ length bytes.now - at)) }
+// What is left of a script, cut behind the operation that it begins with, if it begins with one.
+pub(crate) fn operation(left: &[u8]) -> Option<(&[u8], &[u8])>
+    ensures { IfSome result (λ p. length p.1.now < length left.now) }
 {
-    let n = claimed_length(bytes, at)?;
-    if octets::fits(at, n, bytes.len()) {
-        Some(n)
-    } else {
-        None
-    }
+    left.split_at_checked(claimed_length(left)?)
 }
 
 // How long an operation is by its letter and its own operands.
-fn claimed_length(bytes: &[u8], at: usize) -> Option<usize>
+fn claimed_length(operation: &[u8]) -> Option<usize>
     ensures { IfSome result (λ n. 0 < n) }
 {
-    let operation = rest(bytes, at);
     match byte(operation, 0) {
         b's' => Some(2 + id_length(operation)),
         b'f' => Some(file_length(operation)),
