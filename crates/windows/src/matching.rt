@@ -6,7 +6,9 @@ ghost use Rattle.windows.specs.Steps.{heard, key_of, rank_at, partner_of, is_lef
 
 use crate::side::{Pair, Side};
 
-// How many starts of a pair there are.
+// How many starts of a pair there are. It and the search below go over all rows for each start: each is a
+// loop of its own, with what it asks of a row inside.
+#[inline(never)]
 fn count(side: Side, pair: Pair) -> usize
     ensures { result ≡ count_of (key_of pair.entry) (starts_in (heard side.entry)) }
 {
@@ -20,6 +22,7 @@ fn count(side: Side, pair: Pair) -> usize
 }
 
 // The start of a pair that has so many others of it before it.
+#[inline(never)]
 fn nth_start(side: Side, rank: usize, pair: Pair) -> Option<usize>
     ensures { IsRow (heard side.entry) result × (found_at (heard side.entry) result
         ≡ nth (key_of pair.entry) rank (starts_in (heard side.entry))) }

@@ -77,7 +77,8 @@ impl<'a> Side<'a> {
         octets::part(self.bytes, part.start, part.len)
     }
 
-    // Whether a row is of a pair.
+    // Whether a row is of a pair. Inside the loops that ask it of all rows nothing is copied for it.
+    #[inline(always)]
     pub(crate) fn of_pair(self, row: usize, pair: Pair) -> bool
         requires { row * 7 + 7 ≤ length self.events.now }
         ensures { result ≡ same_key (key_of pair.entry)
@@ -89,6 +90,7 @@ impl<'a> Side<'a> {
     }
 
     // Whether it is a start of a pair.
+    #[inline(always)]
     pub(crate) fn starts_pair(self, row: usize, pair: Pair) -> bool
         requires { row * 7 + 7 ≤ length self.events.now }
         ensures { result ≡ starts_at self.entry.recording.now self.entry.events.now (row * 7) (key_of pair.entry) }
