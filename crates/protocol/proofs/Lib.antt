@@ -26,6 +26,7 @@ pub mod Obeyed
 pub mod ObeyedRule
 pub mod ObeyedWays
 pub mod Ours
+pub mod PadLaws
 pub mod Promises
 pub mod Puts
 pub mod Refusals

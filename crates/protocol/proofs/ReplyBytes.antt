@@ -10,7 +10,7 @@ use Rattle.std.specs.Prelude.{Option, Some, None}
 use Rattle.octets.specs.Outcome.{outcome}
 use Rattle.octets.proofs.Stores.{part-stored}
 use Rattle.frames.specs.Stream.{framed}
-use Rattle.protocol.specs.Table.{id_room}
+use Rattle.protocol.specs.Table.{id_room, id_bytes}
 use Rattle.protocol.specs.Files.{count_limit}
 use Rattle.protocol.specs.Replies.{reply_room, status_word, is_held, status_text, reply_bytes, replied_of}
 use Rattle.protocol.specs.declared.Reply.{Reply}
@@ -19,8 +19,8 @@ use Rattle.protocol.proofs.StatusText.{status-length}
 -- ---- how many
 -- its ids stand in arrays of 32 bytes, or fewer, and its size is at most 2^40
 pub record SizedFields (r : Reply) : Type 0 where
-  pub id : length r.id ≤ id_room
-  pub file : length r.file_id ≤ id_room
+  pub id : length r.id.bytes ≤ id_room
+  pub file : length r.file_id.bytes ≤ id_room
   pub size : r.size ≤ count_limit
 
 abbrev pub SizedReply : Option Reply → Type 0
@@ -34,16 +34,16 @@ reply-length None h = omega arith
 reply-length (Some r) h = go (is_held r.status r.quiet)
   where
     id : List ℕ
-    id = take r.id_len r.id
+    id = id_bytes r.id
 
     file : List ℕ
-    file = take r.file_id_len r.file_id
+    file = id_bytes r.file_id
 
     go : (b : Bool) → length (cond b [] (framed (status_text id file r.size (status_word r.status)))) ≤ reply_room
     go true = omega arith
     go false =
-        status-length id file r.size r.status (omega (arith, h.id, length-take r.id_len r.id))
-        (omega (arith, h.file, length-take r.file_id_len r.file_id)) h.size
+        status-length id file r.size r.status (omega (arith, h.id, length-take r.id.len r.id.bytes))
+        (omega (arith, h.file, length-take r.file_id.len r.file_id.bytes)) h.size
 
 -- what a call answers as the reply's length, and what then stands at the buffer's start
 pub record Sent (r : Option Reply) (n : ℕ) (buffer : List ℕ) : Type 0 where

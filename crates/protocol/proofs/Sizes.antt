@@ -65,9 +65,9 @@ record SizedChange (s : Session) (c : Change) : Type 0 where
 padded-length : (k : List ℕ) → length (padded k) ≤ id_room
 padded-length k = omega (arith, length-take id_room (k ++ zeros))
 
-free-files : (j : ℕ) → length (file_at absent_session j).id ≤ id_room
+free-files : (j : ℕ) → length (file_at absent_session j).id.bytes ≤ id_room
 free-files j =
-    replicate-each (λ (f : FileRecord). length f.id ≤ id_room) {a = free_file} {d = no_file} (omega arith) (omega arith) file_room j
+    replicate-each (λ (f : FileRecord). length f.id.bytes ≤ id_room) {a = free_file} {d = no_file} (omega arith) (omega arith) file_room j
 
 absent-sized : SizedSession absent_session
 absent-sized = record { id = omega arith; files = free-files }
@@ -78,9 +78,9 @@ empty-sized i = replicate-each SizedSession {a = absent_session} {d = no_session
 put-sized : (t : Table) (i : ℕ) (s : Session) → Sized t → SizedSession s → Sized (put_session t i s)
 put-sized t i s h k j = set-any (λ (n : ℕ) (x : Session). SizedSession x) t.sessions i s no_session k h j
 
-file-sized : (s : Session) (j : ℕ) (f : FileRecord) → SizedSession s → length f.id ≤ id_room → SizedSession (put_file s j f)
+file-sized : (s : Session) (j : ℕ) (f : FileRecord) → SizedSession s → length f.id.bytes ≤ id_room → SizedSession (put_file s j f)
 file-sized s j f h l =
-    record { id = h.id; files = set-any (λ (n : ℕ) (x : FileRecord). length x.id ≤ id_room) s.files j f no_file l h.files }
+    record { id = h.id; files = set-any (λ (n : ℕ) (x : FileRecord). length x.id.bytes ≤ id_room) s.files j f no_file l h.files }
 
 -- ---- what is replied
 pub none-sized : SizedReply None
@@ -111,7 +111,7 @@ module _ (s : Session) (h : SizedSession s) where
   same-sized = record { session = h; reply = none-sized }
 
   -- a record with the command's file id
-  filed-sized : (q : Request) (j : ℕ) (f : FileRecord) → f.id ≡ padded q.file → {w : News}
+  filed-sized : (q : Request) (j : ℕ) (f : FileRecord) → f.id.bytes ≡ padded q.file → {w : News}
       → SizedChange s (change (Edit.Filed j) f w None)
   filed-sized q j f e = record { session = file-sized s j f h (rw e (padded-length q.file)); reply = none-sized }
 

@@ -117,7 +117,7 @@ free_for SessionState.Listing j e = e
 free_for SessionState.Serving j e = inl e
 
 fileless : {s : Session} → length s.files ≡ file_room → ((j : ℕ) → file_at s j ≡ free_file)
-    → (session_used s ≡ false → s ≡ absent_session) → (session_used s ≡ true → IsId (id_of s)) → s.id ≡ padded (id_of s) → s.quiet ≤ 2
+    → (session_used s ≡ false → s ≡ absent_session) → (session_used s ≡ true → IsId (id_of s)) → s.id.bytes ≡ padded (id_of s) → s.quiet ≤ 2
     → Counted s → SoundSession s None
 fileless {s} room free blank named filled quiet counted =
     record {
@@ -145,14 +145,13 @@ emptied g n s =
       state = g;
       quiet = s.quiet;
       id = s.id;
-      id_len = s.id_len;
       wanted = n;
       started = 0;
       done_bytes = 0;
       files = no_files;
     }
 
-emptied-sound : (g : SessionState) → is_present g ≡ true → (n : ℕ) (s : Session) → IsId (id_of s) → s.id ≡ padded (id_of s) → s.quiet ≤ 2
+emptied-sound : (g : SessionState) → is_present g ≡ true → (n : ℕ) (s : Session) → IsId (id_of s) → s.id.bytes ≡ padded (id_of s) → s.quiet ≤ 2
     → SoundSession (emptied g n s) None
 emptied-sound g p n s id filled quiet =
     fileless refl free-at (λ z. no_way (sym p ∙ z)) (λ _. id) filled quiet (record { started = refl; done_bytes = refl })

@@ -7,7 +7,7 @@ use Rattle.command.specs.declared.FileType.{FileType}
 use Rattle.command.specs.declared.Transmission.{Transmission}
 use Rattle.command.specs.declared.Command.{Command}
 use Rattle.protocol.specs.Lengths.{length_by}
-use Rattle.protocol.specs.Table.{padded, file_at, find_file, first, is_free, is_started, moved}
+use Rattle.protocol.specs.Table.{file_at, find_file, first, is_free, is_started, moved, kept_id}
 use Rattle.protocol.specs.Replies.{session_reply, file_reply}
 use Rattle.protocol.specs.Change.{tells, asks, opens, files, drops}
 use Rattle.protocol.specs.declared.FileState.{FileState}
@@ -49,7 +49,7 @@ ignored = tells Told.Ignored None
 
 -- ---- file, "first that applies"
 abbrev pub opening : (id : List ℕ) (declared : ℕ) → FileRecord
-opening k d = record { state = FileState.Opening; id = padded k; id_len = length k; count = 0; declared = d }
+opening k d = record { state = FileState.Opening; id = kept_id k; count = 0; declared = d }
 
 -- a reply about the command's file, which is all that happens
 abbrev pub file_status : Session → List ℕ → Status → Change

@@ -1,8 +1,8 @@
 -- The rules of a receive session: the paths that it names, and the files that it asks for.
-use Rattle.std.specs.Prelude.{ℕ, ◌+◌, Bool, cond, ◌||◌, List, length, ltb, eqb, Option, Some, None}
+use Rattle.std.specs.Prelude.{ℕ, ◌+◌, Bool, cond, ◌||◌, List, ltb, eqb, Option, Some, None}
 use Rattle.decimal.specs.declared.Number.{Number}
 use Rattle.pathname.specs.Name.{valid_name}
-use Rattle.protocol.specs.Table.{file_room, no_file, padded, file_at, first, is_free}
+use Rattle.protocol.specs.Table.{file_room, no_file, file_at, first, is_free, kept_id}
 use Rattle.protocol.specs.Replies.{file_reply}
 use Rattle.protocol.specs.Change.{change, tells, opens, settles}
 use Rattle.protocol.specs.Files.{Request, file_status, if_new}
@@ -22,7 +22,7 @@ bad_paths n = n.negative || (eqb n.magnitude 0 || ltb file_room n.magnitude)
 
 -- a path that is named, or a file that is asked for, by its id alone: its name is told and not kept
 abbrev pub named : List ℕ → FileRecord
-named k = record { state = FileState.Named; id = padded k; id_len = length k; count = 0; declared = 0 }
+named k = record { state = FileState.Named; id = kept_id k; count = 0; declared = 0 }
 
 -- ---- "File commands then name the paths, each told to the console without a reply"
 -- Paths fill the records in order, so that the one at place j is number j + 1. With as many as were asked for the session waits.

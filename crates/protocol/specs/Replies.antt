@@ -1,5 +1,5 @@
 -- Replies: their words, when quiet holds them back, and their bytes.
-use Rattle.std.specs.Prelude.{ℕ, Bool, true, false, cond, ◌&&◌, ◌||◌, List, [], ◌∷◌, ◌++◌, take, length, leb, eqb, Option, Some, None}
+use Rattle.std.specs.Prelude.{ℕ, Bool, true, false, cond, ◌&&◌, ◌||◌, List, [], ◌∷◌, ◌++◌, length, leb, eqb, Option, Some, None}
 use Rattle.octets.specs.Ascii.{ascii}
 use Rattle.octets.specs.Split.{join}
 use Rattle.octets.specs.Outcome.{Outcome, stored_at}
@@ -9,7 +9,7 @@ use Rattle.frames.specs.Stream.{framed}
 use Rattle.command.specs.Values.{Value, count}
 use Rattle.command.specs.declared.Action.TheVariants as Action
 use Rattle.protocol.specs.Written.{values_with}
-use Rattle.protocol.specs.Table.{zeros}
+use Rattle.protocol.specs.Table.{no_id, id_bytes}
 use Rattle.protocol.specs.declared.FileRecord.{FileRecord}
 use Rattle.protocol.specs.declared.Session.{Session}
 use Rattle.protocol.specs.declared.Status.{Status}
@@ -69,7 +69,7 @@ reply_room = 124
 -- one about a session, and one about a file of it, by their records
 abbrev pub session_reply : Status → Session → Reply
 session_reply w s =
-    record { status = w; quiet = s.quiet; id = s.id; id_len = s.id_len; file_id = zeros; file_id_len = 0; size = 0 }
+    record { status = w; quiet = s.quiet; id = s.id; file_id = no_id; size = 0 }
 
 abbrev pub file_reply : Status → Session → FileRecord → ℕ → Reply
 file_reply w s f size =
@@ -77,9 +77,7 @@ file_reply w s f size =
       status = w;
       quiet = s.quiet;
       id = s.id;
-      id_len = s.id_len;
       file_id = f.id;
-      file_id_len = f.id_len;
       size = size;
     }
 
@@ -113,7 +111,7 @@ unfoldable pub reply_bytes : Option Reply → List ℕ
 reply_bytes None = []
 reply_bytes (Some r) =
     cond (is_held r.status r.quiet) []
-    (framed (status_text (take r.id_len r.id) (take r.file_id_len r.file_id) r.size (status_word r.status)))
+    (framed (status_text (id_bytes r.id) (id_bytes r.file_id) r.size (status_word r.status)))
 
 -- the reply's length, and the reply buffer afterwards: "bytes beyond it are untouched"; nothing of a reply that does not fit
 unfoldable pub replied_of : Option Reply → List ℕ → Outcome ℕ

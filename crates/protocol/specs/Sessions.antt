@@ -1,11 +1,11 @@
 -- The table of four sessions: which one a command or a call concerns, and its step put back.
-use Rattle.std.specs.Prelude.{ℕ, cond, List, length, Option, Some, None}
+use Rattle.std.specs.Prelude.{ℕ, cond, List, Option, Some, None}
 use Rattle.octets.specs.Slices.{part_of}
 use Rattle.decimal.specs.declared.Number.{Number}
 use Rattle.command.specs.Slots.{nowhere}
 use Rattle.command.specs.declared.Place.{Place}
 use Rattle.command.specs.declared.Command.{Command}
-use Rattle.protocol.specs.Table.{no_files, padded, session_at, find_session, first, is_absent, put_session}
+use Rattle.protocol.specs.Table.{no_files, session_at, find_session, first, is_absent, put_session, kept_id}
 use Rattle.protocol.specs.Actions.{kind_of}
 use Rattle.protocol.specs.Replies.{session_reply}
 use Rattle.protocol.specs.Change.{stepped, telling, step_by}
@@ -44,8 +44,7 @@ asked_session quiet id =
     record {
       state = SessionState.Asked;
       quiet = quiet;
-      id = padded id;
-      id_len = length id;
+      id = kept_id id;
       wanted = 0;
       started = 0;
       done_bytes = 0;
@@ -59,7 +58,6 @@ naming_session s n =
       state = SessionState.Naming;
       quiet = s.quiet;
       id = s.id;
-      id_len = s.id_len;
       wanted = n;
       started = 0;
       done_bytes = 0;

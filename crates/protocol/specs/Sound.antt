@@ -45,7 +45,7 @@ Held FileState.Named n d = n ≡ 0
 pub record SoundFile (f : FileRecord) : Type 0 where
   pub blank : file_used f ≡ false → f ≡ free_file
   pub named : file_used f ≡ true → IsFileId f.state (file_id_of f)
-  pub filled : f.id ≡ padded (file_id_of f)
+  pub filled : f.id.bytes ≡ padded (file_id_of f)
   pub counted : f.count ≤ count_limit
   pub held : Held f.state f.count f.declared
 
@@ -121,7 +121,7 @@ pub record SoundSession (s : Session) (due : Option Due) : Type 0 where
   pub blank : session_used s ≡ false → s ≡ absent_session
   pub file_for : (j : ℕ) → FileFor s.state j (file_at s j)
   pub named : session_used s ≡ true → IsId (id_of s)
-  pub filled : s.id ≡ padded (id_of s)
+  pub filled : s.id.bytes ≡ padded (id_of s)
   pub quiet : s.quiet ≤ 2
   -- its files have different ids
   pub alone : Unique file_used file_id_of no_file s.files

@@ -7,7 +7,7 @@ use Rattle.command.specs.Keys.{keys, number_of}
 use Rattle.command.specs.Values.{Value, Got}
 use Rattle.command.specs.Meaning.{Meaning, meaning_of}
 use Rattle.command.specs.Read.{scratch_room, read_of}
-use Rattle.protocol.specs.Table.{empty_table, session_at, file_at, padded, with_state, put_file, put_session}
+use Rattle.protocol.specs.Table.{empty_table, session_at, file_at, kept_id, with_state, put_file, put_session}
 use Rattle.protocol.specs.Replies.{status_word, status_text}
 use Rattle.protocol.specs.Sessions.{asked_session, settle_done}
 use Rattle.protocol.specs.Calls.{read_act}
@@ -33,7 +33,7 @@ abbrev pub halfway : Table
 halfway =
     put_session empty_table 0
     (put_file (with_state (asked_session 0 (ascii "m")) SessionState.Open) 0
-    (record { state = FileState.Started; id = padded (ascii "a"); id_len = 1; count = 3; declared = 0 }))
+    (record { state = FileState.Started; id = kept_id (ascii "a"); count = 3; declared = 0 }))
 
 abbrev pub obeyed : List ℕ → Table
 obeyed text = (read_act halfway text (read_of text (replicate scratch_room 0))).step.table

@@ -311,7 +311,6 @@ with_numbers s x =
       state = s.state;
       quiet = s.quiet;
       id = s.id;
-      id_len = s.id_len;
       wanted = s.wanted;
       started = x.started;
       done_bytes = x.done_bytes;

@@ -6,6 +6,7 @@
 #![tactic(auto)]
 
 mod actions;
+mod id;
 
 ghost use Rattle.std.specs.Prelude.{◌≡◌};
 ghost use Rattle.protocol.specs.Claim.{EveryHistory};
@@ -26,6 +27,7 @@ ghost use Rattle.protocol.specs.WrongSupplies.{SupplyTeeth};
 use command::{Command, FileType, Place};
 use decimal::Number;
 use frames::{Framing, Report};
+pub use id::Id;
 
 // ---- The receiver: nested arrays by value.
 #[derive(Clone, Copy)]
@@ -39,14 +41,12 @@ pub enum FileState {
     Named,
 }
 
-// A file record: its id is the first id_len bytes of id, and a length of 0 was not declared. It holds no
-// file type: what was opened is told from the command read. Ids are an array and a length, here and below:
-// memory is fixed, and a slice of the caller's text would not outlive the call.
+// A file record: a length of 0 was not declared. It holds no file type: what was opened is told from the
+// command read.
 #[derive(Clone, Copy)]
 pub struct FileRecord {
     pub state: FileState,
-    pub id: [u8; 32],
-    pub id_len: usize,
+    pub id: Id,
     pub count: u64,
     pub declared: u64,
 }
@@ -70,8 +70,7 @@ pub enum SessionState {
 pub struct Session {
     pub state: SessionState,
     pub quiet: u64,
-    pub id: [u8; 32],
-    pub id_len: usize,
+    pub id: Id,
     pub wanted: u64,
     pub started: u64,
     pub done_bytes: u64,
@@ -210,16 +209,13 @@ pub enum Told {
     Committed,
 }
 
-// A reply that is due. Its ids are the first so many bytes of their arrays; a size of 0 is left out, as
-// is an empty file id.
+// A reply that is due. A size of 0 is left out, as is an empty file id.
 #[derive(Clone, Copy)]
 pub struct Reply {
     pub status: Status,
     pub quiet: u64,
-    pub id: [u8; 32],
-    pub id_len: usize,
-    pub file_id: [u8; 32],
-    pub file_id_len: usize,
+    pub id: Id,
+    pub file_id: Id,
     pub size: u64,
 }
 
@@ -308,8 +304,7 @@ impl FileRecord {
 
     pub const FREE: FileRecord = FileRecord {
         state: FileState::Free,
-        id: [0; 32],
-        id_len: 0,
+        id: Id::NONE,
         count: 0,
         declared: 0,
     };
@@ -322,8 +317,7 @@ impl Session {
     pub const ABSENT: Session = Session {
         state: SessionState::Absent,
         quiet: 0,
-        id: [0; 32],
-        id_len: 0,
+        id: Id::NONE,
         wanted: 0,
         started: 0,
         done_bytes: 0,

@@ -15,6 +15,7 @@ use command::letters::Class;
 use command::{Action, Command, Place, Refusal, letters};
 use command_writer::framed::write_framed;
 use decimal::Number;
+use protocol::Id;
 use sending::{SentFile, Transfer};
 
 // ---- A command written in its frame.
@@ -35,8 +36,8 @@ pub(crate) fn write_file(
     ensures { outcome (answered result) out.new
         ≡ framed_of (file_values (id_of transfer) id.now name.now size) out.old }
 {
-    let ids = ids(transfer.id, id);
-    let command = file(id_len(transfer.id_len), id.len(), name.len(), size);
+    let ids = ids(transfer.id.bytes, id);
+    let command = file(id_len(transfer.id.len), id.len(), name.len(), size);
     write_framed(command, &ids, name, out)
 }
 
@@ -50,11 +51,11 @@ pub(crate) fn write_piece(
     ensures { outcome (answered result) out.new
         ≡ framed_of (piece_values (id_of transfer) (file_id_of current) bytes.now last) out.old }
 {
-    let ids = ids(transfer.id, &current.id);
+    let ids = ids(transfer.id.bytes, &current.id.bytes);
     let command = piece(
         last,
-        id_len(transfer.id_len),
-        id_len(current.id_len),
+        id_len(transfer.id.len),
+        id_len(current.id.len),
         bytes.len(),
     );
     write_framed(command, &ids, bytes, out)
@@ -63,8 +64,8 @@ pub(crate) fn write_piece(
 pub(crate) fn write_finish(transfer: Transfer, out: &mut [u8]) -> Result<usize, Refusal>
     ensures { outcome (answered result) out.new ≡ framed_of (finish_values (id_of transfer)) out.old }
 {
-    let command = lone(Action::Finish, id_len(transfer.id_len));
-    write_framed(command, &transfer.id, &transfer.id, out)
+    let command = lone(Action::Finish, id_len(transfer.id.len));
+    write_framed(command, &transfer.id.bytes, &transfer.id.bytes, out)
 }
 
 // ---- Its parts.
@@ -87,7 +88,7 @@ fn file(id: usize, file_id: usize, name: usize, size: u64) -> Command
         action: Action::File,
         id: Place { start: 0, len: id },
         file_id: Place {
-            start: Transfer::ID_ROOM,
+            start: Id::ROOM,
             len: file_id,
         },
         size: Number {
@@ -110,7 +111,7 @@ fn piece(last: bool, id: usize, file_id: usize, bytes: usize) -> Command
         action: piece_action(last),
         id: Place { start: 0, len: id },
         file_id: Place {
-            start: Transfer::ID_ROOM,
+            start: Id::ROOM,
             len: file_id,
         },
         payload: Place {
@@ -131,17 +132,17 @@ fn piece_action(last: bool) -> Action
 fn id_len(n: usize) -> usize
     ensures { result ≡ min n id_room }
 {
-    n.min(Transfer::ID_ROOM)
+    n.min(Id::ROOM)
 }
 
 // The session's id and then the file's, where that has room.
 #[tactic(auto, unfolding(crate::specs::Places::ids_of))]
-fn ids(own: [u8; Transfer::ID_ROOM], file: &[u8]) -> [u8; 2 * Transfer::ID_ROOM]
+fn ids(own: [u8; Id::ROOM], file: &[u8]) -> [u8; 2 * Id::ROOM]
     ensures { result ≡ ids_of own file.now }
 {
-    let mut ids = [0u8; 2 * Transfer::ID_ROOM];
+    let mut ids = [0u8; 2 * Id::ROOM];
     octets::copy_at(&own, &mut ids, 0);
-    octets::copy_at(file, &mut ids, Transfer::ID_ROOM);
+    octets::copy_at(file, &mut ids, Id::ROOM);
     ids
 }
 

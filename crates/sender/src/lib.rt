@@ -15,7 +15,7 @@ ghost use Rattle.octets.specs.Outcome.{outcome};
 ghost use Rattle.sending.specs.Calls.{send_of, file_of, piece_of, finish_of, listening, hear_of};
 
 use answers::{gate, refused, wrote};
-use protocol::FileRecord;
+use protocol::{FileRecord, Id};
 use sender_status::on_report;
 use sender_status::stages::is_fresh;
 use sending::{Listened, Sender, Stage, Transfer, Wrote};
@@ -47,7 +47,7 @@ pub fn file(sender: Sender, id: &[u8], name: &[u8], size: u64, out: &mut [u8]) -
     if let Some(number) = refusal {
         return refused(sender, number);
     }
-    if id.len() > Transfer::ID_ROOM {
+    if id.len() > Id::ROOM {
         return refused(sender, commands::long_refusal(id));
     }
     let next = steps::begun(transfer, id);

@@ -4,10 +4,10 @@ ghost use Rattle.protocol.specs.Table.{file_room};
 ghost use Rattle.sending.specs.Transfers.{asked, begun, grown, added};
 
 use crate::files::current_file;
+use protocol::Id;
 use sender_status::files::put_file;
 use sender_status::stages::after_piece;
 use sending::{FileStage, SentFile, Stage, Transfer};
-use session_rule::ids::padded;
 
 // Send is written: the session has its id.
 pub(crate) fn asked(transfer: Transfer, id: &[u8]) -> Transfer
@@ -15,8 +15,7 @@ pub(crate) fn asked(transfer: Transfer, id: &[u8]) -> Transfer
 {
     Transfer {
         stage: Stage::Waiting,
-        id: padded(id),
-        id_len: id.len(),
+        id: Id::of(id),
         ..transfer
     }
 }
@@ -28,8 +27,7 @@ pub(crate) fn begun(mut transfer: Transfer, id: &[u8]) -> Transfer
 {
     transfer.files[transfer.count] = SentFile {
         stage: FileStage::Sending,
-        id: padded(id),
-        id_len: id.len(),
+        id: Id::of(id),
         sent: 0,
     };
     transfer.count += 1;

@@ -6,7 +6,6 @@ use crate::stages::is_fresh;
 use crate::statuses::{on_status, still};
 use command::{Action, Command};
 use sending::{Heeded, News, Transfer, Word};
-use session_rule::ids::same_id;
 
 // A command that was read; its ids stand in the text, its status in the scratch.
 #[tactic(auto, unfolding(sending::specs::Heeding::heed_of))]
@@ -44,7 +43,7 @@ pub(crate) fn on_command(
 fn is_ours(transfer: Transfer, action: Action, id: &[u8]) -> bool
     ensures { result ≡ is_ours transfer action id.now }
 {
-    is_status(action) && !is_fresh(transfer.stage) && same_id(transfer.id, transfer.id_len, id)
+    is_status(action) && !is_fresh(transfer.stage) && transfer.id.is(id)
 }
 
 fn is_status(action: Action) -> bool

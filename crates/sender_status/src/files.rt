@@ -4,7 +4,6 @@ ghost use Rattle.sending.specs.Transfers.{file_at, has_file_id, find_file, put_f
 
 use crate::stages::is_known;
 use sending::{SentFile, Transfer};
-use session_rule::ids::same_id;
 
 pub fn find_file(transfer: Transfer, id: &[u8]) -> Option<usize>
     ensures { result ≡ find_file transfer id.now }
@@ -15,7 +14,7 @@ pub fn find_file(transfer: Transfer, id: &[u8]) -> Option<usize>
 fn has_file_id(file: &SentFile, id: &[u8]) -> bool
     ensures { result ≡ has_file_id id.now file.now }
 {
-    is_known(file.stage) && same_id(file.id, file.id_len, id)
+    is_known(file.stage) && file.id.is(id)
 }
 
 // A place outside the session is free room.

@@ -12,7 +12,7 @@ use Rattle.octets.proofs.Below.{both_test}
 use Rattle.octets.proofs.Compare.{equals_refl, equals-sound}
 use Rattle.octets.specs.Members.{every}
 use Rattle.command.specs.Letters.{safe_byte}
-use Rattle.protocol.specs.Table.{file_room, id_room, padded}
+use Rattle.protocol.specs.Table.{file_room, id_room, kept_id}
 use Rattle.protocol.proofs.Laws.{no_way, first-at, padded-id}
 use Rattle.sending.specs.Transfers.{free_file, id_of, file_id_of, is_known, has_file_id}
 use Rattle.sending.specs.Transfers.{is_fresh, is_open, with_stage, asked, begun}
@@ -141,7 +141,7 @@ module _ {t : Transfer} {m : List Mark} (id : List ℕ) (k : Kept t m) (l : leng
   fs = t.files
 
   abbrev file : SentFile
-  file = record { stage = FileStage.Sending; id = padded id; id_len = length id; sent = 0 }
+  file = record { stage = FileStage.Sending; id = kept_id id; sent = 0 }
 
   abbrev fs' : List SentFile
   fs' = set fs t.count file

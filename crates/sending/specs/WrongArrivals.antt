@@ -65,7 +65,6 @@ unclosed t =
     record {
       stage = t.stage;
       id = t.id;
-      id_len = t.id_len;
       files = map (λ (f : SentFile). moved f (unseen f.stage) f.sent) t.files;
       count = t.count;
     }

@@ -19,6 +19,7 @@ ghost use Rattle.sending.specs.WrongArrivals.{WrongSendersFall};
 use command::Place;
 use decimal::Number;
 use frames::{Framing, Report};
+use protocol::Id;
 
 // ---- The sender: an array of files by value.
 // A session: nothing written, send written, allowed by an OK, finish written, or stopped by a status.
@@ -42,13 +43,11 @@ pub enum FileStage {
     Stopped,
 }
 
-// A file of the session: its id is the first id_len bytes of id. Its contents are counted, and its name
-// is not kept.
+// A file of the session. Its contents are counted, and its name is not kept.
 #[derive(Clone, Copy)]
 pub struct SentFile {
     pub stage: FileStage,
-    pub id: [u8; Transfer::ID_ROOM],
-    pub id_len: usize,
+    pub id: Id,
     pub sent: u64,
 }
 
@@ -57,8 +56,7 @@ pub struct SentFile {
 #[derive(Clone, Copy)]
 pub struct Transfer {
     pub stage: Stage,
-    pub id: [u8; Transfer::ID_ROOM],
-    pub id_len: usize,
+    pub id: Id,
     pub files: [SentFile; Transfer::FILES],
     pub count: usize,
 }
@@ -126,8 +124,7 @@ pub enum Word {
 impl SentFile {
     pub const FREE: SentFile = SentFile {
         stage: FileStage::Free,
-        id: [0; Transfer::ID_ROOM],
-        id_len: 0,
+        id: Id::NONE,
         sent: 0,
     };
 }
@@ -136,13 +133,9 @@ impl Transfer {
     // "a 33rd file"
     pub const FILES: usize = 32;
 
-    // How many bytes a session's id has at most, and a file's.
-    pub const ID_ROOM: usize = 32;
-
     pub const NONE: Transfer = Transfer {
         stage: Stage::Fresh,
-        id: [0; Transfer::ID_ROOM],
-        id_len: 0,
+        id: Id::NONE,
         files: [SentFile::FREE; Transfer::FILES],
         count: 0,
     };

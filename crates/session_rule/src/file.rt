@@ -6,11 +6,10 @@ ghost use Rattle.protocol.specs.Files.{declared_by, is_directory, open_due, file
 
 use crate::changes::{opens, tells};
 use crate::files::{find_file, free_file};
-use crate::ids::padded;
 use crate::replies::file_reply;
 use command::{Command, FileType, Transmission};
 use decimal::Number;
-use protocol::{Change, Due, FileRecord, FileState, Session, Status, Told};
+use protocol::{Change, Due, FileRecord, FileState, Id, Session, Status, Told};
 
 #[tactic(auto, unfolding(protocol::specs::Files::file_of))]
 pub(crate) fn file(session: Session, command: Command, id: &[u8], name: &[u8]) -> Change
@@ -73,12 +72,9 @@ pub(crate) fn file_status(session: Session, id: &[u8], status: Status) -> Change
 pub(crate) fn opening(id: &[u8], declared: u64) -> FileRecord
     ensures { result ≡ opening id.now declared }
 {
-    // An array goes into a struct by a variable: the check covers no other form.
-    let own = padded(id);
     FileRecord {
         state: FileState::Opening,
-        id: own,
-        id_len: id.len(),
+        id: Id::of(id),
         count: 0,
         declared,
     }

@@ -3,7 +3,6 @@
 ghost use Rattle.std.specs.Prelude.{◌≡◌, slice_index_or};
 ghost use Rattle.protocol.specs.Table.{no_file, first, is_used, is_free, is_started_state, has_file_id};
 
-use crate::ids::same_id;
 use protocol::{FileRecord, FileState};
 
 pub(crate) fn find_file(files: &[FileRecord], id: &[u8]) -> Option<usize>
@@ -28,7 +27,7 @@ pub(crate) fn file_at(files: &[FileRecord], j: usize) -> FileRecord
 fn has_file_id(file: &FileRecord, id: &[u8]) -> bool
     ensures { result ≡ has_file_id id.now file.now }
 {
-    is_used(file.state) && same_id(file.id, file.id_len, id)
+    is_used(file.state) && file.id.is(id)
 }
 
 fn is_used(state: FileState) -> bool

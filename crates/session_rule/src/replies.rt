@@ -2,22 +2,17 @@
 ghost use Rattle.std.specs.Prelude.{◌≡◌};
 ghost use Rattle.protocol.specs.Replies.{session_reply, file_reply};
 
-use protocol::{FileRecord, Reply, Session, Status};
+use protocol::{FileRecord, Id, Reply, Session, Status};
 
 // A reply about a session.
 pub fn session_reply(status: Status, session: Session) -> Reply
     ensures { result ≡ session_reply status session }
 {
-    // Arrays go into a struct by variables: the check covers no other form.
-    let id = session.id;
-    let file_id = [0; 32];
     Reply {
         status,
         quiet: session.quiet,
-        id,
-        id_len: session.id_len,
-        file_id,
-        file_id_len: 0,
+        id: session.id,
+        file_id: Id::NONE,
         size: 0,
     }
 }
@@ -27,15 +22,11 @@ pub fn session_reply(status: Status, session: Session) -> Reply
 pub(crate) fn file_reply(status: Status, session: Session, file: FileRecord, size: u64) -> Reply
     ensures { result ≡ file_reply status session file size }
 {
-    let id = session.id;
-    let file_id = file.id;
     Reply {
         status,
         quiet: session.quiet,
-        id,
-        id_len: session.id_len,
-        file_id,
-        file_id_len: file.id_len,
+        id: session.id,
+        file_id: file.id,
         size,
     }
 }

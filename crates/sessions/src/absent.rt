@@ -12,9 +12,8 @@ use crate::find::free;
 use crate::next::{Next, still, tell};
 use command::Action;
 use decimal::Number;
-use protocol::{Kind, Session, SessionState, Status, Table, Told};
+use protocol::{Id, Kind, Session, SessionState, Status, Table, Told};
 use session_rule::actions::look_up;
-use session_rule::ids::padded;
 use session_rule::replies::session_reply;
 
 // What a command does, by its action, its quiet, its size and its id.
@@ -94,13 +93,10 @@ fn absent_status(table: Table, session: Session, status: Status) -> Next
 pub fn asked(quiet: u64, id: &[u8]) -> Session
     ensures { result ≡ asked_session quiet id.now }
 {
-    // An array goes into a struct by a variable: the check covers no other form.
-    let own = padded(id);
     Session {
         state: SessionState::Asked,
         quiet,
-        id: own,
-        id_len: id.len(),
+        id: Id::of(id),
         ..Session::ABSENT
     }
 }
@@ -109,12 +105,10 @@ pub fn asked(quiet: u64, id: &[u8]) -> Session
 pub fn naming(session: Session, wanted: u64) -> Session
     ensures { result ≡ naming_session session wanted }
 {
-    let id = session.id;
     Session {
         state: SessionState::Naming,
         quiet: session.quiet,
-        id,
-        id_len: session.id_len,
+        id: session.id,
         wanted,
         ..Session::ABSENT
     }

@@ -24,12 +24,10 @@ pub(crate) fn edited(session: Session, file: FileRecord, edit: Edit) -> Session
 fn waiting(session: Session) -> Session
     ensures { result ≡ waiting session }
 {
-    let id = session.id;
     Session {
         state: SessionState::Waiting,
         quiet: session.quiet,
-        id,
-        id_len: session.id_len,
+        id: session.id,
         wanted: session.wanted,
         ..emptied(session)
     }

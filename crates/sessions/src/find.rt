@@ -4,7 +4,6 @@ ghost use Rattle.std.specs.Prelude.{◌≡◌, not};
 ghost use Rattle.protocol.specs.Table.{first, has_id, is_present, is_absent, find_session};
 
 use protocol::{Session, SessionState, Table};
-use session_rule::ids::same_id;
 
 pub fn find_session(table: Table, id: &[u8]) -> Option<usize>
     ensures { result ≡ find_session table id.now }
@@ -29,7 +28,7 @@ pub fn free(sessions: &[Session]) -> Option<usize>
 fn has_id(session: &Session, id: &[u8]) -> bool
     ensures { result ≡ has_id id.now session.now }
 {
-    is_present(session.state) && same_id(session.id, session.id_len, id)
+    is_present(session.state) && session.id.is(id)
 }
 
 fn is_present(state: SessionState) -> bool

@@ -2,7 +2,7 @@
 ghost use Rattle.std.specs.Prelude.{◌≡◌};
 ghost use Rattle.protocol.specs.Table.{absent_session, session_at};
 
-use protocol::{FileRecord, Session, SessionState, Table};
+use protocol::{FileRecord, Id, Session, SessionState, Table};
 
 pub fn session_at(table: Table, i: usize) -> Session
     ensures { result ≡ session_at table i }
@@ -21,12 +21,10 @@ pub(crate) fn emptied(session: Session) -> Session
 {
     let mut files = session.files;
     files.fill(FileRecord::FREE);
-    let id = [0; 32];
     Session {
         state: SessionState::Absent,
         quiet: 0,
-        id,
-        id_len: 0,
+        id: Id::NONE,
         wanted: 0,
         started: 0,
         done_bytes: 0,

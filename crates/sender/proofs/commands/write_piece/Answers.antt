@@ -9,10 +9,10 @@ pub returns : goal.returns
 returns c =
     let a = c.args in
     -- both ids have 32 bytes
-    let h : length a.transfer.id ≡ 32 = search rules in
-    let k : length a.current.id ≡ 32 = search rules in
+    let h : length a.transfer.id.bytes ≡ 32 = search rules in
+    let k : length a.current.id.bytes ≡ 32 = search rules in
     rw (
-      ← piece-values a.transfer.id a.current.id a.transfer.id_len h (omega arith) a.bytes.now a.last a.current.id_len k,
+      ← piece-values a.transfer.id.bytes a.current.id.bytes a.transfer.id.len h (omega arith) a.bytes.now a.last a.current.id.len k,
       ← c.id_len.ensures,
       ← c.id_len-2.ensures,
       ← c.ids-ids.ensures,

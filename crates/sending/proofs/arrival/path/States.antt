@@ -5,7 +5,7 @@ use mathlib.Core.List.{List, [], ◌∷◌, ◌++◌, map}
 use lib.ListN.{length, replicate}
 use Rattle.std.specs.Prelude.{Option, Some, None}
 use Rattle.command.specs.Values.{Value}
-use Rattle.protocol.specs.Table.{file_room, padded, absent_session, total, free_file}
+use Rattle.protocol.specs.Table.{file_room, absent_session, total, free_file, kept_id}
 use Rattle.protocol.specs.Files.{opening, write_due}
 use Rattle.protocol.specs.Sessions.{asked_session}
 use Rattle.protocol.specs.History.{Heard, Mark, Question}
@@ -25,7 +25,7 @@ use Rattle.sending.proofs.arrival.path.Points.{Sent, Point, next, command_at}
 
 -- ---- the receiver's table at a point, with all orders so far answered
 abbrev pub record_of : FileState → Sent → FileRecord
-record_of g f = record { state = g; id = padded f.id; id_len = length f.id; count = f.total; declared = f.size }
+record_of g f = record { state = g; id = kept_id f.id; count = f.total; declared = f.size }
 
 -- the records: the past files, and the one that is being sent, if one is
 abbrev pub records_of : List Sent → List FileRecord → List FileRecord
@@ -42,8 +42,7 @@ keeping id started bytes files =
     record {
       state = SessionState.Open;
       quiet = 0;
-      id = padded id;
-      id_len = length id;
+      id = kept_id id;
       wanted = 0;
       started = started;
       done_bytes = bytes;
@@ -117,7 +116,7 @@ marks_at id p (o ∷ os) m = marks_at id (next p o) os (done_marks id p o m)
 
 -- ---- the sender's session: what is written so far ends at the point w, what is heard of its replies at the point h
 abbrev pub sent_record : FileStage → Sent → SentFile
-sent_record g f = record { stage = g; id = padded f.id; id_len = length f.id; sent = f.total }
+sent_record g f = record { stage = g; id = kept_id f.id; sent = f.total }
 
 abbrev pub sending_now : Point → List SentFile
 sending_now Point.fresh = []
@@ -159,8 +158,7 @@ abbrev pub shaped : Stage → (id : List ℕ) (closed others : List Sent) → Li
 shaped g id closed others now =
     record {
       stage = g;
-      id = padded id;
-      id_len = length id;
+      id = kept_id id;
       files = sent_files closed others now;
       count = length closed + length others + length now;
     }

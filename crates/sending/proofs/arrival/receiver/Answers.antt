@@ -97,7 +97,7 @@ module _ {id : List ℕ} (past : List Sent) (f : Sent) (i : IsId id) (now : Now 
       let moves : done_by (busy m g) d ≡ files (length past) a w r =
       e
       ∙ ap (λ (x : FileRecord). files (length past) (moved x g' n) w (Some (file_reply w (busy m g) x n)))
-        (now-at id m past (record_of g f)) in
+      (now-at id m past (record_of g f)) in
       let told : settle_done (alone_in (busy m g) (Some (0, d))) ≡ stepped (alone_in s None) (Told.Status w) r =
       settles-as (busy m g) d (length past) a w r moves ∙ ap (λ (x : Session). stepped (alone_in x None) (Told.Status w) r) p in
       record {
