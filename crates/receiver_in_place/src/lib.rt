@@ -63,8 +63,15 @@ pub fn feed<'r, 'p, 'b>(
     };
     let i = place_of(heard.found);
     let text = frames::text(piece, carry, heard.report);
-    let session = receiver.table.sessions[i];
-    let left = act(heard.found, session, owed, command, text, scratch, reply);
+    let left = act(
+        heard.found,
+        receiver.table.sessions[i],
+        owed,
+        command,
+        text,
+        scratch,
+        reply,
+    );
     let answered = put_back(receiver, i, left);
     FedInPlace {
         consumed: heard.consumed,
@@ -134,7 +141,9 @@ pub fn supply<'r, 's, 'b>(
     put_back(receiver, i, left)
 }
 
-// What a call leaves is put back: the session at its place, and what is owed.
+// What a call leaves is put back: the session at its place, and what is owed. Inlined, since a call would
+// copy the session once more.
+#[inline(always)]
 fn put_back(receiver: &mut Receiver, i: usize, left: Left) -> AnsweredInPlace
     requires { i < 4 }
     ensures receiver { receiver.new ≡ takes receiver.old i left }

@@ -177,13 +177,18 @@ fn send(onward: Onward, n: usize, reply: &mut [u8]) -> Onward
     }
 }
 
-// Copies the first n bytes of the reply buffer to a place of it, and says where they end.
+// Copies the reply of n bytes to a place behind it, and says where it ends there.
 fn put_by(reply: &mut [u8], at: usize, n: usize) -> Option<usize> {
-    if !octets::fits(at, n, reply.len()) {
+    if reply.len() < Reply::ROOM {
         return None;
     }
-    reply.copy_within(..n, at);
-    Some(at + n)
+    let (last, waiting) = reply.split_at_mut(Reply::ROOM);
+    let end = octets::copy_at(
+        octets::part(last, 0, n),
+        waiting,
+        at.saturating_sub(Reply::ROOM),
+    )?;
+    Some(Reply::ROOM.saturating_add(end))
 }
 
 // Writes the replies that wait.

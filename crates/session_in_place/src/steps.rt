@@ -37,7 +37,8 @@ pub(crate) fn stay(
     }
 }
 
-// A step's end, its reply stored.
+// A step's end, its reply stored. Inlined, since a call would copy the session twice more.
+#[inline(always)]
 #[tactic(auto, unfolding(crate::specs::Steps::left_by))]
 pub(crate) fn leave(next: Next, buffer: &mut [u8]) -> Left
     ensures { outcome result buffer.new ≡ left_by next buffer.old }
