@@ -9,13 +9,7 @@ use crate::Number;
 pub(crate) fn width(n: u64) -> usize
     ensures { (result ≡ width_of n) × (result ≤ 20) }
 {
-    let mut w: usize = 1;
-    let mut rest = n / 10;
-    while rest > 0 {
-        rest /= 10;
-        w += 1;
-    }
-    w
+    if n == 0 { 1 } else { n.ilog10() as usize + 1 }
 }
 
 // Stores the text of n from place `at` on.
