@@ -20,5 +20,6 @@ chunk-left n m k t h b =
     let r : (k + 1) * n ≤ length t = omega (arith, mul-le-mul_right {m = k + 1} {n = m} n (omega arith)) in
     rw (chunk-at n m k t h) (
       length-take-le n (drop (k * n) t) (omega (arith, length-drop (k * n) t)),
-      sym (take-append-drop n (drop (k * n) t)) ∙ ap (λ (l : List ℕ). take n (drop (k * n) t) ++ l) (drop-drop n (k * n) t ∙ ap (λ (i : ℕ). drop i t) e),
+      sym (take-append-drop n (drop (k * n) t))
+          ∙ ap (λ (l : List ℕ). take n (drop (k * n) t) ++ l) (drop-drop n (k * n) t ∙ ap (λ (i : ℕ). drop i t) e),
     )

@@ -107,7 +107,8 @@ module _ (t : List ℕ) (k : ℕ) (s : List ℕ) (d : s ≡ drop (length t / 8 *
     single-room = rw single-is (letters-length g single-four single-letters)
 
 pub put-requires-clause-letters : goal.put-requires-clause-letters
-put-requires-clause-letters c = letters-first c.args.text.now c.loop-a.a-index _ c.as_chunks.ensures.front (omega arith) c.requires.letters.0
+put-requires-clause-letters c =
+    letters-first c.args.text.now c.loop-a.a-index _ c.as_chunks.ensures.front (omega arith) c.requires.letters.0
 
 pub put-requires-clause-room : goal.put-requires-clause-room
 put-requires-clause-room c =
@@ -144,7 +145,8 @@ put-requires-in-Some-clause-letters c =
 pub put-requires-in-Some-clause-room : goal.put-requires-in-Some-clause-room
 put-requires-in-Some-clause-room c =
     let q = c.in-Some.ensures.cases in
-    let n = single-room c.args.text.now c.loop-a.a-index _ c.as_chunks.ensures.back (omega arith) _ q.0 (omega (arith, q.2)) c.requires.letters.0 in
+    let b = c.as_chunks.ensures.back in
+    let n = single-room c.args.text.now c.loop-a.a-index _ b (omega arith) _ q.0 (omega (arith, q.2)) c.requires.letters.0 in
     omega (arith, n)
 
 pub returns-in_default : goal.returns-in_default
