@@ -64,11 +64,12 @@ part-framed s d bytes last out o h e = rw (← first-inside s.files 31 d no_file
 
 -- the same by what was written of it: its ids, its command and both together
 pub part-written : (s : Session) (d : FileRecord) (last : Bool) (bytes out ids : List ℕ) (k : Command) (o : Outcome Answer)
-    → length s.files ≡ 32 → length s.id ≡ 32 → ids ≡ ids_of s.id (get_or s.files 0 d).id → length (get_or s.files 0 d).id ≡ 32
-    → k ≡ command_with (piece_action last) (up_to (min s.id_len 32)) (from 32 (min (get_or s.files 0 d).id_len 32)) nowhere nowhere
+    → length s.files ≡ 32 → length s.id.bytes ≡ 32 → ids ≡ ids_of s.id.bytes (get_or s.files 0 d).id.bytes
+    → length (get_or s.files 0 d).id.bytes ≡ 32
+    → k ≡ command_with (piece_action last) (up_to (min s.id.len 32)) (from 32 (min (get_or s.files 0 d).id.len 32)) nowhere nowhere
     (up_to (length bytes))
     → o ≡ framed_of (values_of k ids bytes) out → o ≡ framed_for s (Supply.part last bytes) out
 part-written s d last bytes out ids k o files own ids-is file k-is e =
     let f = get_or s.files 0 d in
     part-framed s d bytes last out o files
-    (rw (k-is, ids-is, part-values s.id f.id s.id_len f.id_len bytes last own file) at e)
+    (rw (k-is, ids-is, part-values s.id.bytes f.id.bytes s.id.len f.id.len bytes last own file) at e)

@@ -7,10 +7,7 @@ ghost use Rattle.protocol.specs.Table.{id_room};
 ghost use Rattle.supplying.specs.Places.{up_to, from, command_with, ids_of};
 
 use command::{Action, Command, Place};
-use protocol::Entry;
-
-// "at most 32 bytes" of an id: the length of its array.
-pub(crate) const ID_ROOM: usize = 32;
+use protocol::{Entry, Id};
 
 // A file of the listing.
 pub(crate) fn entry(entry: Entry) -> Command
@@ -70,11 +67,11 @@ pub(crate) fn piece(last: bool, id: usize, file_id: usize, bytes: usize) -> Comm
         action: if last { Action::EndData } else { Action::Data },
         id: Place {
             start: 0,
-            len: id.min(ID_ROOM),
+            len: id.min(Id::ROOM),
         },
         file_id: Place {
-            start: ID_ROOM,
-            len: file_id.min(ID_ROOM),
+            start: Id::ROOM,
+            len: file_id.min(Id::ROOM),
         },
         payload: Place {
             start: 0,
@@ -85,12 +82,12 @@ pub(crate) fn piece(last: bool, id: usize, file_id: usize, bytes: usize) -> Comm
 }
 
 // The session's id and then the file's.
-pub(crate) fn ids(own: [u8; ID_ROOM], file: [u8; ID_ROOM]) -> [u8; 2 * ID_ROOM]
-    ensures ids { result ≡ ids_of own file }
-    ensures lengths { (length own ≡ id_room) × (length file ≡ id_room) }
+pub(crate) fn ids(own: &Id, file: &Id) -> [u8; 2 * Id::ROOM]
+    ensures ids { result ≡ ids_of own.now.bytes file.now.bytes }
+    ensures lengths { (length own.now.bytes ≡ id_room) × (length file.now.bytes ≡ id_room) }
 {
-    let mut ids = [0u8; 2 * ID_ROOM];
-    octets::copy_at(&own, &mut ids, 0);
-    octets::copy_at(&file, &mut ids, ID_ROOM);
+    let mut ids = [0u8; 2 * Id::ROOM];
+    octets::copy_at(&own.bytes, &mut ids, 0);
+    octets::copy_at(&file.bytes, &mut ids, Id::ROOM);
     ids
 }

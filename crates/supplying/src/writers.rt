@@ -76,7 +76,7 @@ pub(crate) fn write_part(
         ≡ framed_for session.now (Supply.part last bytes.now) out.old }
 {
     let file = session.files[0];
-    let ids = commands::ids(session.id, file.id);
-    let command = commands::piece(last, session.id_len, file.id_len, bytes.len());
+    let ids = commands::ids(&session.id, &file.id);
+    let command = commands::piece(last, session.id.len, file.id.len, bytes.len());
     write_framed(command, &ids, bytes, out)
 }
