@@ -4,7 +4,7 @@ use crate::{Calls, lending, line, supplies};
 use command::{Command, Place};
 use command_writer::framed::FRAME_ROOM;
 use frames::{Framing, Report};
-use protocol::{Found, Receiver, Reply, Session, Table, Told};
+use protocol::{Receiver, Reply, Session, Table, Told};
 use script_parts::{byte, two_bytes};
 use sessions::find::find_session;
 use sessions::places::session_at;
@@ -78,8 +78,8 @@ pub struct Called {
 // A fresh receiver, every buffer as at first and lent whole, no feed made yet.
 pub(crate) fn fresh(run: Run, calls: Calls) -> Console {
     Console {
-        run: run,
-        calls: calls,
+        run,
+        calls,
         receiver: Receiver::fresh(),
         buffers: Buffers {
             carry: [0xA5; CARRY],
@@ -130,11 +130,8 @@ fn feed(console: Console, bytes: &[u8], start: usize, len: usize) -> Console {
     let after = called.buffers;
     let report = answer.report;
     let latest = Latest {
-        piece: Place {
-            start: start,
-            len: len,
-        },
-        report: report,
+        piece: Place { start, len },
+        report,
     };
     next(
         console,
@@ -184,13 +181,11 @@ fn supply(console: Console, letter: u8, operation: &[u8]) -> Console {
 
 // The console after a call whose line is printed.
 fn next(console: Console, called: Called, latest: Latest, run: Run) -> Console {
-    let receiver = called.receiver;
-    let buffers = called.buffers;
     Console {
-        run: run,
-        receiver: receiver,
-        buffers: buffers,
-        latest: latest,
+        run,
+        receiver: called.receiver,
+        buffers: called.buffers,
+        latest,
         ..console
     }
 }
@@ -229,8 +224,8 @@ fn text(console: Console, bytes: &[u8]) -> Run {
 // The numbers kept in the session with this id.
 fn numbers(run: Run, table: Table, id: &[u8]) -> Run {
     match find_session(table, id) {
-        Found::Nowhere => line::no_numbers(run),
-        Found::At(i) => numbers_of(run, session_at(table, i)),
+        None => line::no_numbers(run),
+        Some(i) => numbers_of(run, session_at(table, i)),
     }
 }
 

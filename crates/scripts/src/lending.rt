@@ -28,13 +28,12 @@ pub(crate) fn feed(
         &mut scratch[..s],
         &mut reply[..r],
     );
-    let next = fed.receiver;
     Called {
-        receiver: next,
+        receiver: fed.receiver,
         buffers: Buffers {
-            carry: carry,
-            scratch: scratch,
-            reply: reply,
+            carry,
+            scratch,
+            reply,
             ..buffers
         },
         answer: answer_to_feed(fed),
@@ -42,15 +41,11 @@ pub(crate) fn feed(
 }
 
 fn answer_to_feed(fed: Fed) -> Answer {
-    let command = fed.command;
-    let told = fed.told;
-    let name = command.name;
-    let report = fed.report;
     Answer {
         consumed: fed.consumed,
-        told: told,
-        name: name,
-        report: report,
+        told: fed.told,
+        name: fed.command.name,
+        report: fed.report,
         written: fed.reply_len,
     }
 }
@@ -71,23 +66,18 @@ pub(crate) fn answer(
         id_of(operation),
         &mut reply[..r],
     );
-    let next = answered.receiver;
     Called {
-        receiver: next,
-        buffers: Buffers {
-            reply: reply,
-            ..buffers
-        },
+        receiver: answered.receiver,
+        buffers: Buffers { reply, ..buffers },
         answer: answer_of(answered),
     }
 }
 
 // A call that is no feed consumes nothing and reads no command.
 pub(crate) fn answer_of(answered: Answered) -> Answer {
-    let told = answered.told;
     Answer {
         consumed: 0,
-        told: told,
+        told: answered.told,
         name: Place::NOWHERE,
         report: Report::Nothing,
         written: answered.reply_len,

@@ -12,7 +12,7 @@ mod supplies;
 
 use script_parts::{SCRIPT_LIMIT, bad_script};
 use std::io::Stdout;
-use streams::{Got, Run};
+use streams::Run;
 
 // Which calls are made: on a receiver that is taken and given by value, or on one that is lent and
 // changed in place.
@@ -24,10 +24,10 @@ pub enum Calls {
 
 // Plays the script on standard input. One byte more is read, so that a longer script is seen.
 pub fn run(rt: &HostRuntime, calls: Calls) -> Run {
-    let mut bytes = [0u8; SCRIPT_LIMIT + 1];
+    let mut bytes = [0; SCRIPT_LIMIT + 1];
     match streams::read_all(rt.stdin(), &mut bytes) {
-        Got::Bytes(n) => play(rt.stdout(), calls, &bytes[..n]),
-        Got::Failed => Run::NotRead,
+        Some(n) => play(rt.stdout(), calls, &bytes[..n]),
+        None => Run::NotRead,
     }
 }
 

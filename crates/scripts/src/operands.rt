@@ -81,7 +81,7 @@ fn signed(low: usize, high: usize) -> Number {
     } else {
         Number {
             negative: true,
-            magnitude: (18446744073709551615 - n) as u64 + 1,
+            magnitude: (usize::MAX - n) as u64 + 1,
         }
     }
 }

@@ -33,19 +33,12 @@ fn claimed_length(s: &[u8]) -> usize {
 }
 
 pub(crate) fn is_code(b: u8) -> bool {
-    if b < 1 {
-        return false;
-    }
-    b <= 4
+    b >= 1 && b <= 4
 }
 
 // The place k after another, or that other where there is none.
 pub(crate) fn after(at: usize, k: usize) -> usize {
-    if k <= 18446744073709551615 - at {
-        at + k
-    } else {
-        at
-    }
+    at.checked_add(k).unwrap_or(at)
 }
 
 pub(crate) fn wide(b: u8) -> usize

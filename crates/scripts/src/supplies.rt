@@ -20,13 +20,9 @@ pub(crate) fn supply(
     let mut out = buffers.out;
     let o = n.min(OUT);
     let answered = calls.supply(receiver, supplying, text, contents, &mut out[..o]);
-    let next = answered.receiver;
     Called {
-        receiver: next,
-        buffers: Buffers {
-            out: out,
-            ..buffers
-        },
+        receiver: answered.receiver,
+        buffers: Buffers { out, ..buffers },
         answer: answer_of(answered),
     }
 }
