@@ -3,7 +3,6 @@ use Prim.Native.Nat.{ℕ}
 use mathlib.Core.Path.{◌≡◌, refl, sym}
 use mathlib.Core.Bool.{true, false}
 use mathlib.Core.List.{List, [], ◌∷◌, ◌++◌, append_assoc, append-nil}
-use lib.ListN.{take}
 use Rattle.std.specs.Prelude.{Some, None}
 use Rattle.octets.specs.Ascii.{ascii}
 use Rattle.octets.specs.Split.{join}
@@ -12,6 +11,7 @@ use Rattle.frames.specs.Stream.{framed}
 use Rattle.protocol.specs.Replies.{status_word, is_held, unless_empty, size_text, status_text, reply_bytes}
 use Rattle.protocol.specs.declared.Reply.{Reply}
 use Rattle.reply.specs.Parts.{key_for, parts_of, joined}
+use Rattle.protocol.specs.Table.{id_bytes}
 
 -- each field with a `;` before it
 abbrev led : List (List ℕ) → List ℕ
@@ -48,10 +48,10 @@ reply-parts id file size word =
 -- ---- by the reply: sent, or held back
 pub sent : (r : Reply) → is_held r.status r.quiet ≡ false
     → reply_bytes (Some r)
-    ≡ joined (parts_of (take r.id_len r.id) (take r.file_id_len r.file_id)
+    ≡ joined (parts_of (id_bytes r.id) (id_bytes r.file_id)
     (size_text r.size) (Base64.text_of (status_word r.status)))
 unfolding reply_bytes
-sent r h = rw h (reply-parts (take r.id_len r.id) (take r.file_id_len r.file_id) r.size (status_word r.status))
+sent r h = rw h (reply-parts (id_bytes r.id) (id_bytes r.file_id) r.size (status_word r.status))
 
 pub none-due : reply_bytes None ≡ []
 unfolding reply_bytes

@@ -33,8 +33,8 @@ pub fn send(reply: Option<Reply>, buffer: &mut [u8]) -> usize
     let word = texts::status_text(reply.status);
     fields::put_fields(
         buffer,
-        texts::first(&reply.id, reply.id_len),
-        texts::first(&reply.file_id, reply.file_id_len),
+        reply.id.as_slice(),
+        reply.file_id.as_slice(),
         size.as_slice(),
         word.as_slice(),
     )

@@ -1,5 +1,5 @@
 // The texts of values: ids as they stand, a size in decimal digits, a status in Base64.
-ghost use Rattle.std.specs.Prelude.{◌≡◌, take};
+ghost use Rattle.std.specs.Prelude.{◌≡◌};
 ghost use Rattle.base64_codec.specs.Encode.{text_of};
 ghost use Rattle.protocol.specs.Replies.{status_word, size_text};
 ghost use Rattle.reply.specs.Texts.{text_in};
@@ -18,15 +18,8 @@ impl Text {
     pub(crate) fn as_slice(&self) -> &[u8]
         ensures { result.now ≡ text_in self.now }
     {
-        first(&self.bytes, self.len)
+        &self.bytes[..self.len.min(self.bytes.len())]
     }
-}
-
-// The first n bytes of s, or all of it where it has fewer.
-pub(crate) fn first(s: &[u8], n: usize) -> &[u8]
-    ensures { result.now ≡ take n s.now }
-{
-    &s[..n.min(s.len())]
 }
 
 // The digits of a size; none where the reply leaves it out.

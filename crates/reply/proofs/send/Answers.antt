@@ -29,11 +29,11 @@ returns-clause-buffer_after c =
     c.put_fields.ensures
     ∙ rw (
       c.in-Some.is,
-      c.first.ensures,
-      c.first-2.ensures,
       c.as_slice.ensures,
-      c.size_text-size.ensures,
       c.as_slice-2.ensures,
+      c.as_slice-3.ensures,
+      c.size_text-size.ensures,
+      c.as_slice-4.ensures,
       c.status_text-word.ensures,
     )
     (ap (λ (bs : List ℕ). written bs c.args.buffer.now) (sym (sent _ (sym c.is_held.ensures ∙ c.if-is_held.false))))
