@@ -1,13 +1,24 @@
 // The arguments: the session's id, and for each file its local path and the name that the console is told.
 use std::env::{Env, FillError};
 
-// What stands so many places after file k's pair of places, 2 k and 2 k + 1.
-pub(crate) const LOCAL: usize = 2;
+// One of them, of a file by the file's number from 0.
+#[derive(Clone, Copy)]
+pub enum Argument {
+    Session,
+    Local(usize),
+    Name(usize),
+}
 
-pub(crate) const NAME: usize = 3;
-
-// Of file 0: the session's id.
-pub(crate) const SESSION: usize = 1;
+impl Argument {
+    // Where it stands. No argument has a place that cannot be counted.
+    fn place(self) -> usize {
+        match self {
+            Argument::Session => 1,
+            Argument::Local(k) => k.saturating_mul(2).saturating_add(2),
+            Argument::Name(k) => k.saturating_mul(2).saturating_add(3),
+        }
+    }
+}
 
 // How many files there are in so many arguments, the program's name among them; none where the id is missing
 // or a path has no name.
@@ -19,11 +30,10 @@ pub(crate) fn files(count: usize) -> Option<usize> {
     }
 }
 
-// Puts a word of file k at the start of the buffer, and answers its length. Of one that is longer than the
-// buffer the first bytes fill it: what is cut here is too long in any case, and refused for that. No argument
-// has a place that cannot be counted.
-pub(crate) fn read(rt: &HostRuntime, k: usize, which: usize, buf: &mut [u8]) -> usize {
-    match rt.arg(k.saturating_mul(2).saturating_add(which), buf) {
+// Puts an argument at the start of the buffer, and answers its length. Of one that is longer than the
+// buffer the first bytes fill it: what is cut here is too long in any case, and refused for that.
+pub(crate) fn read(rt: &HostRuntime, argument: Argument, buf: &mut [u8]) -> usize {
+    match rt.arg(argument.place(), buf) {
         Ok(n) => n,
         Err(FillError::TooLong) => buf.len(),
         Err(FillError::NotPresent) => 0,

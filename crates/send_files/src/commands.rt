@@ -1,5 +1,6 @@
 // The commands: each is made by a call of the sender and written to standard output, or its refusal is
 // said. Nothing is read here.
+use crate::arguments::Argument;
 use crate::course::{Course, Current};
 use crate::source::Start;
 use crate::{arguments, report};
@@ -11,7 +12,7 @@ use streams::{Run, put_number};
 // The session begins.
 pub(crate) fn send(rt: &HostRuntime) -> Course {
     let mut id = [0u8; 4096];
-    let n = arguments::read(rt, 0, arguments::SESSION, &mut id);
+    let n = arguments::read(rt, Argument::Session, &mut id);
     let mut out = [0u8; FRAME_ROOM];
     let wrote = sender::send(Sender::fresh(), octets::part(&id, 0, n), &mut out);
     after(rt, Course::fresh(), wrote, &out, None, true)
@@ -24,7 +25,7 @@ pub(crate) fn file(rt: &HostRuntime, course: Course, k: usize, start: Start) -> 
     let mut id = [0u8; 20];
     let digits = put_number(1 + place as u64, &mut id);
     let mut name = [0u8; Command::SCRATCH_ROOM];
-    let n = arguments::read(rt, k, arguments::NAME, &mut name);
+    let n = arguments::read(rt, Argument::Name(k), &mut name);
     let mut out = [0u8; FRAME_ROOM];
     let wrote = sender::file(
         course.sender,

@@ -1,4 +1,5 @@
 // The office's session: send, each file in turn, finish, and at the end what is left to say.
+use crate::arguments::Argument;
 use crate::course::Course;
 use crate::line::Line;
 use crate::notes::Said;
@@ -35,7 +36,7 @@ fn send_each(rt: &HostRuntime, begun: Course, files: usize, line: &mut Line) -> 
 // ---- A file.
 fn file(rt: &HostRuntime, course: Course, k: usize, line: &mut Line) -> Course {
     let mut path = [0u8; 4096];
-    let n = arguments::read(rt, k, arguments::LOCAL, &mut path);
+    let n = arguments::read(rt, Argument::Local(k), &mut path);
     match open_read(rt, octets::part(&path, 0, n)) {
         Ok(mut local) => opened(rt, course, k, &mut local, line),
         Err(_) => {

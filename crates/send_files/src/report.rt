@@ -1,6 +1,7 @@
 // The lines on standard error. A terminal shows also how far the current file is, in one line that is
 // written over.
 use crate::arguments;
+use crate::arguments::Argument;
 use command::letters;
 use command::letters::Class;
 use decimal::Number;
@@ -89,7 +90,7 @@ fn end(rt: &HostRuntime, file: Option<usize>, is_kept: bool) {
     let err = rt.stderr();
     if let Some(k) = file {
         let mut path = [0u8; 4096];
-        let n = arguments::read(rt, k, arguments::LOCAL, &mut path);
+        let n = arguments::read(rt, Argument::Local(k), &mut path);
         say(err, b" ");
         say(err, octets::part(&path, 0, n));
     }
