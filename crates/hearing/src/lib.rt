@@ -2,12 +2,13 @@
 // is answered done. What happens is noted in numbers, seven a row, and the parts in bytes, each where
 // its command's text stands in the recording: a part is shorter than its text, so none touches another.
 //
-// Its commands are heard one after another (`turns`), what is told of each is noted (`noting`), and a row
-// is written and read (`row`).
+// Its commands are heard one after another (`turns`), what is told of each (`sighted`) is noted (`noting`),
+// and a row is written and read (`row`).
 #![tactic(auto)]
 
 mod noting;
 mod row;
+mod sighted;
 mod turns;
 
 ghost use Rattle.std.specs.Prelude.{◌≡◌, length};

@@ -7,29 +7,30 @@ ghost use Rattle.hearing.specs.Rows.{kind_number};
 ghost use Rattle.hearing.specs.Rows.{place as placed};
 ghost use Rattle.hearing.specs.Steps as Steps;
 
+use crate::sighted::Sighted;
 use crate::{Kind, Row};
-use command::{Command, FileType, Place};
+use command::{FileType, Place};
 use protocol::{Ask, Told};
 
-// By what is told of a command, whose text starts at a place: how many rows there are then.
+// By what is told of a command: how many rows there are then. The rows' numbers and the bytes are lent each
+// by itself: through a struct of the two each clause would be longer.
 #[tactic(auto, unfolding(crate::specs::Steps::told_noted, crate::specs::Steps::ask_noted))]
 pub(crate) fn told(
     told: Told,
-    command: Command,
-    from: usize,
-    scratch: &[u8],
+    sighted: Sighted,
     rows: usize,
     events: &mut [usize],
     bytes: &mut [u8],
 ) -> usize
-    requires { (rows ≤ recording_limit) × Steps.Near from command }
+    requires { rows ≤ recording_limit }
     ensures { Steps.noted result events.new bytes.new
-        ≡ Steps.told_noted told command from scratch.now rows events.old bytes.old }
+        ≡ Steps.told_noted told sighted.entry.command sighted.entry.from sighted.entry.scratch.now rows
+        events.old bytes.old }
 {
     match told {
-        Told::Ask(Ask::Open) => start(command, from, rows, events),
+        Told::Ask(Ask::Open) => start(sighted, rows, events),
         Told::Ask(Ask::Write(place) | Ask::WriteLast(place)) => {
-            part(place, command, from, scratch, rows, events, bytes)
+            part(place, sighted, rows, events, bytes)
         }
         _ => rows,
     }
@@ -37,14 +38,15 @@ pub(crate) fn told(
 
 // "A directory has no start."
 #[tactic(auto, unfolding(crate::specs::Steps::start_noted))]
-fn start(command: Command, from: usize, rows: usize, events: &mut [usize]) -> usize
-    requires { (rows ≤ recording_limit) × Steps.Near from command }
-    ensures { outcome result events.new ≡ Steps.start_noted command from rows events.old }
+fn start(sighted: Sighted, rows: usize, events: &mut [usize]) -> usize
+    requires { rows ≤ recording_limit }
+    ensures { outcome result events.new
+        ≡ Steps.start_noted sighted.entry.command sighted.entry.from rows events.old }
 {
-    if !is_regular(command.file_type) {
+    if !is_regular(sighted.command.file_type) {
         return rows;
     }
-    put_row(events, rows, Kind::Start, from, command, 0);
+    put_row(events, rows, Kind::Start, sighted, 0);
     rows + 1
 }
 
@@ -52,20 +54,19 @@ fn start(command: Command, from: usize, rows: usize, events: &mut [usize]) -> us
 #[tactic(auto, unfolding(crate::specs::Steps::part_noted))]
 fn part(
     place: Place,
-    command: Command,
-    from: usize,
-    scratch: &[u8],
+    sighted: Sighted,
     rows: usize,
     events: &mut [usize],
     bytes: &mut [u8],
 ) -> usize
-    requires { (rows ≤ recording_limit) × Steps.Near from command }
+    requires { rows ≤ recording_limit }
     ensures { Steps.noted result events.new bytes.new
-        ≡ Steps.part_noted place command from scratch.now rows events.old bytes.old }
+        ≡ Steps.part_noted place sighted.entry.command sighted.entry.from sighted.entry.scratch.now rows
+        events.old bytes.old }
 {
-    let bs = octets::part(scratch, place.start, place.len);
-    octets::copy_at(bs, bytes, from);
-    put_row(events, rows, Kind::Part, from, command, bs.len());
+    let bs = octets::part(sighted.scratch, place.start, place.len);
+    octets::copy_at(bs, bytes, sighted.from);
+    put_row(events, rows, Kind::Part, sighted, bs.len());
     rows + 1
 }
 
@@ -78,16 +79,20 @@ fn is_regular(kind: FileType) -> bool
 // A row, where it fits: its kind, where the ids of the command stand in the recording, and where its
 // part stands in the bytes.
 #[tactic(auto, unfolding(crate::specs::Steps::with_row))]
-fn put_row(events: &mut [usize], row: usize, kind: Kind, from: usize, command: Command, len: usize)
-    requires { (row ≤ recording_limit) × Steps.Near from command }
-    ensures { events.new ≡ Steps.with_row events.old row (kind_number kind) from command len }
+fn put_row(events: &mut [usize], row: usize, kind: Kind, sighted: Sighted, len: usize)
+    requires { row ≤ recording_limit }
+    ensures { events.new
+        ≡ Steps.with_row events.old row (kind_number kind) sighted.entry.from sighted.entry.command len }
 {
     if octets::fits(row * Row::LEN, Row::LEN, events.len()) {
         let noted = Row {
             kind,
-            id: moved(command.id, from),
-            file_id: moved(command.file_id, from),
-            part: Place { start: from, len },
+            id: moved(sighted.command.id, sighted.from),
+            file_id: moved(sighted.command.file_id, sighted.from),
+            part: Place {
+                start: sighted.from,
+                len,
+            },
         };
         noted.write(events, row);
     }

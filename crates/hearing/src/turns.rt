@@ -6,6 +6,7 @@ ghost use Rattle.protocol.specs.Sessions.{decided_of};
 ghost use Rattle.hearing.specs.Hearing.{answered_by};
 ghost use Rattle.hearing.specs.Steps as Steps;
 
+use crate::sighted::Sighted;
 use crate::{Row, noting};
 use command::Command;
 use protocol::{Decision, Table, Told};
@@ -80,34 +81,39 @@ fn text(
     let from = start + 2;
     let text = &recording[from..end - 2];
     match command_reader::read(text, scratch) {
-        Ok(command) => obeyed(reached, command, from, end, text, scratch, events, bytes),
+        Ok(command) => {
+            let sighted = Sighted {
+                command,
+                from,
+                text,
+                scratch,
+            };
+            obeyed(reached, sighted, end, events, bytes)
+        }
         Err(_) => Reached { at: end, ..reached },
     }
 }
 
-// A command, whose text starts at a place and whose frame ends at another, is obeyed, and what it tells
-// is noted and answered.
+// A command, whose frame ends at a place, is obeyed, and what it tells is noted and answered.
 #[tactic(auto, unfolding(crate::specs::Steps::command_turn))]
 fn obeyed(
     reached: Reached,
-    command: Command,
-    from: usize,
+    sighted: Sighted,
     end: usize,
-    text: &[u8],
-    scratch: &[u8],
     events: &mut [usize],
     bytes: &mut [u8],
 ) -> Reached
-    requires { (reached.rows ≤ recording_limit) × Steps.Near from command }
+    requires { reached.rows ≤ recording_limit }
     ensures { Steps.course result events.new bytes.new
-        ≡ Steps.command_turn reached command from end text.now scratch.now
-        events.old bytes.old }
+        ≡ Steps.command_turn reached sighted.entry.command sighted.entry.from end sighted.entry.text.now
+        sighted.entry.scratch.now events.old bytes.old }
 {
-    let next = sessions::obey(reached.table, command, text, scratch);
+    let command = sighted.command;
+    let next = sessions::obey(reached.table, command, sighted.text, sighted.scratch);
     let told = next.told;
-    let rows = noting::told(told, command, from, scratch, reached.rows, events, bytes);
+    let rows = noting::told(told, sighted, reached.rows, events, bytes);
     let table = sessions::next::put(reached.table, next);
-    let id = octets::part(text, command.id.start, command.id.len);
+    let id = octets::part(sighted.text, command.id.start, command.id.len);
     Reached {
         at: end,
         rows,

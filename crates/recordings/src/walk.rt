@@ -36,6 +36,7 @@ pub(crate) fn over(recording: &[u8], output: &mut [u8], list: &mut [usize]) -> T
 }
 
 impl Tally {
+    // No derived Default: an answer cannot cite what that ensures.
     pub const START: Tally = Tally {
         at: 0,
         mark: 0,

@@ -71,6 +71,9 @@ fn first_row(
 }
 
 // The lines of the starts that only the second has, from a line on.
+//
+// This walk and the first's stay two: a step as a closure would change the two buffers that it captures, and
+// of such calls the loop's proof would know nothing.
 fn seconds(first: Side, second: Side, list: &mut [usize], from: usize) -> usize
     requires { (length second.events.now ≤ recording_limit) × (from ≤ recording_limit) }
     ensures { (result ≤ recording_limit + recording_limit) × Writes (second_lines []
