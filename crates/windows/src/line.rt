@@ -1,7 +1,7 @@
 // A line of the list, as six numbers and read from them.
 ghost use Rattle.std.specs.Prelude.{◌≡◌, ◌+◌, ◌*◌, ◌≤◌, length};
 ghost use Rattle.std.proofs.lemmas.List.Edits.{sets};
-ghost use Rattle.windows.specs.Lines.{judgement_number, judgement_offset, line_numbers};
+ghost use Rattle.windows.specs.Lines.{judgement_number, judgement_offset, judgement_of, line_numbers, line_in, WrittenReads};
 
 use command::Place;
 use recordings::Mended;
@@ -39,7 +39,9 @@ impl Judgement {
     }
 
     // What has this number, and this offset.
-    fn of(number: usize, offset: usize) -> Judgement {
+    fn of(number: usize, offset: usize) -> Judgement
+        ensures { result ≡ judgement_of number offset }
+    {
         match number {
             1 => Judgement::OnlyFirst,
             2 => Judgement::OnlySecond,
@@ -67,7 +69,10 @@ impl Line {
     // How many bytes a recording has at most.
     pub const LIMIT: usize = Mended::LIMIT;
 
-    pub fn read(numbers: &[usize; Line::LEN]) -> Line {
+    pub fn read(numbers: &[usize; Line::LEN]) -> Line
+        ensures line { result ≡ line_in numbers.now }
+        ensures written_reads { WrittenReads }
+    {
         let [number, offset, id, id_len, file, file_len] = *numbers;
         Line {
             found: Judgement::of(number, offset),
