@@ -53,7 +53,9 @@ value-spelled (a-base64 {v = x ∷ v} padding d z) =
 -- a number other than 0 is not written `0`
 zero-text : (n : Number) → Decimal.writable n ≡ true → Decimal.text_of n ≡ ascii "0" → n.magnitude ≡ 0
 unfolding parse_of starts_with magnitude_of digits_of ranged_of
-zero-text n w e = let p : ◌≡◌ {A = Result Number ParseError} (Ok (count 0)) (Ok n) = rw e at (decimal.read-written n w) in let q : count 0 ≡ n = cc in rw (← q)
+zero-text n w e =
+    let p : ◌≡◌ {A = Result Number ParseError} (Ok (count 0)) (Ok n) = rw e at (decimal.read-written n w) in
+    let q : count 0 ≡ n = cc in rw (← q)
 
 pub spelled-canonical : {k : Kind} {v : Value} {t : List ℕ} → Spelled k v t → CanonicalValue k t
 spelled-canonical (Spelled.word {unknown} {first} {ws} {aliases} {n} s z i e) =

@@ -1,6 +1,5 @@
 pub mod Cases
 pub mod Every
-mod Ranges
 pub mod Runs
 pub mod Names
 pub mod Calm

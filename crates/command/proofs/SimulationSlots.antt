@@ -34,7 +34,8 @@ module _ {H : Key → Option Slot → Field → Type 0} where
   each_at zero l (more h e) = h
   each_at (suc n) l (more h e) = each_at n (omega arith) e
 
-  pub each_set : {ks : List Key} {ss : List (Option Slot)} {fs : List Field} {s : Option Slot} {f : Field} (n : ℕ) → Each H ks ss fs → H (key_at ks n) s f
+  pub each_set : {ks : List Key} {ss : List (Option Slot)} {fs : List Field} {s : Option Slot} {f : Field} (n : ℕ)
+      → Each H ks ss fs → H (key_at ks n) s f
       → Each H ks (set ss n s) (set fs n f)
   each_set n none g = none
   each_set zero (more h e) g = more g e
@@ -92,7 +93,8 @@ module _ (t scratch : List ℕ) where
         (code : ℕ → ℕ) (end : ℕ)
         → codes_end (first + length ws) aliases ≡ end → 0 < end → Below.all end (λ n. eqb (code n) n) ≡ true
         → Holds t scratch used (record { name = name; kind = Kind.word unknown first ws aliases }) s f
-        → Value.number (count (code (held s).number.magnitude)) ≡ value_in (record { name = name; kind = Kind.word unknown first ws aliases }) f
+        → Value.number (count (code (held s).number.magnitude))
+        ≡ value_in (record { name = name; kind = Kind.word unknown first ws aliases }) f
     coded {s} code end q p e h =
         let w = word_slot (rw q p) h in
         let m = (held s).number.magnitude in

@@ -1,5 +1,6 @@
 -- Reading a text into slots and the scratch: what `read` answers, and the scratch afterwards.
-use Rattle.std.specs.Prelude.{ℕ, Option, Some, is_some, Result, Ok, Err, ◌+◌, ◌≤◌, ◌≡◌, cond, ◌||◌, List, [], ◌∷◌, length, get_or, set, ltb, eqb}
+use Rattle.std.specs.Prelude.{Option, Some, is_some, Result, Ok, Err}
+use Rattle.std.specs.Prelude.{ℕ, ◌+◌, ◌≤◌, ◌≡◌, cond, ◌||◌, List, [], ◌∷◌, length, get_or, set, ltb, eqb}
 use Rattle.std.proofs.lemmas.List.Edits.{sets}
 use Rattle.octets.specs.Outcome.{Outcome, outcome}
 use Rattle.command.specs.Keys.{Kind, Key, keys, kind_at}

@@ -116,51 +116,37 @@ impl Place {
     pub const NOWHERE: Place = Place { start: 0, len: 0 };
 }
 
-// Why a text is not read, or a command not written.
+// Why a text is not read, or a command not written, each with its number in the tables of documents 01
+// and 02.
 #[derive(Clone, Copy, PartialEq, Eq, Debug)]
 pub enum Refusal {
-    TextTooLong,
-    BadByte,
-    BadField,
-    Repeated,
-    UnknownWord,
-    UnsafeCharacter,
-    MalformedInteger,
-    OutOfRange,
-    Base64Length,
-    Base64Character,
-    UnusedBits,
-    Missing,
-    TooLong,
-    ShortBuffer,
+    TextTooLong = 1,
+    BadByte = 3,
+    BadField = 4,
+    Repeated = 5,
+    UnknownWord = 61,
+    UnsafeCharacter = 62,
+    MalformedInteger = 63,
+    OutOfRange = 64,
+    Base64Length = 65,
+    Base64Character = 66,
+    UnusedBits = 67,
+    Missing = 7,
+    TooLong = 8,
+    ShortBuffer = 9,
 }
 
 impl Refusal {
-    // Its number in the tables of documents 01 and 02.
+    // Its number.
     pub fn number(self) -> u8
         ensures { result ≡ refusal_number self }
     {
-        match self {
-            Refusal::TextTooLong => 1,
-            Refusal::BadByte => 3,
-            Refusal::BadField => 4,
-            Refusal::Repeated => 5,
-            Refusal::UnknownWord => 61,
-            Refusal::UnsafeCharacter => 62,
-            Refusal::MalformedInteger => 63,
-            Refusal::OutOfRange => 64,
-            Refusal::Base64Length => 65,
-            Refusal::Base64Character => 66,
-            Refusal::UnusedBits => 67,
-            Refusal::Missing => 7,
-            Refusal::TooLong => 8,
-            Refusal::ShortBuffer => 9,
-        }
+        self as u8
     }
 }
 
 // One field of a command, whichever its key: a word's code or an integer, and a string's place. What a
-// key's kind does not use is zero.
+// key's kind does not use is zero; no enum says which it is, since the kind does.
 #[derive(Clone, Copy)]
 pub struct Slot {
     pub number: Number,

@@ -76,7 +76,8 @@ base64-some l p b h n =
     (text-some (Base64.text_of t) (λ e. n (omega (arith, length-text t, size))))
 
 -- ---- an integer that is not 0, put or refused
-pub integer_put : (name : List ℕ) (n : Number) {l m : List ℕ} {o p : ℕ} (after : List ℕ) (q : ℕ) (r : Result (Unit {0}) Refusal) → 0 < n.magnitude
+pub integer_put : (name : List ℕ) (n : Number) {l m : List ℕ} {o p : ℕ} (after : List ℕ) (q : ℕ) (r : Result (Unit {0}) Refusal)
+    → 0 < n.magnitude
     → Put (59 ∷ name ++ 61 ∷ []) l o p m → PutOr (before (integer_shown n) Checked.fine) (text_of n) m p r q after
     → PutOr (before (integer_shown n) Checked.fine) (piece name (integer_shown n)) l o r q after
 unfolding integer_shown

@@ -74,8 +74,9 @@ loop-at-preserved c =
     let v = take (f.end - f.from) (drop f.from c.args.text.now) in
     elim c.match-field.branch [
       | in-Some+else-is_some+in_ok-kept w ↦
-          let r = room w.in-Some.n f.from v w.keep.new.scratch s w.keep.result (sym w.is_some.ensures ∙ w.if-is_some.false) w.keep.ensures in
-          let t = told w.in-Some.n f.from v w.keep.new.scratch s w.keep.result (sym w.is_some.ensures ∙ w.if-is_some.false) w.keep.ensures in
+          let free = sym w.is_some.ensures ∙ w.if-is_some.false in
+          let r = room w.in-Some.n f.from v w.keep.new.scratch s w.keep.result free w.keep.ensures in
+          let t = told w.in-Some.n f.from v w.keep.new.scratch s w.keep.result free w.keep.ensures in
           let on = rw (w.in-Some.is, ← t, w.in_ok-kept.was) at (e.4 s) in (
             omega arith,
             omega arith,

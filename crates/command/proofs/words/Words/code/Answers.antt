@@ -13,12 +13,14 @@ loop-alias-init c = let a = c.args in no-word a.self.now a.text.now (sym c.place
 pub returns-then-equal : goal.returns-then-equal
 returns-then-equal c =
     let a = c.args in
-    alias-code a.self.now a.text.now c.loop-alias.alias-index _ (omega arith) c.loop-alias.invariant (sym c.equal.ensures ∙ c.if-equal.true)
+    alias-code a.self.now a.text.now c.loop-alias.alias-index _ (omega arith) c.loop-alias.invariant
+    (sym c.equal.ensures ∙ c.if-equal.true)
 
 pub loop-alias-preserved : goal.loop-alias-preserved
 loop-alias-preserved c =
     let a = c.args in
-    other-alias a.self.now a.text.now c.loop-alias.alias-index _ (omega arith) c.loop-alias.invariant (sym c.equal.ensures ∙ c.if-equal.false)
+    other-alias a.self.now a.text.now c.loop-alias.alias-index _ (omega arith) c.loop-alias.invariant
+    (sym c.equal.ensures ∙ c.if-equal.false)
 
 pub returns : goal.returns
 returns c = let a = c.args in no-alias a.self.now a.text.now c.loop-alias.alias-index (omega arith) c.loop-alias.invariant
