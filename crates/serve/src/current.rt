@@ -1,22 +1,19 @@
 // The receive session that has its turn. The receiver keeps no names: what it named is kept here.
 use crate::{arguments, files};
-use protocol::Session;
-use session_rule::ids::{padded, same_id};
+use protocol::{Id, Session};
 
 // A path that the session named: the id that it gave it, its number among the arguments, and the size that
 // it is listed with, which is 0 for none; or that it is not listed.
 #[derive(Clone, Copy)]
 pub struct Path {
-    pub id: [u8; 32],
-    pub id_len: usize,
+    pub id: Id,
     pub argument: usize,
     pub listed: Option<u64>,
 }
 
 impl Path {
     pub const NONE: Path = Path {
-        id: [0; 32],
-        id_len: 0,
+        id: Id::NONE,
         argument: 0,
         listed: None,
     };
@@ -26,8 +23,7 @@ impl Path {
 // program has fixed memory too, so the paths are an array with how many of it are there.
 #[derive(Clone, Copy)]
 pub struct Current {
-    pub id: [u8; 32],
-    pub id_len: usize,
+    pub id: Id,
     pub is_good: bool,
     pub count: usize,
     pub paths: [Path; Session::FILES],
@@ -37,8 +33,7 @@ impl Current {
     // It has its turn from here on.
     pub(crate) fn begun(id: &[u8]) -> Current {
         Current {
-            id: padded(id),
-            id_len: id.len(),
+            id: Id::of(id),
             is_good: true,
             count: 0,
             paths: [Path::NONE; Session::FILES],
@@ -47,7 +42,7 @@ impl Current {
 
     // Whether it is the one with this id.
     pub(crate) fn is(&self, id: &[u8]) -> bool {
-        same_id(self.id, self.id_len, id)
+        self.id.is(id)
     }
 
     // It names one more path. One that is no argument spoils it. The receiver takes no more paths than there
@@ -56,8 +51,7 @@ impl Current {
         match arguments::find(rt, name) {
             Some(argument) if self.count < Session::FILES => {
                 self.paths[self.count] = Path {
-                    id: padded(id),
-                    id_len: id.len(),
+                    id: Id::of(id),
                     argument,
                     listed: None,
                 };

@@ -4,7 +4,7 @@ use crate::current::{Current, Path};
 use crate::{arguments, report};
 use command::{FileType, Place, ZERO};
 use decimal::Number;
-use protocol::{Entry, Failure, Reply, Session};
+use protocol::{Entry, Failure, Id, Reply, Session};
 use std::io::Stderr;
 use streams::put_number;
 use supplying::Supplying;
@@ -16,7 +16,7 @@ const PERMISSIONS: Number = Number {
 };
 
 // Where the path's id stands behind the session's.
-const PATH_ID: usize = 32;
+const PATH_ID: usize = Id::ROOM;
 
 // Where the name stands behind the file's own id.
 const NAME: usize = 20;
@@ -42,8 +42,7 @@ pub(crate) fn open(rt: &HostRuntime, console: Console, current: Current) -> Cons
 
 fn allow(err: Stderr, console: Console, current: Current) -> Console {
     let mut reply = [0u8; Reply::ROOM];
-    let id = octets::part(&current.id, 0, current.id_len);
-    let answered = receiver::allow(console.receiver, id, &mut reply);
+    let answered = receiver::allow(console.receiver, current.id.as_slice(), &mut reply);
     put(err, console, answered, &reply)
 }
 
@@ -66,7 +65,7 @@ fn list(
     let text = ids(current, path);
     match path.listed {
         Some(size) => {
-            let described = describe(rt, current.id_len, path, size, number);
+            let described = describe(rt, current.id.len, path, size, number);
             supply(
                 rt.stderr(),
                 console,
@@ -75,7 +74,7 @@ fn list(
                 &described.contents,
             )
         }
-        None => list_failed(rt.stderr(), console, current.id_len, path.id_len, &text),
+        None => list_failed(rt.stderr(), console, current.id.len, path.id.len, &text),
     }
 }
 
@@ -85,7 +84,7 @@ fn describe(rt: &HostRuntime, id_len: usize, path: Path, size: u64, number: usiz
     let digits = put_number(number as u64, &mut contents[..NAME]);
     let n = arguments::read(rt, path.argument, &mut contents[NAME..]);
     Described {
-        entry: entry(id_len, path.id_len, digits, n, size),
+        entry: entry(id_len, path.id.len, digits, n, size),
         contents,
     }
 }
@@ -143,15 +142,14 @@ fn list_failed(
 }
 
 // The session's id and the path's.
-fn ids(current: Current, path: Path) -> [u8; 64] {
-    let mut text = [0u8; 64];
-    text[..PATH_ID].copy_from_slice(&current.id);
-    text[PATH_ID..].copy_from_slice(&path.id);
+fn ids(current: Current, path: Path) -> [u8; 2 * Id::ROOM] {
+    let mut text = [0u8; 2 * Id::ROOM];
+    text[..PATH_ID].copy_from_slice(&current.id.bytes);
+    text[PATH_ID..].copy_from_slice(&path.id.bytes);
     text
 }
 
 // The listing ends with the home path.
 fn home(err: Stderr, console: Console, current: Current) -> Console {
-    let id = octets::part(&current.id, 0, current.id_len);
-    supply(err, console, Supplying::Home, id, b"/")
+    supply(err, console, Supplying::Home, current.id.as_slice(), b"/")
 }
