@@ -42,13 +42,14 @@ pub enum FileState {
 }
 
 // A file record: a length of 0 was not declared. It holds no file type: what was opened is told from the
-// command read.
+// command read. The state is last, so that free records are written as one run of zeros: with room between
+// it and the id a compiler writes them one by one, and takes each session apart.
 #[derive(Clone, Copy)]
 pub struct FileRecord {
-    pub state: FileState,
     pub id: Id,
     pub count: u64,
     pub declared: u64,
+    pub state: FileState,
 }
 
 // A send session is asked and then open. A receive session names its paths, waits for the user, and is
@@ -303,10 +304,10 @@ impl FileRecord {
     pub const PART_LIMIT: usize = 4096;
 
     pub const FREE: FileRecord = FileRecord {
-        state: FileState::Free,
         id: Id::NONE,
         count: 0,
         declared: 0,
+        state: FileState::Free,
     };
 }
 
