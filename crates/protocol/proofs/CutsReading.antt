@@ -19,7 +19,7 @@ use Rattle.command.proofs.ReadValues.{of_text}
 use Rattle.command.proofs.SimulationFields.{Agree, on, off, text-agree}
 use Rattle.command.proofs.Simulation.{read-means}
 use Rattle.protocol.specs.Sessions.{string_in}
-use Rattle.protocol.proofs.Refusals.{meaning-refusal}
+use Rattle.protocol.proofs.TextLaws.{meaning-refusal}
 use Rattle.protocol.proofs.Means.{string-means}
 
 -- ---- the answer

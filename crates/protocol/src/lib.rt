@@ -7,6 +7,7 @@
 
 mod actions;
 mod id;
+pub mod refusals;
 
 ghost use Rattle.std.specs.Prelude.{◌≡◌};
 ghost use Rattle.protocol.specs.Claim.{EveryHistory};
@@ -187,7 +188,7 @@ pub enum Decision {
 #[derive(Clone, Copy)]
 pub enum Told {
     Nothing,
-    // A refusal, by its number in document 01.
+    // A refusal, by its number in document 01 (`refusals`).
     Refused(u8),
     // A command was read, and the rule ignores it.
     Ignored,

@@ -9,6 +9,7 @@ ghost use Rattle.receiver.specs.Said.{read_said, text_said, said_of};
 
 use command::Command;
 use frames::Report;
+use protocol::refusals::{SHORT_BUFFER, TEXT_BROKEN_OFF, TEXT_TOO_LONG};
 use protocol::{Table, Told};
 use sessions::next::Next;
 
@@ -20,7 +21,8 @@ pub(crate) struct Acted {
 }
 
 // What a report says, given its text: the command that was read, or what is told alone. It touches no
-// table.
+// table. Its three numbers stand in `sender_status` too: one function for both would answer an Option, to
+// be taken apart before the texts are, which is no plainer than three lines.
 #[tactic(auto, unfolding(crate::specs::Said::said_of))]
 pub fn hear(report: Report, text: &[u8], scratch: &mut [u8]) -> Result<Command, Told>
     ensures { outcome result scratch.new ≡ said_of report text.now scratch.old }
@@ -28,9 +30,9 @@ pub fn hear(report: Report, text: &[u8], scratch: &mut [u8]) -> Result<Command, 
     match report {
         Report::Nothing => Err(Told::Nothing),
         Report::InPiece(_, _) | Report::InCarry(_) => hear_text(text, scratch),
-        Report::TooLong => Err(Told::Refused(1)),
-        Report::Abandoned => Err(Told::Refused(2)),
-        Report::ShortCarry => Err(Told::Refused(9)),
+        Report::TooLong => Err(Told::Refused(TEXT_TOO_LONG)),
+        Report::Abandoned => Err(Told::Refused(TEXT_BROKEN_OFF)),
+        Report::ShortCarry => Err(Told::Refused(SHORT_BUFFER)),
     }
 }
 

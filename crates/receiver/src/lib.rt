@@ -19,10 +19,10 @@ ghost use Rattle.protocol.specs.Machine.{ours};
 ghost use Rattle.protocol.specs.Promises.{EveryCall};
 
 use acts::act;
+use protocol::refusals::{ASK_OWED, SHORT_BUFFER};
 use protocol::{Answered, Decision, Failure, Fed, Receiver};
 use replies::{answered, fed, guarded, is_short, refused};
 pub use supplies::{home, last_part, list, list_failed, part};
-use supplying::refusals::{ASK_OWED, SHORT_BUFFER};
 
 // Takes one piece through the first thing to report. 9 and then 10 consume nothing. What every call
 // promises by itself stands here too: a refused one changes nothing, a feed goes on, replies are short.

@@ -11,9 +11,9 @@ ghost use Rattle.receiver.specs.Fed.{fed_with};
 use crate::acts::Acted;
 use command::Command;
 use frames::{Framing, Report, Scanned};
+use protocol::refusals::SHORT_BUFFER;
 use protocol::{Answered, Fed, Receiver, Reply, Table, Told};
 use sessions::next::{Next, put};
-use supplying::refusals::SHORT_BUFFER;
 
 // Whether a buffer is too short for a feed.
 pub fn is_short(carry: usize, scratch: usize, reply: usize) -> bool

@@ -9,6 +9,7 @@ ghost use Rattle.sender.specs.Gates.{gate_of};
 use command::{Command, Refusal};
 use command_writer::framed::FRAME_ROOM;
 use frames::{Framing, Report, Scanned};
+use protocol::refusals::{OUT_OF_TURN, OVER_LIMIT, SHORT_BUFFER};
 use sending::{Heeded, Listened, News, Sender, Transfer, Wrote};
 
 // The refusal of a call that writes, before the writer's: 9 of a short buffer, 17 of what is over a limit,
@@ -18,12 +19,12 @@ pub(crate) fn gate(len: usize, over: bool, ready: bool) -> Option<u8>
     ensures { result ≡ gate_of len over ready }
 {
     if len < FRAME_ROOM {
-        return Some(9);
+        return Some(SHORT_BUFFER);
     }
     if over {
-        return Some(17);
+        return Some(OVER_LIMIT);
     }
-    if ready { None } else { Some(18) }
+    if ready { None } else { Some(OUT_OF_TURN) }
 }
 
 // Nothing is written and nothing changed.

@@ -151,5 +151,9 @@ fn ids(own: [u8; Id::ROOM], file: &[u8]) -> [u8; 2 * Id::ROOM]
 pub(crate) fn long_refusal(id: &[u8]) -> u8
     ensures { result ≡ long_refusal id.now }
 {
-    if letters::all(Class::Safe, id) { 8 } else { 62 }
+    if letters::all(Class::Safe, id) {
+        Refusal::TooLong.number()
+    } else {
+        Refusal::UnsafeCharacter.number()
+    }
 }

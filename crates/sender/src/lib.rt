@@ -15,6 +15,7 @@ ghost use Rattle.octets.specs.Outcome.{outcome};
 ghost use Rattle.sending.specs.Calls.{send_of, file_of, piece_of, finish_of, listening, hear_of};
 
 use answers::{gate, refused, wrote};
+use protocol::refusals::SHORT_BUFFER;
 use protocol::{FileRecord, Id};
 use sender_status::on_report;
 use sender_status::stages::is_fresh;
@@ -104,7 +105,7 @@ pub fn hear(sender: Sender, piece: &[u8], carry: &mut [u8], scratch: &mut [u8]) 
         ≡ hear_of sender piece.now carry.old scratch.old }
 {
     if answers::is_short(carry.len(), scratch.len()) {
-        return answers::unheard(sender, 9);
+        return answers::unheard(sender, SHORT_BUFFER);
     }
     let scanned = frames::scan(sender.framing, piece, carry);
     let report = scanned.report;

@@ -16,6 +16,7 @@ ghost use Rattle.sending.specs.Calls.{read_heed, text_heed, report_heed};
 
 use commands::on_command;
 use frames::Report;
+use protocol::refusals::{SHORT_BUFFER, TEXT_BROKEN_OFF, TEXT_TOO_LONG};
 use sending::{Heeded, News, Transfer};
 use statuses::still;
 
@@ -27,9 +28,9 @@ pub fn on_report(transfer: Transfer, report: Report, text: &[u8], scratch: &mut 
     match report {
         Report::Nothing => still(transfer, News::Nothing),
         Report::InPiece(_, _) | Report::InCarry(_) => on_text(transfer, text, scratch),
-        Report::TooLong => still(transfer, News::Refused(1)),
-        Report::Abandoned => still(transfer, News::Refused(2)),
-        Report::ShortCarry => still(transfer, News::Refused(9)),
+        Report::TooLong => still(transfer, News::Refused(TEXT_TOO_LONG)),
+        Report::Abandoned => still(transfer, News::Refused(TEXT_BROKEN_OFF)),
+        Report::ShortCarry => still(transfer, News::Refused(SHORT_BUFFER)),
     }
 }
 

@@ -7,11 +7,11 @@ ghost use Rattle.session_in_place.specs.Calls.{change_by, next_at, next_for, ans
 use crate::Call;
 use crate::steps::{Left, leave, stay};
 use command::Place;
+use protocol::refusals::{NO_SESSION, NOTHING_OWED, OUT_OF_TURN, SHORT_BUFFER};
 use protocol::{Change, Decision, Due, Reply, Session, Table, Told};
 use session_rule::{answers, decisions};
 use sessions::find::find;
 use sessions::next::{Next, step};
-use supplying::refusals::{NO_SESSION, NOTHING_OWED, OUT_OF_TURN, SHORT_BUFFER};
 
 // The session that a call concerns: allow, deny and drop the one with the id, the others the one that
 // owes.

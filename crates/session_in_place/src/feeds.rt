@@ -11,6 +11,7 @@ use crate::steps::{Left, leave, stay};
 use command::{Action, Command};
 use decimal::Number;
 use frames::{Framing, Report, Scanned};
+use protocol::refusals::{ASK_OWED, SHORT_BUFFER};
 use protocol::{Due, Kind, Session, SessionState, Status, Told};
 use receiver::acts;
 use receiver::replies::is_short;
@@ -19,7 +20,6 @@ use session_rule::replies::session_reply;
 use sessions::absent::{asked, bad_paths, naming};
 use sessions::find::{find, free};
 use sessions::next::Next;
-use supplying::refusals::{ASK_OWED, SHORT_BUFFER};
 
 // What a piece says: the framing afterwards, how much of it is used, where its text stands; the command
 // that was read, or what is told where none was; and the session that the command concerns.

@@ -4,6 +4,7 @@ ghost use Rattle.protocol.specs.Rule.{is_asked, opened_from, decided_by};
 
 use crate::changes::{drops, tells, turns};
 use crate::replies::session_reply;
+use protocol::refusals::NO_SESSION;
 use protocol::{Change, Decision, Session, SessionState, Status, Told};
 
 // Allow opens an asked session, "reply OK"; deny drops it, "reply EPERM"; any session present may be
@@ -14,7 +15,7 @@ pub fn decide(decision: Decision, session: Session) -> Change
 {
     match decision {
         Decision::Drop => drops(Told::Nothing, None),
-        _ if !is_asked(session.state) => tells(Told::Refused(12), None),
+        _ if !is_asked(session.state) => tells(Told::Refused(NO_SESSION), None),
         Decision::Allow => turns(
             opened_from(session.state),
             Some(session_reply(Status::Ok, session)),

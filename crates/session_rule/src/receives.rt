@@ -9,6 +9,7 @@ use crate::changes::{opens, settles, tells};
 use crate::file::{file_status, if_new, opening};
 use crate::files::{file_at, free_file};
 use crate::replies::file_reply;
+use protocol::refusals::OUT_OF_TURN;
 use protocol::{Change, Due, Edit, FileRecord, FileState, News, Session, Status, Told};
 
 // "an empty or known fid or a bad name gets 01's status and doesn't count"
@@ -90,7 +91,7 @@ pub(crate) fn fail_request(session: Session, status: Status) -> Change
 pub(crate) fn out_of_turn() -> Change
     ensures { result ≡ out_of_turn }
 {
-    tells(Told::Refused(18), None)
+    tells(Told::Refused(OUT_OF_TURN), None)
 }
 
 // A path that is named, or a file that is asked for.

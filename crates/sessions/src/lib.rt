@@ -25,6 +25,7 @@ use command::{Command, Place};
 use find::find_session;
 use next::{Next, step, tell};
 use places::session_at;
+use protocol::refusals::{NO_SESSION, NOTHING_OWED, OUT_OF_TURN};
 use protocol::{Decision, Due, Failure, Session, Table, Told};
 use session_rule::{answers, commands, decisions};
 
@@ -70,7 +71,7 @@ pub fn done(table: Table) -> Next
     ensures { taken table result ≡ settle_done table }
 {
     let Some((i, due)) = table.owed else {
-        return tell(table, Told::Refused(11));
+        return tell(table, Told::Refused(NOTHING_OWED));
     };
     let session = session_at(table, i);
     let change = answers::done(session, due);
@@ -83,7 +84,7 @@ pub fn failed(table: Table, failure: Failure) -> Next
     ensures { taken table result ≡ settle_failed table failure }
 {
     let Some((i, due)) = table.owed else {
-        return tell(table, Told::Refused(11));
+        return tell(table, Told::Refused(NOTHING_OWED));
     };
     let session = session_at(table, i);
     let change = answers::failed(failure, session, due);
@@ -96,7 +97,7 @@ pub fn unlisted(table: Table) -> Next
     ensures { taken table result ≡ settle_unlisted table }
 {
     let Some((i, due)) = table.owed else {
-        return tell(table, Told::Refused(18));
+        return tell(table, Told::Refused(OUT_OF_TURN));
     };
     let session = session_at(table, i);
     let change = answers::unlisted(session, due);
@@ -109,7 +110,7 @@ pub fn decide(table: Table, decision: Decision, id: &[u8]) -> Next
     ensures { taken table result ≡ decided_of table decision id.now }
 {
     let Some(i) = find_session(table, id) else {
-        return tell(table, Told::Refused(12));
+        return tell(table, Told::Refused(NO_SESSION));
     };
     let session = session_at(table, i);
     let change = decisions::decide(decision, session);

@@ -6,7 +6,6 @@
 #![tactic(auto)]
 
 mod commands;
-pub mod refusals;
 pub mod turns;
 mod writers;
 
@@ -21,10 +20,10 @@ ghost use Rattle.supplying.specs.Supplied.{given_in, held_answer, unsupplied, se
 
 use command::{Place, Refusal};
 use command_writer::framed::FRAME_ROOM;
+use protocol::refusals::{OUT_OF_TURN, OVER_LIMIT, SHORT_BUFFER};
 use protocol::{
     Change, Due, Edit, Entry, Failure, FileRecord, News, Session, SessionState, Status, Told,
 };
-use refusals::{LONG_PART, OUT_OF_TURN, SHORT_BUFFER};
 use reply::is_held;
 use sessions::next::step;
 
@@ -74,7 +73,7 @@ pub fn supply_at(
         return unsupplied(session, owed, SHORT_BUFFER);
     }
     if given.is_over() {
-        return unsupplied(session, owed, LONG_PART);
+        return unsupplied(session, owed, OVER_LIMIT);
     }
     let Some(i) = found else {
         return unsupplied(session, owed, OUT_OF_TURN);

@@ -3,6 +3,7 @@
 use crate::ROOM;
 use crate::line::{after, expand, fill, number, operands, printed};
 use frames::{Framing, Report};
+use protocol::refusals::{SHORT_BUFFER, TEXT_BROKEN_OFF, TEXT_TOO_LONG};
 use streams::Run;
 
 // The framing after the bytes so far, and how the run stands.
@@ -69,12 +70,12 @@ fn report(run: Run, r: Report, text: &[u8]) -> Run {
         Report::Nothing => run,
         Report::InPiece(_, _) => run.text(b" in the piece ").number(text.len()),
         Report::InCarry(_) => run.text(b" in the carry ").number(text.len()),
-        Report::TooLong => refused(run, 1),
-        Report::Abandoned => refused(run, 2),
-        Report::ShortCarry => refused(run, 9),
+        Report::TooLong => refused(run, TEXT_TOO_LONG),
+        Report::Abandoned => refused(run, TEXT_BROKEN_OFF),
+        Report::ShortCarry => refused(run, SHORT_BUFFER),
     }
 }
 
-fn refused(run: Run, n: usize) -> Run {
-    run.text(b" refused ").number(n)
+fn refused(run: Run, n: u8) -> Run {
+    run.text(b" refused ").number(usize::from(n))
 }
