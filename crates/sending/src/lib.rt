@@ -43,12 +43,13 @@ pub enum FileStage {
     Stopped,
 }
 
-// A file of the session. Its contents are counted, and its name is not kept.
+// A file of the session. Its contents are counted, and its name is not kept. The stage is last, as the state
+// is in protocol's FileRecord.
 #[derive(Clone, Copy)]
 pub struct SentFile {
-    pub stage: FileStage,
     pub id: Id,
     pub sent: u64,
+    pub stage: FileStage,
 }
 
 // A session and its files, in the order in which they were begun. "One file at a time": the last one is
@@ -123,9 +124,9 @@ pub enum Word {
 // ---- Free room, and the fresh sender.
 impl SentFile {
     pub const FREE: SentFile = SentFile {
-        stage: FileStage::Free,
         id: Id::NONE,
         sent: 0,
+        stage: FileStage::Free,
     };
 }
 
