@@ -2,9 +2,10 @@
 ghost use Rattle.std.specs.Prelude.{◌≤◌, length};
 
 use crate::input::Input;
+use crate::script::claimed_length;
 use crate::{line, listing};
 use delta::Measured;
-use script_parts::{byte, four_bytes, two_bytes};
+use script_parts::{Player, byte, four_bytes, two_bytes};
 use streams::Run;
 
 // How many bytes each buffer has: more than a call takes.
@@ -23,6 +24,26 @@ pub struct Desk {
     pub made: usize,
 }
 
+impl<'a> Player<'a> for Desk {
+    fn claimed_length(operation: &[u8]) -> Option<usize> {
+        claimed_length(operation)
+    }
+
+    // None where an append does not fit, which ends the script.
+    fn perform(&mut self, operation: &'a [u8]) -> Option<Run> {
+        match byte(operation, 0) {
+            b's' | b'S' => self.signature.append(operation)?,
+            b'o' | b'O' => self.old.append(operation)?,
+            b'd' | b'D' => self.delta.append(operation)?,
+            b'n' => self.clear(),
+            b'r' => self.lent = four_bytes(operation, 1),
+            b'a' => self.apply(),
+            _ => self.run = self.told(operation),
+        }
+        Some(self.run)
+    }
+}
+
 impl Desk {
     // Empty inputs, the output lent whole.
     pub(crate) fn fresh(run: Run) -> Desk {
@@ -35,20 +56,6 @@ impl Desk {
             lent: ROOM,
             made: 0,
         }
-    }
-
-    // None where an append does not fit, which ends the script.
-    pub(crate) fn perform(&mut self, operation: &[u8]) -> Option<()> {
-        match byte(operation, 0) {
-            b's' | b'S' => self.signature.append(operation)?,
-            b'o' | b'O' => self.old.append(operation)?,
-            b'd' | b'D' => self.delta.append(operation)?,
-            b'n' => self.clear(),
-            b'r' => self.lent = four_bytes(operation, 1),
-            b'a' => self.apply(),
-            _ => self.run = self.told(operation),
-        }
-        Some(())
     }
 
     fn clear(&mut self) {

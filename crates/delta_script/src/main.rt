@@ -9,36 +9,13 @@ mod listing;
 mod script;
 
 use desk::Desk;
-use script_parts::{SCRIPT_LIMIT, bad_script};
-use std::io::Stdout;
 use streams::Run;
 
-// One byte more is read, so that a longer script is seen.
 fn main(rt: HostRuntime) {
-    let mut bytes = [0u8; SCRIPT_LIMIT + 1];
-    let run = match streams::read_all(rt.stdin(), &mut bytes) {
-        Some(n) => play(rt.stdout(), &bytes[..n]),
-        None => Run::NotRead,
-    };
-    run.end(rt.stderr(), b"delta_script");
+    script_parts::run(&rt, b"delta_script", play);
 }
 
-// Makes the script's operations one after another, until something fails.
-fn play(stdout: Stdout, bytes: &[u8]) -> Run {
-    if bytes.len() > SCRIPT_LIMIT {
-        return bad_script(Run::Well(stdout));
-    }
-    let mut desk = Desk::fresh(Run::Well(stdout));
-    let mut at = 0;
-    while at < bytes.len() && desk.run.is_well() {
-        let run = desk.run;
-        let Some(n) = script::operation_length(bytes, at) else {
-            return bad_script(run);
-        };
-        if desk.perform(octets::part(bytes, at, n)).is_none() {
-            return bad_script(run);
-        }
-        at += n;
-    }
-    desk.run
+// Performs the script's operations on one desk.
+fn play(run: Run, script: &[u8]) -> Run {
+    script_parts::play(run, script, Desk::fresh(run))
 }

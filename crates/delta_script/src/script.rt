@@ -1,25 +1,8 @@
-// A script: operations one after another, each a letter and its operands.
-ghost use Rattle.std.specs.Prelude.{◌-◌, ◌<◌, ◌≤◌, length, MatchOption, ⊤};
-
-use script_parts::{byte, rest, two_bytes};
-
-// The length of the operation at a place, with its operands, if there is one.
-pub(crate) fn operation_length(bytes: &[u8], at: usize) -> Option<usize>
-    ensures { MatchOption result ⊤ (λ n. (0 < n) × (n ≤ length bytes.now - at)) }
-{
-    let n = claimed_length(bytes, at)?;
-    if octets::fits(at, n, bytes.len()) {
-        Some(n)
-    } else {
-        None
-    }
-}
+// The operations of a script, each a letter and its operands.
+use script_parts::{byte, two_bytes};
 
 // How long an operation is by its letter and its own operands; none for a letter that begins none.
-fn claimed_length(bytes: &[u8], at: usize) -> Option<usize>
-    ensures { MatchOption result ⊤ (λ n. 0 < n) }
-{
-    let operation = rest(bytes, at);
+pub(crate) fn claimed_length(operation: &[u8]) -> Option<usize> {
     match byte(operation, 0) {
         b's' | b'o' | b'd' => Some(3 + two_bytes(operation, 1)),
         b'S' | b'O' | b'D' => Some(6),

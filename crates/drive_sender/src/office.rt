@@ -1,10 +1,10 @@
 // The office's state between the operations of a script, and each operation.
 use crate::line;
-use crate::script::{eight_bytes, id_length};
+use crate::script::{claimed_length, id_length};
 use command::Command;
 use command_writer::framed::FRAME_ROOM;
 use frames::{Framing, Report};
-use script_parts::{byte, rest, two_bytes};
+use script_parts::{Player, byte, eight_bytes, rest, two_bytes};
 use sending::{Sender, Wrote};
 use streams::Run;
 
@@ -49,6 +49,26 @@ impl Buffers {
     const SCRATCH: usize = Command::SCRATCH_ROOM + 64;
 }
 
+impl<'a> Player<'a> for Office<'a> {
+    fn claimed_length(operation: &[u8]) -> Option<usize> {
+        claimed_length(operation)
+    }
+
+    fn perform(&mut self, operation: &'a [u8]) -> Option<Run> {
+        match byte(operation, 0) {
+            b'h' => self.hear(rest(operation, 3)),
+            b't' => self.text(),
+            b'n' => *self = Office::fresh(self.run),
+            // From now on only the first so many bytes of a buffer are lent.
+            b'b' => self.rooms.out = two_bytes(operation, 1),
+            b'c' => self.rooms.carry = two_bytes(operation, 1),
+            b'w' => self.rooms.scratch = two_bytes(operation, 1),
+            _ => self.call(operation),
+        }
+        Some(self.run)
+    }
+}
+
 impl<'a> Office<'a> {
     // A fresh sender, the buffers as at first, every one lent whole, no hear made yet.
     pub(crate) fn fresh(run: Run) -> Office<'a> {
@@ -69,20 +89,6 @@ impl<'a> Office<'a> {
                 piece: b"",
                 report: Report::Nothing,
             },
-        }
-    }
-
-    // An operation of the script.
-    pub(crate) fn perform(&mut self, operation: &'a [u8]) {
-        match byte(operation, 0) {
-            b'h' => self.hear(rest(operation, 3)),
-            b't' => self.text(),
-            b'n' => *self = Office::fresh(self.run),
-            // From now on only the first so many bytes of a buffer are lent.
-            b'b' => self.rooms.out = two_bytes(operation, 1),
-            b'c' => self.rooms.carry = two_bytes(operation, 1),
-            b'w' => self.rooms.scratch = two_bytes(operation, 1),
-            _ => self.call(operation),
         }
     }
 

@@ -1,18 +1,16 @@
 // The lines that are printed.
 use recordings::{Mended, Refusal};
 use script_parts::{list_sum, sum};
-use std::io::Stdout;
 use streams::Run;
 
 // The refusal's number, or 0, the bytes kept and the rows, the sums of the whole buffers, and a line for
 // each row.
 pub(crate) fn tell(
-    out: Stdout,
+    run: Run,
     mended: Result<Mended, Refusal>,
     output: &[u8],
     list: &[usize],
 ) -> Run {
-    let run = Run::Well(out);
     match mended {
         Err(refusal) => {
             let refused = run.number(usize::from(refusal.number())).text(b" 0 0");

@@ -1,4 +1,4 @@
--- Numbers of two, three and four bytes, of which some may be missing.
+-- Numbers of two, three, four and eight bytes, of which some may be missing.
 use Prim.Native.Nat.{ℕ, ◌+◌, ◌*◌}
 use mathlib.Core.Path.{◌≡◌}
 use mathlib.Core.List.{List, [], ◌∷◌}
@@ -26,3 +26,15 @@ of_four (a ∷ []) = omega arith
 of_four (a ∷ b ∷ []) = omega arith
 of_four (a ∷ b ∷ c ∷ []) = omega arith
 of_four (a ∷ b ∷ c ∷ d ∷ t) = omega arith
+
+pub of_eight : (t : List ℕ) → number (take 8 t) ≡ number (take 4 t) + number (take 4 (drop 4 t)) * 4294967296
+unfolding number
+of_eight [] = omega arith
+of_eight (a ∷ []) = omega arith
+of_eight (a ∷ b ∷ []) = omega arith
+of_eight (a ∷ b ∷ c ∷ []) = omega arith
+of_eight (a ∷ b ∷ c ∷ d ∷ []) = omega arith
+of_eight (a ∷ b ∷ c ∷ d ∷ e ∷ []) = omega arith
+of_eight (a ∷ b ∷ c ∷ d ∷ e ∷ f ∷ []) = omega arith
+of_eight (a ∷ b ∷ c ∷ d ∷ e ∷ f ∷ g ∷ []) = omega arith
+of_eight (a ∷ b ∷ c ∷ d ∷ e ∷ f ∷ g ∷ h ∷ t) = omega arith

@@ -39,3 +39,10 @@ pub fn four_bytes(s: &[u8], at: usize) -> usize
     let t = rest(s, at);
     two_bytes(t, 0) + two_bytes(t, 2) * 65536
 }
+
+pub fn eight_bytes(s: &[u8], at: usize) -> u64
+    ensures { result ≡ number (take 8 (drop at s.now)) }
+{
+    let t = rest(s, at);
+    four_bytes(t, 0) as u64 + four_bytes(t, 4) as u64 * 4294967296
+}

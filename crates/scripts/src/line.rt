@@ -8,42 +8,36 @@ use streams::Run;
 
 // ---- Calls.
 // A call that writes to the reply buffer.
-pub(crate) fn replied(run: Run, letter: u8, answer: Answer, buffers: Buffers) -> Run {
-    let reply = buffers.reply;
-    let written = octets::part(&reply, 0, answer.written);
+pub(crate) fn replied(run: Run, letter: u8, answer: Answer, buffers: &Buffers) -> Run {
+    let written = octets::part(&buffers.reply, 0, answer.written);
     end(sums(call(run, letter, answer, written), buffers))
 }
 
 // A call that writes to the buffer out, whose sum is one more.
-pub(crate) fn supplied(run: Run, letter: u8, answer: Answer, buffers: Buffers) -> Run {
-    let out = buffers.out;
-    let written = octets::part(&out, 0, answer.written);
+pub(crate) fn supplied(run: Run, letter: u8, answer: Answer, buffers: &Buffers) -> Run {
+    let written = octets::part(&buffers.out, 0, answer.written);
     let summed = sums(call(run, letter, answer, written), buffers);
-    end(number(summed, sum(&out)))
+    end(number(summed, sum(&buffers.out)))
 }
 
 // The letter, the refusal's number, the bytes consumed, what is told, and what was written.
 fn call(run: Run, letter: u8, answer: Answer, written: &[u8]) -> Run {
-    let told = answer.told;
-    let name = answer.name;
-    let numbered = number(run.text(&[letter]), refusal(told));
+    let numbered = number(run.text(&[letter]), refusal(answer.told));
     let counted = number(numbered, answer.consumed).text(b" ");
-    hex(tell(counted, told, name).text(b" "), written)
+    hex(tell(counted, answer.told, answer.name).text(b" "), written)
 }
 
 fn refusal(told: Told) -> usize {
     match told {
-        Told::Refused(n) => n as usize,
+        Told::Refused(n) => usize::from(n),
         _ => 0,
     }
 }
 
 // The sums of the whole buffers that every call prints.
-fn sums(run: Run, buffers: Buffers) -> Run {
-    let carry = buffers.carry;
-    let scratch = buffers.scratch;
-    let reply = buffers.reply;
-    number(number(number(run, sum(&carry)), sum(&scratch)), sum(&reply))
+fn sums(run: Run, buffers: &Buffers) -> Run {
+    let two = number(number(run, sum(&buffers.carry)), sum(&buffers.scratch));
+    number(two, sum(&buffers.reply))
 }
 
 // ---- What is told.
@@ -105,7 +99,7 @@ fn place(run: Run, part: Place) -> Run {
 
 // Bytes in lower-case hex, `-` for none.
 fn hex(run: Run, s: &[u8]) -> Run {
-    if s.len() == 0 {
+    if s.is_empty() {
         run.text(b"-")
     } else {
         run.hex(s)

@@ -1,12 +1,10 @@
 // The lines that are printed.
 use script_parts::list_sum;
-use std::io::Stdout;
 use streams::Run;
 use windows::{Line, Refusal};
 
 // The refusal's number, or 0, how many lines the list has, the sum of the whole list, and each line.
-pub(crate) fn tell(out: Stdout, compared: Result<usize, Refusal>, list: &[usize]) -> Run {
-    let run = Run::Well(out);
+pub(crate) fn tell(run: Run, compared: Result<usize, Refusal>, list: &[usize]) -> Run {
     match compared {
         Err(refusal) => {
             let refused = run.number(usize::from(refusal.number())).text(b" 0");
