@@ -21,16 +21,10 @@ library() {
     cat >"$at/crates/$name/src/lib.rt" <<END
 #![tactic(auto)]
 
-use base64_codec::Decoded;
-
 // How many bytes were stored at the start of \`out\`, and 0 for a text that was refused.
 #[unsafe(no_mangle)]
 pub extern "C" fn $name(text: &[u8], out: &mut [u8]) -> usize {
-    match base64_codec::decode(text, out, 0) {
-        Decoded::Length(n) => n,
-        Decoded::Invalid(_) => 0,
-        Decoded::NoRoom => 0,
-    }
+    base64_codec::decode(text, out, 0).unwrap_or(0)
 }
 END
     (cd "$at/crates/$name" && rt lib) >"$out/check.txt" 2>&1 || { tail -5 "$out/check.txt"; exit 1; }

@@ -1,41 +1,66 @@
--- A group of a valid text that is not its last: four letters, whose three bytes stand before those of the groups after it.
-use Prim.Native.Nat.{ℕ, ◌+◌, ◌<◌, ◌%◌}
-use mathlib.Core.Path.{◌≡◌, ap}
-use mathlib.Core.List.{List, ◌∷◌}
-use native.Mathlib.Omega.{arith}
-use lib.ListN.{length, get_or, drop, length-drop}
-use borrow.Author.Tests.{eqb-false}
+-- Groups of letters: what `is_letter` tells, of each of a text and of a part, and that a group of them is three bytes.
+use Rattle.std.proofs.Common.{◌≡◌, ℕ, true, List, [], ◌∷◌, ◌++◌, length, get_or, take, drop, refl, ap, arith}
+use Rattle.std.specs.Prelude.{Ok}
+use Rattle.std.proofs.lemmas.List.{take-append-drop}
+use borrow.Author.Tests.{ne_eqb, eqb-false, not-true}
+use lib.Dec.{eqb}
+use Rattle.octets.specs.Members.{every}
+use Rattle.octets.proofs.Below.{both_test}
+use Rattle.base64_codec.specs.Alphabet.{pad, value_of}
+use Rattle.base64_codec.specs.Letters.{is_letter}
 use Rattle.base64_codec.specs.Decode.{verdict_of, bytes_of}
-use Rattle.base64_codec.specs.declared.Verdict.TheVariants as Verdict
-use Rattle.base64_codec.proofs.Letters.{Letter, not-pad}
-use Rattle.base64_codec.proofs.Groups.{Groups, valid-groups, groups_valid, groups-length, full-group}
-use Rattle.base64_codec.proofs.Turns.{drop-at-4, first_byte, second-byte, third-byte, three-bytes}
+use Rattle.base64_codec.proofs.Letters.{Letter, is-letter, not-pad}
+use Rattle.base64_codec.proofs.Groups.{Groups, none, full, pad1, pad2, valid-groups}
+use Rattle.base64_codec.proofs.Turns.{four-list, three-bytes}
 
--- a text that is valid, whatever its padding
-abbrev pub ValidText : List ℕ → Type 0
-ValidText t = (k : ℕ) × (verdict_of t ≡ Verdict.Valid k)
+-- ---- each character of a text
+is-told : (c : ℕ) → Letter c → is_letter c ≡ true
+is-told c h = rw (ne_eqb (value_of c) 64 (λ e. omega arith))
 
--- what is left of a valid text is whole groups
-pub whole-groups : (t : List ℕ) (i : ℕ) → ValidText (drop i t) → length (drop i t) % 4 ≡ 0
-whole-groups t i v = groups-length (valid-groups _ _ v.1)
+told-is : (c : ℕ) → is_letter c ≡ true → Letter c
+told-is c e = is-letter c (eqb-false (value_of c) 64 (not-true (eqb (value_of c) 64) e))
 
-module _ (t : List ℕ) (i : ℕ) (h : i + 4 < length t) (v : ValidText (drop i t)) where
-  inside : (Letter (get_or t i 0)) × (Letter (get_or t (i + 1) 0)) × (Letter (get_or t (i + 2) 0)) × (Letter (get_or t (i + 3) 0))
-      × Groups (drop (i + 4) t) v.0
-  inside = full-group (rw (drop-at-4 t i (omega arith)) at (valid-groups _ _ v.1)) (omega (arith, length-drop (i + 4) t))
+groups-letters : {t : List ℕ} {k : ℕ} → Groups t k → k ≡ 0 → every is_letter t ≡ true
+unfolding every
+groups-letters none e = refl
+groups-letters (full {a} {b} {c} {d} ha hb hc hd g) e =
+    rw (is-told a ha, is-told b hb, is-told c hc, is-told d hd) (groups-letters g e)
+groups-letters (pad1 ha hb hc z) e = absurd (omega arith)
+groups-letters (pad2 ha hb z) e = absurd (omega arith)
 
-  pub inner-letters : (Letter (get_or t i 0)) × (Letter (get_or t (i + 1) 0)) × (Letter (get_or t (i + 2) 0))
-      × (Letter (get_or t (i + 3) 0))
-  inner-letters = (inside.0, inside.1, inside.2, inside.3)
+-- a valid text without padding has letters alone
+pub valid-letters : (t : List ℕ) → verdict_of t ≡ Ok 0 → every is_letter t ≡ true
+valid-letters t e = groups-letters (valid-groups t 0 e) refl
 
-  pub inner-after : ValidText (drop (i + 4) t)
-  inner-after = (v.0, groups_valid inside.4)
+-- ---- parts
+pub every-parts : (xs ys : List ℕ) → every is_letter (xs ++ ys) ≡ true → (every is_letter xs ≡ true) × (every is_letter ys ≡ true)
+unfolding every
+every-parts [] ys e = (refl, e)
+every-parts (x ∷ xs) ys e =
+    let b = both_test (is_letter x) (every is_letter (xs ++ ys)) e in
+    let r = every-parts xs ys b.1 in
+    (rw (b.0, r.0), r.1)
 
-  pub inner-bytes : bytes_of (drop i t) ≡ first_byte t i ∷ second-byte t i ∷ third-byte t i ∷ bytes_of (drop (i + 4) t)
-  inner-bytes =
-      three-bytes t i (omega arith)
-      (λ e. eqb-false _ _ (not-pad _ inside.2) e)
-      (λ e. eqb-false _ _ (not-pad _ inside.3) e)
+pub every-left : (t : List ℕ) (i : ℕ) → every is_letter t ≡ true → every is_letter (drop i t) ≡ true
+every-left t i e =
+    let s : every is_letter (take i t ++ drop i t) ≡ true = rw (take-append-drop i t) e in
+    (every-parts (take i t) (drop i t) s).1
 
-  pub inner-length : length (bytes_of (drop i t)) ≡ 3 + length (bytes_of (drop (i + 4) t))
-  inner-length = omega (arith, ap length inner-bytes)
+-- ---- a group
+module _ (g : List ℕ) (h : length g ≡ 4) (e : every is_letter g ≡ true) where
+  pub four-letters : (Letter (get_or g 0 0)) × (Letter (get_or g 1 0)) × (Letter (get_or g 2 0)) × (Letter (get_or g 3 0))
+  unfolding every
+  four-letters =
+      let b = both_test _ _ (rw (four-list g h) at e) in
+      let c = both_test _ _ b.1 in
+      let d = both_test _ _ c.1 in
+      (told-is _ b.0, told-is _ c.0, told-is _ d.0, told-is _ (both_test _ _ d.1).0)
+
+  pub no-pad2 : get_or g 2 0 ≡ pad → ⊥
+  no-pad2 q = eqb-false _ _ (not-pad _ four-letters.2) q
+
+  pub no-pad3 : get_or g 3 0 ≡ pad → ⊥
+  no-pad3 q = eqb-false _ _ (not-pad _ four-letters.3) q
+
+  pub letters-length : length (bytes_of g) ≡ 3
+  letters-length = ap length (three-bytes g h no-pad2 no-pad3)

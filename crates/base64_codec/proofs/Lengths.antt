@@ -10,7 +10,7 @@ use Rattle.octets.specs.Bytes.{Bytes}
 use Rattle.base64_codec.specs.Alphabet.{pad, value_of}
 use Rattle.base64_codec.specs.Decode.{verdict_of, byte1, byte2, byte3, group, bytes_of}
 use Rattle.base64_codec.specs.Encode.{text_of}
-use Rattle.base64_codec.specs.declared.Verdict.TheVariants.{Valid}
+use Rattle.std.specs.Prelude.{Ok}
 use Rattle.base64_codec.proofs.Letters.{not-pad}
 use Rattle.base64_codec.proofs.Groups.{Groups, none, full, pad1, pad2, groups-length, valid-groups}
 
@@ -31,7 +31,7 @@ length-groups (pad1 {a} {b} {c} ha hb hc z) = rw (not-pad c hc)
 length-groups (pad2 ha hb z) = refl
 
 -- so a valid text has whole groups, and its length and padding give the number of its bytes
-pub length_valid : (t : List ℕ) (k : ℕ) → verdict_of t ≡ Valid k → (length t % 4 ≡ 0) × (length (bytes_of t) + k ≡ length t / 4 * 3)
+pub length_valid : (t : List ℕ) (k : ℕ) → verdict_of t ≡ Ok k → (length t % 4 ≡ 0) × (length (bytes_of t) + k ≡ length t / 4 * 3)
 length_valid t k e = let g = valid-groups t k e in (groups-length g, length-groups g)
 
 -- decoding gives bytes, whatever the text

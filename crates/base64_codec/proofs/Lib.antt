@@ -1,4 +1,5 @@
 pub mod Turns
+pub mod Chunks
 pub mod Tabled
 pub mod Words
 pub mod Letters

@@ -1,5 +1,5 @@
 -- What a text lacks: whole groups lack nothing, and the text of some bytes without its padding lacks just that.
-use Prim.Native.Nat.{ℕ, zero, suc, ◌+◌, ◌-◌, ◌%◌, ◌<◌, ◌≤◌}
+use Prim.Native.Nat.{ℕ, suc, ◌+◌, ◌-◌, ◌*◌, ◌/◌, ◌%◌, ◌<◌, ◌≤◌}
 use mathlib.Core.Path.{◌≡◌, refl, sym, ◌∙◌, ap}
 use mathlib.Core.Bool.{Bool, true, false, cond}
 use mathlib.Core.List.{List, [], ◌∷◌, ◌++◌, append-nil, append_assoc}
@@ -16,7 +16,7 @@ use Rattle.base64_codec.specs.Encode.{text_of}
 use Rattle.base64_codec.specs.Padding.{last_of, lacking, padded, unpadded}
 use Rattle.base64_codec.specs.declared.Padding.{Padding}
 use Rattle.base64_codec.specs.declared.Padding.TheVariants.{Required, Optional}
-use Rattle.base64_codec.specs.declared.Verdict.TheVariants.{Valid}
+use Rattle.std.specs.Prelude.{Ok}
 use Rattle.base64_codec.proofs.Letters.{Letter, not-pad}
 use Rattle.base64_codec.proofs.Groups.{Groups, none, full, pad1, pad2, groups-length, valid-groups}
 use Rattle.base64_codec.proofs.RoundTrip.{padding_of, valid-text}
@@ -37,25 +37,40 @@ unfolding padded
 ended-padded t h = rw (eq-eqb (last_of t) pad h)
 
 -- to a valid text
-pub valid-padded : (p : Padding) (t : List ℕ) (k : ℕ) → verdict_of t ≡ Valid k → padded p t ≡ t
+pub valid-padded : (p : Padding) (t : List ℕ) (k : ℕ) → verdict_of t ≡ Ok k → padded p t ≡ t
 unfolding padded
 valid-padded Required t k e = refl
 valid-padded Optional t k e =
     let n = groups-length (valid-groups t k e) in
     few-padded t (omega arith)
 
--- ---- a character, or another where there is none
-pub within : (t : List ℕ) (i d e : ℕ) → i < length t → get_or t i d ≡ get_or t i e
-within [] i d e h = absurd (omega arith)
-within (x ∷ t) zero d e h = refl
-within (x ∷ t) (suc i) d e h = within t i d e (omega arith)
+-- ---- to what is left over, as the code completes it
+module _ (t u : List ℕ) (e : u ≡ drop (length t / 4 * 4) t) where
+  over-is : length u ≡ length t % 4
+  over-is = ap length e ∙ length-drop (length t / 4 * 4) t ∙ omega arith
 
-pub past : (t : List ℕ) (i d : ℕ) → length t ≤ i → get_or t i d ≡ d
-past [] i d h = refl
-past (x ∷ t) zero d h = absurd (omega arith)
-past (x ∷ t) (suc i) d h = past t i d (omega arith)
+  last-left : (j : ℕ) → j + 1 ≡ length u → last_of t ≡ get_or u j 0
+  last-left j h =
+      let n : length t / 4 * 4 + j ≡ length t - 1 = omega (arith, over-is) in
+      ap (λ (k : ℕ). get_or t k 0) (sym n) ∙ sym (get_or-drop (length t / 4 * 4) t j 0) ∙ ap (λ (l : List ℕ). get_or l j 0) (sym e)
 
--- ---- to two or three characters that are left over, as the code completes them
+  -- nothing, where it is fewer than two or ends with `=`
+  pub nothing-lacks : length u < 2 → padded Optional t ≡ t
+  nothing-lacks h = few-padded t (omega (arith, over-is))
+
+  pub ended-lacks : (j : ℕ) → j + 1 ≡ length u → get_or u j 0 ≡ pad → padded Optional t ≡ t
+  ended-lacks j h q = ended-padded t (last-left j h ∙ q)
+
+  -- else as many `=` as make it a group
+  left-lacks : (j : ℕ) → j + 1 ≡ length u → (get_or u j 0 ≡ pad → ⊥)
+      → padded Optional t ≡ take (length t / 4 * 4) t ++ (u ++ lacking (length u))
+  unfolding padded
+  left-lacks j h q =
+      rw (ne_eqb (last_of t) pad (λ z. q (sym (last-left j h) ∙ z)), ← over-is)
+      (ap (λ (l : List ℕ). l ++ lacking (length u)) (sym (take-append-drop (length t / 4 * 4) t))
+      ∙ append_assoc (take (length t / 4 * 4) t) (drop (length t / 4 * 4) t) (lacking (length u))
+      ∙ ap (λ (l : List ℕ). take (length t / 4 * 4) t ++ (l ++ lacking (length u))) (sym e))
+
 -- a short last group, with `=` past its end
 filled : (u : List ℕ) → 2 ≤ length u → length u < 4 → u ++ lacking (length u) ≡ get_or u 0 0 ∷ get_or u 1 0 ∷ get_or u 2 pad ∷ pad ∷ []
 filled [] h k = absurd (omega arith)
@@ -64,18 +79,10 @@ filled (a ∷ b ∷ []) h k = refl
 filled (a ∷ b ∷ c ∷ []) h k = refl
 filled (a ∷ b ∷ c ∷ d ∷ r) h k = absurd (omega arith)
 
-pub lacking-padded : (t : List ℕ) (i : ℕ) → i ≡ length t - length t % 4 → 2 ≤ length t % 4 → (last_of t ≡ pad → ⊥)
-    → padded Optional t ≡ take i t ++ (get_or t i 0 ∷ get_or t (i + 1) 0 ∷ get_or t (i + 2) pad ∷ pad ∷ [])
-unfolding padded
-lacking-padded t i e h l =
-    let n : length (drop i t) ≡ length t % 4 = length-drop i t ∙ omega arith in
-    let a : get_or (drop i t) 0 0 ≡ get_or t i 0 = get_or-drop i t 0 0 ∙ ap (λ (k : ℕ). get_or t k 0) (omega arith) in
-    let f : drop i t ++ lacking (length t % 4) ≡ get_or t i 0 ∷ get_or t (i + 1) 0 ∷ get_or t (i + 2) pad ∷ pad ∷ [] =
-    rw (← n, filled (drop i t) (omega arith) (omega arith), a, get_or-drop i t 1 0, get_or-drop i t 2 pad) in
-    rw (ne_eqb (last_of t) pad l)
-    (ap (λ (u : List ℕ). u ++ lacking (length t % 4)) (sym (take-append-drop i t))
-    ∙ append_assoc (take i t) (drop i t) (lacking (length t % 4))
-    ∙ ap (λ (u : List ℕ). take i t ++ u) f)
+pub lacking-padded : (t u : List ℕ) → u ≡ drop (length t / 4 * 4) t → 2 ≤ length u → (get_or u (length u - 1) 0 ≡ pad → ⊥)
+    → padded Optional t ≡ take (length t / 4 * 4) t ++ (get_or u 0 0 ∷ get_or u 1 0 ∷ get_or u 2 pad ∷ pad ∷ [])
+lacking-padded t u e h q =
+    rw (filled u h (omega (arith, over-is t u e))) at (left-lacks t u e (length u - 1) (omega arith) q)
 
 -- ---- to a text without its padding, just that
 -- the search for a `=` passes letters

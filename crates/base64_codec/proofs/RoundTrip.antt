@@ -10,7 +10,7 @@ use Rattle.octets.specs.Bytes.{Bytes}
 use Rattle.base64_codec.specs.Alphabet.{pad, value_of, letter_of}
 use Rattle.base64_codec.specs.Decode.{verdict_of, byte1, byte2, byte3, group, bytes_of}
 use Rattle.base64_codec.specs.Encode.{char1, char2, char3, char4, text_of}
-use Rattle.base64_codec.specs.declared.Verdict.TheVariants.{Valid}
+use Rattle.std.specs.Prelude.{Ok}
 use Rattle.base64_codec.proofs.Letters.{Letter, value-letter, letter-of, letter-value, not-pad}
 use Rattle.base64_codec.proofs.Groups.{Groups, none, full, pad1, pad2, groups_valid, valid-groups}
 
@@ -35,7 +35,7 @@ text-groups (a ∷ b ∷ c ∷ r) h =
     (text-groups r h.1.1.1))
 
 -- the text of some bytes is valid, with that much padding
-pub valid-text : (x : List ℕ) → Bytes x → verdict_of (text_of x) ≡ Valid (padding_of x)
+pub valid-text : (x : List ℕ) → Bytes x → verdict_of (text_of x) ≡ Ok (padding_of x)
 valid-text x h = groups_valid (text-groups x h)
 
 byte1-back : (a b : ℕ) → a < 256 → b < 256 → byte1 (value_of (char1 a)) (value_of (char2 a b)) ≡ a
@@ -100,5 +100,5 @@ groups-text (pad1 {a} {b} {c} ha hb hc z) = rw (not-pad c hc, char1-back a b ha 
 groups-text (pad2 {a} {b} ha hb z) = rw (char1-back a b ha hb, char2-last a b ha hb z)
 
 -- a valid text is the text of its bytes
-pub text-bytes : (t : List ℕ) (k : ℕ) → verdict_of t ≡ Valid k → text_of (bytes_of t) ≡ t
+pub text-bytes : (t : List ℕ) (k : ℕ) → verdict_of t ≡ Ok k → text_of (bytes_of t) ≡ t
 text-bytes t k e = groups-text (valid-groups t k e)

@@ -1,13 +1,11 @@
 -- The round trips of the calls, by the definitions that their contracts cite.
-use Rattle.std.specs.Prelude.{ℕ, ◌+◌, ◌*◌, ◌/◌, ◌≤◌, ◌≡◌, List, length, take, drop}
+use Rattle.std.specs.Prelude.{ℕ, ◌+◌, ◌*◌, ◌/◌, ◌≤◌, ◌≡◌, Some, Ok, List, length, take, drop}
 use Rattle.std.proofs.lemmas.List.Edits.{sets}
 use Rattle.octets.specs.Bytes.{Bytes}
 use Rattle.octets.specs.Outcome.{Outcome, outcome}
-use Rattle.octets.specs.declared.Stored.TheVariants as Stored
 use Rattle.base64_codec.specs.Padding.{padded, unpadded, decode_with}
 use Rattle.base64_codec.specs.Encode.{text_of, encode_of}
 use Rattle.base64_codec.specs.declared.Padding.{Padding}
-use Rattle.base64_codec.specs.declared.Decoded.TheVariants as Decoded
 
 -- the length of the text of n bytes: four characters for each group of three, and for a last group of one or two
 abbrev pub text_length : ℕ → ℕ
@@ -22,19 +20,19 @@ left o at n = take n (drop at o.buffer)
 abbrev pub EncodedDecodes : Type 0
 EncodedDecodes =
     (p : Padding) (x out into : List ℕ) (at to : ℕ) → Bytes x → at + text_length (length x) ≤ length out → to + length x ≤ length into
-    → ((encode_of x out at).answer ≡ Stored.End (at + text_length (length x)))
-    × (decode_with p (left (encode_of x out at) at (text_length (length x))) into to ≡ outcome (Decoded.Length (length x)) (sets into to x))
+    → ((encode_of x out at).answer ≡ Some (at + text_length (length x)))
+    × (decode_with p (left (encode_of x out at) at (text_length (length x))) into to ≡ outcome (Ok (length x)) (sets into to x))
 
 -- "unused bits zero": the bytes of a text that decodes are encoded to it again, with the padding that it left out. So where padding is
 -- required the text is the only one of its bytes, and where it is optional there is one more, without the padding: "all or none"
 abbrev pub DecodedEncodes : Type 0
 DecodedEncodes =
-    (p : Padding) (t out into : List ℕ) (at to n : ℕ) → (decode_with p t out at).answer ≡ Decoded.Length n
+    (p : Padding) (t out into : List ℕ) (at to n : ℕ) → (decode_with p t out at).answer ≡ Ok n
     → to + length (padded p t) ≤ length into
-    → encode_of (left (decode_with p t out at) at n) into to ≡ outcome (Stored.End (to + length (padded p t))) (sets into to (padded p t))
+    → encode_of (left (decode_with p t out at) at n) into to ≡ outcome (Some (to + length (padded p t))) (sets into to (padded p t))
 
 -- "Padding is optional": the text of any bytes decodes to them without its padding too
 abbrev pub UnpaddedDecodes : Type 0
 UnpaddedDecodes =
     (x into : List ℕ) (to : ℕ) → Bytes x → to + length x ≤ length into
-    → decode_with Padding.Optional (unpadded (text_of x)) into to ≡ outcome (Decoded.Length (length x)) (sets into to x)
+    → decode_with Padding.Optional (unpadded (text_of x)) into to ≡ outcome (Ok (length x)) (sets into to x)

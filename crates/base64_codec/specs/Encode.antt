@@ -1,7 +1,6 @@
 -- Encoding: the text of some bytes, and what `encode` does with it.
-use Rattle.std.specs.Prelude.{ℕ, ◌+◌, ◌*◌, ◌/◌, ◌%◌, List, [], ◌∷◌, length}
+use Rattle.std.specs.Prelude.{ℕ, ◌+◌, ◌*◌, ◌/◌, ◌%◌, Option, Some, None, List, [], ◌∷◌, length}
 use Rattle.octets.specs.Outcome.{Outcome, stored_at}
-use Rattle.octets.specs.declared.Stored.{Stored}
 use Rattle.base64_codec.specs.Alphabet.{pad, letter_of}
 
 -- the four characters of a group of bytes, each of six bits
@@ -24,5 +23,5 @@ text_of (a ∷ []) = char1 a ∷ char2 a 0 ∷ pad ∷ pad ∷ []
 text_of (a ∷ b ∷ []) = char1 a ∷ char2 a b ∷ char3 b 0 ∷ pad ∷ []
 text_of (a ∷ b ∷ c ∷ r) = char1 a ∷ char2 a b ∷ char3 b c ∷ char4 c ∷ text_of r
 
-unfoldable pub encode_of : List ℕ → List ℕ → ℕ → Outcome Stored
-encode_of s out at = stored_at (Stored.End (at + length (text_of s))) Stored.NoRoom (text_of s) out at
+unfoldable pub encode_of : List ℕ → List ℕ → ℕ → Outcome (Option ℕ)
+encode_of s out at = stored_at (Some (at + length (text_of s))) None (text_of s) out at

@@ -1,14 +1,13 @@
 -- The choice of padding: required, or "optional, all or none". What a text means by it is what the text means with its padding.
-use Rattle.std.specs.Prelude.{ℕ, ◌-◌, ◌%◌, cond, List, [], ◌∷◌, ◌++◌, length, get_or, take, eqb}
+use Rattle.std.specs.Prelude.{ℕ, ◌-◌, ◌%◌, cond, Result, Ok, Err, List, [], ◌∷◌, ◌++◌, length, get_or, take, eqb}
 use Rattle.octets.specs.Search.{index_of}
 use Rattle.octets.specs.Outcome.{Outcome}
 use Rattle.base64_codec.specs.Alphabet.{pad}
 use Rattle.base64_codec.specs.Decode.{decode_of}
 use Rattle.base64_codec.specs.declared.Padding.{Padding}
 use Rattle.base64_codec.specs.declared.Padding.TheVariants.{Required, Optional}
-use Rattle.base64_codec.specs.declared.Fault.TheVariants as Fault
-use Rattle.base64_codec.specs.declared.Verdict.{Verdict}
-use Rattle.base64_codec.specs.declared.Decoded.{Decoded}
+use Rattle.base64_codec.specs.declared.Fault.{Fault}
+use Rattle.base64_codec.specs.declared.DecodeError.{DecodeError}
 
 -- the last character, and 0 where there is none
 abbrev pub last_of : List ℕ → ℕ
@@ -29,13 +28,13 @@ abbrev pub unpadded : List ℕ → List ℕ
 unpadded t = take (index_of pad t) t
 
 -- what `decode_with` gives
-unfoldable pub decode_with : Padding → List ℕ → List ℕ → ℕ → Outcome Decoded
+unfoldable pub decode_with : Padding → List ℕ → List ℕ → ℕ → Outcome (Result ℕ DecodeError)
 decode_with p t out at = decode_of (padded p t) out at
 
 -- ---- how the code comes to it
 -- what two texts of whole groups are together, where the second is not empty: padding may stand at the end of the second alone
-abbrev pub joined_verdict : Verdict → Verdict → Verdict
-joined_verdict (Verdict.Valid n) v = cond (eqb n 0) v (Verdict.Invalid Fault.Length)
-joined_verdict (Verdict.Invalid Fault.Length) v = Verdict.Invalid Fault.Length
-joined_verdict (Verdict.Invalid Fault.Character) v = Verdict.Invalid Fault.Character
-joined_verdict (Verdict.Invalid Fault.UnusedBits) v = Verdict.Invalid Fault.Length
+abbrev pub joined_verdict : Result ℕ Fault → Result ℕ Fault → Result ℕ Fault
+joined_verdict (Ok n) v = cond (eqb n 0) v (Err Fault.Length)
+joined_verdict (Err Fault.Length) v = Err Fault.Length
+joined_verdict (Err Fault.Character) v = Err Fault.Character
+joined_verdict (Err Fault.UnusedBits) v = Err Fault.Length

@@ -3,12 +3,15 @@ ghost use Rattle.std.specs.Prelude.{◌≡◌, ◌≤◌};
 ghost use Rattle.base64_codec.specs.Alphabet.{value_of, letter_of};
 ghost use Rattle.base64_codec.specs.Values.{values};
 
+// The padding character.
+pub(crate) const PAD: u8 = b'=';
+
 // The value of a character, and 64 for a byte that is none, by the table.
 pub(crate) fn value(table: &[u8; 256], c: u8) -> u8
     requires { table.now ≡ values }
     ensures { (result ≡ value_of c) × (result ≤ 64) }
 {
-    table[c as usize]
+    table[usize::from(c)]
 }
 
 // The character of a value below 64.
@@ -16,7 +19,7 @@ pub(crate) fn letter(v: u8) -> u8
     ensures { result ≡ letter_of v }
 {
     if v < 26 {
-        return v + 65;
+        return v + b'A';
     }
     if v < 52 {
         return v + 71;
@@ -25,7 +28,7 @@ pub(crate) fn letter(v: u8) -> u8
         return v - 4;
     }
     if v == 62 {
-        return 43;
+        return b'+';
     }
-    47
+    b'/'
 }

@@ -1,51 +1,39 @@
 // Encoding, a group of three bytes at a time.
-ghost use Rattle.std.specs.Prelude.{◌≡◌, ◌+◌, ◌≤◌, ◌<◌, [], ◌∷◌, length, drop};
+ghost use Rattle.std.specs.Prelude.{◌≡◌, ◌+◌, ◌≤◌, ◌<◌, [], ◌∷◌, length};
 ghost use Rattle.std.proofs.lemmas.List.Edits.{sets};
 ghost use Rattle.base64_codec.specs.Encode.{text_of};
 ghost use Rattle.base64_codec.specs.Encode as Encode;
 
-use crate::alphabet::letter;
-
-const PAD: u8 = 61;
+use crate::alphabet::{PAD, letter};
 
 // Stores the text of `data` in `out` from place `at` on.
 pub(crate) fn fill(data: &[u8], out: &mut [u8], at: usize)
     requires { at + length (text_of «data».now) ≤ length out.old }
     ensures { out.new ≡ sets out.old at (text_of «data».now) }
 {
-    let mut i = 0;
+    let (groups, left) = data.as_chunks::<3>();
     let mut o = at;
-    while data.len() - i >= 3 {
-        let a = data[i];
-        let b = data[i + 1];
-        let c = data[i + 2];
-        put(out, o, char1(a), char2(a, b), char3(b, c), char4(c));
-        i += 3;
+    for [a, b, c] in groups {
+        put(out, o, char1(*a), char2(*a, *b), char3(*b, *c), char4(*c));
         o += 4;
     }
-    tail(data, i, out, o);
+    tail(left, out, o);
 }
 
-// Stores the text of the last bytes, fewer than three, from place i on.
-fn tail(data: &[u8], i: usize, out: &mut [u8], o: usize)
-    requires { (i ≤ length «data».now) × (length «data».now < i + 3)
-        × (o + length (text_of (drop i «data».now)) ≤ length out.old) }
-    ensures { out.new ≡ sets out.old o (text_of (drop i «data».now)) }
+// Stores the text of the last bytes, fewer than three, from place o on.
+fn tail(left: &[u8], out: &mut [u8], o: usize)
+    requires { (length left.now < 3) × (o + length (text_of left.now) ≤ length out.old) }
+    ensures { out.new ≡ sets out.old o (text_of left.now) }
 {
-    let left = data.len() - i;
-    if left == 0 {
-        return;
+    match left {
+        [] => {}
+        [a] => put(out, o, char1(*a), char2(*a, 0), PAD, PAD),
+        [a, b, ..] => put(out, o, char1(*a), char2(*a, *b), char3(*b, 0), PAD),
     }
-    let a = data[i];
-    if left == 1 {
-        put(out, o, char1(a), char2(a, 0), PAD, PAD);
-        return;
-    }
-    let b = data[i + 1];
-    put(out, o, char1(a), char2(a, b), char3(b, 0), PAD);
 }
 
-// Stores four characters from place o on.
+// Stores four characters from place o on. One store for each, not a copy of an array: so the loop above
+// is compiled for many groups at once.
 fn put(out: &mut [u8], o: usize, c1: u8, c2: u8, c3: u8, c4: u8)
     requires { o + 4 ≤ length out.old }
     ensures { out.new ≡ sets out.old o (c1 ∷ c2 ∷ c3 ∷ c4 ∷ []) }

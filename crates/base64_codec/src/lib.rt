@@ -18,23 +18,16 @@ ghost use Rattle.base64_codec.specs.Decode.{decode_of};
 ghost use Rattle.base64_codec.specs.Encode.{encode_of};
 ghost use Rattle.base64_codec.specs.Examples.{DecodeExamples};
 ghost use Rattle.base64_codec.specs.Padding.{decode_with};
+ghost use Rattle.base64_codec.specs.declared.DecodeError.TheVariants.{Invalid};
 
 use crate::table::VALUES;
-use octets::Stored;
 
 // What is wrong with a text: its length or padding, a character, or bits that no byte uses.
-#[derive(Clone, Copy)]
+#[derive(Clone, Copy, Debug, PartialEq, Eq)]
 pub enum Fault {
     Length,
     Character,
     UnusedBits,
-}
-
-// What a whole text is: valid, with that many padding characters at its end, or at fault.
-#[derive(Clone, Copy)]
-pub enum Verdict {
-    Valid(usize),
-    Invalid(Fault),
 }
 
 // Whether a text must have its padding, or may leave all of it out.
@@ -44,37 +37,46 @@ pub enum Padding {
     Optional,
 }
 
-// What decoding answers: how many bytes were stored.
-#[derive(Clone, Copy)]
-pub enum Decoded {
-    Length(usize),
+// Why a text is not decoded.
+#[derive(Clone, Copy, Debug, PartialEq, Eq)]
+pub enum DecodeError {
     Invalid(Fault),
     NoRoom,
 }
 
-// Stores the bytes of `text` in `out` from place `at` on. A fault is told before a lack of room, and
-// after either `out` is as before. A text that decodes is the only one of its bytes.
-pub fn decode(text: &[u8], out: &mut [u8], at: usize) -> Decoded
+impl From<Fault> for DecodeError {
+    ghost from_gives = { λ fault e. e ≡ Invalid fault };
+
+    fn from(fault: Fault) -> DecodeError {
+        DecodeError::Invalid(fault)
+    }
+}
+
+// Stores the bytes of `text` in `out` from place `at` on, and answers how many they are. A fault is told
+// before a lack of room, and after either `out` is as before. A text that decodes is the only one of its
+// bytes.
+pub fn decode(text: &[u8], out: &mut [u8], at: usize) -> Result<usize, DecodeError>
     ensures out_after { outcome result out.new ≡ decode_of text.now out.old at }
     ensures decoded_encodes { DecodedEncodes }
 {
     let table = VALUES;
-    match decoder::check(&table, text) {
-        Verdict::Valid(padding) => {
-            let n = text.len() / 4 * 3 - padding;
-            if !octets::fits(at, n, out.len()) {
-                return Decoded::NoRoom;
-            }
-            decoder::fill(&table, text, padding, out, at);
-            Decoded::Length(n)
-        }
-        Verdict::Invalid(fault) => Decoded::Invalid(fault),
+    let padding = decoder::check(&table, text)?;
+    let n = text.len() / 4 * 3 - padding;
+    if !octets::fits(at, n, out.len()) {
+        return Err(DecodeError::NoRoom);
     }
+    decoder::fill(&table, text, out, at);
+    Ok(n)
 }
 
 // The same by a choice of padding. Where it is optional, the text of some bytes decodes to them with its
 // padding and without it, and no other text does.
-pub fn decode_with(padding: Padding, text: &[u8], out: &mut [u8], at: usize) -> Decoded
+pub fn decode_with(
+    padding: Padding,
+    text: &[u8],
+    out: &mut [u8],
+    at: usize,
+) -> Result<usize, DecodeError>
     ensures out_after { outcome result out.new ≡ decode_with padding text.now out.old at }
     ensures decoded_encodes { DecodedEncodes × UnpaddedDecodes × DecodeExamples }
 {
@@ -84,16 +86,16 @@ pub fn decode_with(padding: Padding, text: &[u8], out: &mut [u8], at: usize) -> 
     }
 }
 
-// Stores the text of `data` in `out` from place `at` on. Where it does not fit, `out` is as before. It
-// decodes to `data` again.
-pub fn encode(data: &[u8], out: &mut [u8], at: usize) -> Stored
+// Stores the text of `data` in `out` from place `at` on, and answers where it ends. Where it does not fit,
+// `out` is as before. It decodes to `data` again.
+pub fn encode(data: &[u8], out: &mut [u8], at: usize) -> Option<usize>
     ensures out_after { outcome result out.new ≡ encode_of «data».now out.old at }
     ensures encoded_decodes { EncodedDecodes }
 {
-    let n = (data.len() + 2) / 3 * 4;
+    let n = data.len().div_ceil(3) * 4;
     if !octets::fits(at, n, out.len()) {
-        return Stored::NoRoom;
+        return None;
     }
     encoder::fill(data, out, at);
-    Stored::End(at + n)
+    Some(at + n)
 }

@@ -6,6 +6,7 @@ use mathlib.Core.List.{List, [], ◌∷◌}
 use native.Mathlib.Omega.{arith}
 use lib.ListN.{length, get_or}
 use borrow.Author.Tests.{le-ltb, ltb-false}
+use Rattle.std.specs.Prelude.{Result, Ok}
 use Rattle.octets.specs.Ascii.{ascii}
 use Rattle.octets.specs.Slices.{starts_with}
 use Rattle.base64_codec.specs.Decode.{bytes_of}
@@ -14,7 +15,7 @@ use Rattle.base64_codec.proofs.RoundTrip.{padding_of, valid-text, text-bytes}
 use Rattle.decimal.specs.Read.{parse_of, magnitude_of, digits_of, ranged_of}
 use Rattle.decimal.specs.Write as Decimal
 use Rattle.decimal.specs.declared.Number.{Number}
-use Rattle.decimal.specs.declared.Parsed.TheVariants.{Integer}
+use Rattle.decimal.specs.declared.ParseError.{ParseError}
 use Rattle.decimal.proofs.RoundTrip as decimal
 use Rattle.decimal.proofs.Texts.{canonical-text}
 use Rattle.command.specs.Keys.{Kind}
@@ -52,7 +53,9 @@ value-spelled (a-base64 {v = x ∷ v} padding d z) =
 -- a number other than 0 is not written `0`
 zero-text : (n : Number) → Decimal.writable n ≡ true → Decimal.text_of n ≡ ascii "0" → n.magnitude ≡ 0
 unfolding parse_of starts_with magnitude_of digits_of ranged_of
-zero-text n w e = let p : Integer (count 0) ≡ Integer n = rw e at (decimal.read-written n w) in let q : count 0 ≡ n = cc in rw (← q)
+zero-text n w e =
+    let p : ◌≡◌ {A = Result Number ParseError} (Ok (count 0)) (Ok n) = rw e at (decimal.read-written n w) in
+    let q : count 0 ≡ n = cc in rw (← q)
 
 pub spelled-canonical : {k : Kind} {v : Value} {t : List ℕ} → Spelled k v t → CanonicalValue k t
 spelled-canonical (Spelled.word {unknown} {first} {ws} {aliases} {n} s z i e) =

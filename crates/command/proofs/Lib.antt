@@ -1,9 +1,7 @@
 pub mod Cases
 pub mod Every
-mod Ranges
 pub mod Runs
 pub mod Names
-pub mod WordPlaces
 pub mod Calm
 pub mod Table
 pub mod WrittenValues

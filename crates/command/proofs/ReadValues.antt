@@ -7,15 +7,15 @@ use native.Mathlib.Omega.{arith}
 use lib.ListN.{length}
 use lib.Dec.{ltb, leb}
 use borrow.Author.Tests.{ltb-true}
+use Rattle.std.specs.Prelude.{Result, Ok, Err}
 use Rattle.octets.specs.Members.{every}
 use Rattle.octets.specs.Slices.{equals}
 use Rattle.base64_codec.specs.Decode.{verdict_of, bytes_of}
 use Rattle.base64_codec.specs.declared.Fault.{Fault}
-use Rattle.base64_codec.specs.declared.Verdict.{Verdict}
 use Rattle.base64_codec.proofs.Lengths.{length_valid}
 use Rattle.decimal.specs.Read.{parse_of}
 use Rattle.decimal.specs.declared.Number.{Number}
-use Rattle.decimal.specs.declared.Parsed.{Parsed}
+use Rattle.decimal.specs.declared.ParseError.{ParseError}
 use Rattle.command.specs.Keys.{Alias, Kind, keys, place_in, kind_at}
 use Rattle.command.specs.Letters.{safe_byte}
 use Rattle.command.specs.Refusals.{refusal_number}
@@ -52,7 +52,7 @@ pub data Reads : Kind → List ℕ → Got → Type 0 where
   as-string : {short : Bool} {v : List ℕ} → every safe_byte v ≡ true → over short v ≡ false
       → Reads (Kind.safe short) v (Got.got (Value.bytes v))
   as-integer : {v : List ℕ} {n : Number} → Reads Kind.integer v (Got.got (Value.number n))
-  as_bytes : {v : List ℕ} {padding : ℕ} → verdict_of v ≡ Verdict.Valid padding → Reads Kind.base64 v (Got.got (Value.bytes (bytes_of v)))
+  as_bytes : {v : List ℕ} {padding : ℕ} → verdict_of v ≡ Ok padding → Reads Kind.base64 v (Got.got (Value.bytes (bytes_of v)))
   refused : {k : Kind} {v : List ℕ} (r : Refusal) → (known k ≡ true → of_text (refusal_number r) ≡ true) → Reads k v (refuses r)
 
 end_le : (end : ℕ) (aliases : List Alias) → end ≤ codes_end end aliases
@@ -97,15 +97,15 @@ reads (Kind.safe short) v =
     R = Reads (Kind.safe short) v
 reads Kind.integer v = go (parse_of v)
   where
-    go : (p : Parsed) → Reads Kind.integer v (integer_read p)
-    go (Parsed.Integer n) = as-integer
-    go Parsed.Malformed = refused Refusal.MalformedInteger (λ e. refl)
-    go Parsed.OutOfRange = refused Refusal.OutOfRange (λ e. refl)
+    go : (p : Result Number ParseError) → Reads Kind.integer v (integer_read p)
+    go (Ok n) = as-integer
+    go (Err ParseError.Malformed) = refused Refusal.MalformedInteger (λ e. refl)
+    go (Err ParseError.OutOfRange) = refused Refusal.OutOfRange (λ e. refl)
 reads Kind.base64 v = go (verdict_of v) refl
   where
-    go : (x : Verdict) → verdict_of v ≡ x → Reads Kind.base64 v (base64_read x (bytes_of v))
-    go (Verdict.Valid padding) e = as_bytes e
-    go (Verdict.Invalid fault) e = refused (base64_refusal fault) (λ q. of-base64 fault)
+    go : (x : Result ℕ Fault) → verdict_of v ≡ x → Reads Kind.base64 v (base64_read x (bytes_of v))
+    go (Ok padding) e = as_bytes e
+    go (Err fault) e = refused (base64_refusal fault) (λ q. of-base64 fault)
 
 -- a value's bytes in the scratch are at most three for four of its text
 pub stored-room : {k : Kind} {v : List ℕ} {x : Value} → Reads k v (Got.got x) → 4 * length (stored_for k x) ≤ 3 * length v

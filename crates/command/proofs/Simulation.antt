@@ -9,6 +9,7 @@ use lib.ListN.{length, drop, length-take, length-drop}
 use lib.Seq.{length-sets}
 use lib.Dec.{ltb, eqb, lit<}
 use borrow.Author.Tests.{le-ltb, le-leb, ltb-false}
+use Rattle.std.specs.Prelude.{Option, is_some}
 use Rattle.octets.specs.Outcome.{Outcome, outcome}
 use Rattle.frames.specs.Stream.{text_limit}
 use Rattle.command.specs.Keys.{keys, key_at, kind_at}
@@ -58,9 +59,9 @@ module _ (t scratch : List ℕ) where
         })
     kept-agree (Got.refused m) r d = off (alike-later (omega arith) r)
 
-    once-agree : {s : Reader} {fs : List Field} {sl : Slot} {f : Field} {x : Turn Reader} {y : Turn (List Field)}
+    once-agree : {s : Reader} {fs : List Field} {sl : Option Slot} {f : Field} {x : Turn Reader} {y : Turn (List Field)}
         → Alike from s fs → Agree (Alike (at + length v)) x y → Holds t s.scratch s.used (key_at keys n) sl f
-        → Agree (Alike (at + length v)) (cond sl.stood (Turn.off 5 s) x) (once f y fs)
+        → Agree (Alike (at + length v)) (cond (is_some sl) (Turn.off 5 s) x) (once f y fs)
     once-agree r g empty = g
     once-agree r g (full _ _ _ _ _ _ _) = off (alike-later (omega arith) r)
 

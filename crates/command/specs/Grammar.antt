@@ -1,15 +1,13 @@
 -- Which texts are canonical: a grammar over the table of keys. It says nothing of how a text is read or written.
-use Rattle.std.specs.Prelude.{ℕ, ◌+◌, ◌≤◌, ◌<◌, ◌≡◌, Bool, true, false, ◌||◌, List, [], ◌∷◌, ◌++◌, length, get_or}
+use Rattle.std.specs.Prelude.{Ok, ℕ, ◌+◌, ◌≤◌, ◌<◌, ◌≡◌, Bool, true, false, ◌||◌, List, [], ◌∷◌, ◌++◌, length, get_or}
 use Rattle.octets.specs.Members.{every}
 use Rattle.octets.specs.Ascii.{ascii}
 use Rattle.octets.specs.Slices.{equals}
 use Rattle.octets.specs.Split.{join}
 use Rattle.base64_codec.specs.Decode.{verdict_of}
-use Rattle.base64_codec.specs.declared.Verdict.TheVariants.{Valid}
 use Rattle.decimal.specs.Canonical.{Canonical}
 use Rattle.decimal.specs.Read.{parse_of}
 use Rattle.decimal.specs.declared.Number.{Number}
-use Rattle.decimal.specs.declared.Parsed.TheVariants.{Integer}
 use Rattle.frames.specs.Stream.{text_limit}
 use Rattle.command.specs.Keys.{Alias, Kind, Key, keys}
 use Rattle.command.specs.Letters.{safe_byte}
@@ -25,10 +23,10 @@ pub data CanonicalValue : Kind → List ℕ → Type 0 where
       → every safe_byte v ≡ true → (short ≡ true → length v ≤ 32) → (v ≡ [] → ⊥) → CanonicalValue (Kind.safe short) v
   -- "within signed 64 bits", "integers without leading zeros or `-0`"; not zero
   an-integer : {v : List ℕ} (n : Number)
-      → parse_of v ≡ Integer n → Canonical v → (v ≡ ascii "0" → ⊥) → CanonicalValue Kind.integer v
+      → parse_of v ≡ Ok n → Canonical v → (v ≡ ascii "0" → ⊥) → CanonicalValue Kind.integer v
   -- "Base64: length a multiple of 4, padding required, unused bits zero"; not empty
   a-base64 : {v : List ℕ} (padding : ℕ)
-      → verdict_of v ≡ Valid padding → (v ≡ [] → ⊥) → CanonicalValue Kind.base64 v
+      → verdict_of v ≡ Ok padding → (v ≡ [] → ⊥) → CanonicalValue Kind.base64 v
 
 -- "`ac` and a non-empty `id` must be there"
 abbrev pub needed : Key → Bool

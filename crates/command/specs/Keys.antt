@@ -1,5 +1,5 @@
 -- The keys of a command, in writing order, each with the kind of its values: document 01's table.
-use Rattle.std.specs.Prelude.{ℕ, suc, Bool, true, false, cond, List, [], ◌∷◌, get_or}
+use Rattle.std.specs.Prelude.{ℕ, suc, Bool, true, false, cond, Option, Some, None, List, [], ◌∷◌, get_or, ltb}
 use Prim.Native.String.{String}
 use Rattle.octets.specs.Ascii.{ascii}
 use Rattle.octets.specs.Slices.{equals}
@@ -76,6 +76,10 @@ names (k ∷ ks) = k.name ∷ names ks
 -- the number of a key in writing order, and the number of keys for an unknown one
 abbrev pub number_of : List Key → List ℕ → ℕ
 number_of ks n = place_in (names ks) n
+
+-- a place in a list of that many members, if it is one
+abbrev pub within : ℕ → ℕ → Option ℕ
+within count n = cond (ltb n count) (Some n) None
 
 -- the key with a number, and its kind
 abbrev pub key_at : List Key → ℕ → Key

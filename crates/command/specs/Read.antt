@@ -1,5 +1,6 @@
 -- Reading a text into slots and the scratch: what `read` answers, and the scratch afterwards.
-use Rattle.std.specs.Prelude.{ℕ, ◌+◌, ◌≤◌, ◌≡◌, true, cond, ◌||◌, List, [], ◌∷◌, length, get_or, set, ltb, eqb}
+use Rattle.std.specs.Prelude.{Option, Some, is_some, Result, Ok, Err}
+use Rattle.std.specs.Prelude.{ℕ, ◌+◌, ◌≤◌, ◌≡◌, cond, ◌||◌, List, [], ◌∷◌, length, get_or, set, ltb, eqb}
 use Rattle.std.proofs.lemmas.List.Edits.{sets}
 use Rattle.octets.specs.Outcome.{Outcome, outcome}
 use Rattle.command.specs.Keys.{Kind, Key, keys, kind_at}
@@ -11,11 +12,11 @@ use Rattle.command.specs.Slots.{action_code, free, command_of, values_of}
 use Rattle.command.specs.declared.Place.{Place}
 use Rattle.command.specs.declared.Slot.{Slot}
 use Rattle.command.specs.declared.Command.{Command}
-use Rattle.command.specs.declared.Reading.{Reading}
+use Rattle.command.specs.declared.Refusal.{Refusal}
 
 -- the slots so far, the scratch, and how many of its bytes are used
 pub record Reader : Type 0 where
-  pub slots : List Slot
+  pub slots : List (Option Slot)
   pub scratch : List ℕ
   pub used : ℕ
 
@@ -35,13 +36,13 @@ stored_for Kind.integer v = []
 stored_for Kind.base64 v = bytes_in v
 
 abbrev pub slot_for : Kind → ℕ → ℕ → Value → Slot
-slot_for k at used v = record { stood = true; number = number_in v; place = place_for k at used v }
+slot_for k at used v = record { number = number_in v; place = place_for k at used v }
 
 -- "Decoded n, st and d stand one after another from the scratch's start, in the text's order"
 abbrev pub kept_by : Kind → ℕ → ℕ → Reader → Got → Turn Reader
 kept_by k n at s (Got.got v) =
     Turn.on (record {
-      slots = set s.slots n (slot_for k at s.used v);
+      slots = set s.slots n (Some (slot_for k at s.used v));
       scratch = sets s.scratch s.used (stored_for k v);
       used = s.used + length (stored_for k v);
     })
@@ -50,10 +51,10 @@ kept_by k n at s (Got.refused r) = Turn.off r s
 -- "A known key may stand once" (5), and then its value is of its kind (6, 8)
 unfoldable pub kept : Step Reader
 kept n at v s =
-    cond (get_or s.slots n free).stood (Turn.off 5 s) (kept_by (kind_at keys n) n at s (value_read (kind_at keys n) v))
+    cond (is_some (get_or s.slots n free)) (Turn.off 5 s) (kept_by (kind_at keys n) n at s (value_read (kind_at keys n) v))
 
 -- ---- a text read
-abbrev pub frees : List Key → List Slot
+abbrev pub frees : List Key → List (Option Slot)
 frees [] = []
 frees (k ∷ ks) = free ∷ frees ks
 
@@ -83,9 +84,9 @@ read_of t scratch =
     cond (ltb (length scratch) scratch_room) (outcome (Answer.refused 9) scratch) (finished (text_read kept t (begun scratch)))
 
 -- the code's answer, its refusal by document 01's number
-abbrev pub answered : Reading → Answer
-answered (Reading.Read c) = Answer.read c
-answered (Reading.Refused r) = Answer.refused (refusal_number r)
+abbrev pub answered : Result Command Refusal → Answer
+answered (Ok c) = Answer.read c
+answered (Err r) = Answer.refused (refusal_number r)
 
 -- what an answer means, given the text and the scratch afterwards: places apart
 abbrev pub meaning_in : List ℕ → Outcome Answer → Meaning

@@ -1,34 +1,27 @@
--- The table of keys as the code has it: a row for each key, its name followed by blanks, and the words of each key as text.
-use Rattle.std.specs.Prelude.{ℕ, List, [], ◌∷◌, ◌++◌, length, take}
-use Rattle.octets.specs.Ascii.{ascii}
-use Rattle.octets.specs.Split.{join}
-use Rattle.command.specs.Keys.{Alias, Key}
+-- The table of keys as the code has it: what a row is as a key, its texts as the lists of their bytes.
+use Rattle.std.specs.Prelude.{ℕ, List, map}
+use Rattle.std.specs.Borrow.{Bor}
+use Rattle.command.specs.Keys.{Key}
 use Rattle.command.specs.Keys as Keys
 use Rattle.command.specs.declared.keys.Kind.{Kind}
 use Rattle.command.specs.declared.keys.Row.{Row}
+use Rattle.command.specs.declared.words.Alias.{Alias}
+use Rattle.command.specs.declared.words.Words.{Words}
 
--- a kind: of words, the refusal of an unknown one, the first one's code and their number
-abbrev pub kind_of : Keys.Kind → Kind
-kind_of (Keys.Kind.word unknown first ws aliases) = Kind.Word unknown first (length ws)
-kind_of (Keys.Kind.safe short) = Kind.Safe short
-kind_of Keys.Kind.integer = Kind.Integer
-kind_of Keys.Kind.base64 = Kind.Base64
+abbrev pub texts_of : List (Bor (List ℕ)) → List (List ℕ)
+texts_of l = map (λ (t : Bor (List ℕ)). t.now) l
 
-abbrev pub row_of : Key → Row
-row_of k = (take 3 (k.name ++ ascii "   "), length k.name, kind_of k.kind)
+abbrev pub alias_of : Alias → Keys.Alias
+alias_of a = record { text = a.text.now; code = a.code }
 
--- the words of a kind, as the code has them in a text, parted by blanks; an empty text has one part, which is empty
-abbrev pub words_of : Keys.Kind → List (List ℕ)
-words_of (Keys.Kind.word unknown first ws aliases) = ws
-words_of (Keys.Kind.safe short) = [] ∷ []
-words_of Keys.Kind.integer = [] ∷ []
-words_of Keys.Kind.base64 = [] ∷ []
+abbrev pub words_of : Words → Keys.Kind
+words_of w = Keys.Kind.word w.unknown w.first (texts_of w.texts.now) (map alias_of w.aliases.now)
 
-abbrev pub word_text : Key → List ℕ
-word_text k = join 32 (words_of k.kind)
+abbrev pub kind_of : Kind → Keys.Kind
+kind_of (Kind.Word words) = words_of words
+kind_of (Kind.Safe short) = Keys.Kind.safe short
+kind_of Kind.Integer = Keys.Kind.integer
+kind_of Kind.Base64 = Keys.Kind.base64
 
-abbrev pub aliases_of : Keys.Kind → List Alias
-aliases_of (Keys.Kind.word unknown first ws aliases) = aliases
-aliases_of (Keys.Kind.safe short) = []
-aliases_of Keys.Kind.integer = []
-aliases_of Keys.Kind.base64 = []
+abbrev pub key_of : Row → Key
+key_of r = record { name = r.0.now; kind = kind_of r.1 }

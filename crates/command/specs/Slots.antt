@@ -1,5 +1,5 @@
 -- A command as it is kept: a slot for each key, in writing order, and the places of strings in the text and in the scratch.
-use Rattle.std.specs.Prelude.{ℕ, ◌+◌, true, false, cond, List, [], ◌∷◌, length, take, drop, get_or, leb, eqb}
+use Rattle.std.specs.Prelude.{Option, Some, None, ℕ, ◌+◌, cond, List, [], ◌∷◌, length, take, drop, get_or, leb, eqb}
 use Rattle.decimal.specs.declared.Number.{Number}
 use Rattle.command.specs.Keys.{Kind, Key, keys}
 use Rattle.command.specs.Values.{Value, count}
@@ -69,17 +69,22 @@ no_command =
     }
 
 -- the slot of a key that has not stood
-abbrev pub free : Slot
-free = record { stood = false; number = count 0; place = nowhere }
+abbrev pub free : Option Slot
+free = None
+
+-- what a slot holds; one of a key that has not stood, what absent means
+abbrev pub held : Option Slot → Slot
+held None = record { number = count 0; place = nowhere }
+held (Some s) = s
 
 abbrev pub numbered : Number → Slot
-numbered n = record { stood = true; number = n; place = nowhere }
+numbered n = record { number = n; place = nowhere }
 
 abbrev pub coded : ℕ → Slot
 coded n = numbered (count n)
 
 abbrev pub placed : Place → Slot
-placed p = record { stood = true; number = count 0; place = p }
+placed p = record { number = count 0; place = p }
 
 -- a command's slots in writing order
 unfoldable pub slots_of : Command → List Slot
@@ -102,23 +107,23 @@ slots_of c =
     ∷ []
 
 -- the command of the slots in writing order
-unfoldable pub command_of : List Slot → Command
+unfoldable pub command_of : List (Option Slot) → Command
 command_of s =
     record {
-      action = action_of (get_or s 0 free).number.magnitude;
-      file_type = file_type_of (get_or s 2 free).number.magnitude;
-      transmission = transmission_of (get_or s 3 free).number.magnitude;
-      id = (get_or s 4 free).place;
-      file_id = (get_or s 5 free).place;
-      bypass = (get_or s 6 free).place;
-      quiet = (get_or s 7 free).number.magnitude;
-      modified = (get_or s 8 free).number;
-      permissions = (get_or s 9 free).number;
-      size = (get_or s 10 free).number;
-      name = (get_or s 11 free).place;
-      status = (get_or s 12 free).place;
-      parent = (get_or s 13 free).place;
-      payload = (get_or s 14 free).place;
+      action = action_of (held (get_or s 0 free)).number.magnitude;
+      file_type = file_type_of (held (get_or s 2 free)).number.magnitude;
+      transmission = transmission_of (held (get_or s 3 free)).number.magnitude;
+      id = (held (get_or s 4 free)).place;
+      file_id = (held (get_or s 5 free)).place;
+      bypass = (held (get_or s 6 free)).place;
+      quiet = (held (get_or s 7 free)).number.magnitude;
+      modified = (held (get_or s 8 free)).number;
+      permissions = (held (get_or s 9 free)).number;
+      size = (held (get_or s 10 free)).number;
+      name = (held (get_or s 11 free)).place;
+      status = (held (get_or s 12 free)).place;
+      parent = (held (get_or s 13 free)).place;
+      payload = (held (get_or s 14 free)).place;
     }
 
 -- ---- what the slots mean

@@ -1,16 +1,15 @@
 -- Values: what the text of a value reads as, and what a value is written as, by its kind.
-use Rattle.std.specs.Prelude.{ℕ, ◌+◌, ◌-◌, Bool, false, cond, ◌&&◌, List, [], ◌∷◌, length, get_or, ltb, eqb}
+use Rattle.std.specs.Prelude.{Result, Ok, Err, ℕ, ◌+◌, ◌-◌, Bool, false, cond, ◌&&◌, List, [], ◌∷◌, length, get_or, ltb, eqb}
 use Rattle.octets.specs.Members.{every}
 use Rattle.octets.specs.Slices.{equals}
 use Rattle.base64_codec.specs.Decode.{verdict_of, bytes_of}
 use Rattle.base64_codec.specs.Encode as Base64
+use Rattle.base64_codec.specs.declared.DecodeError.{DecodeError}
 use Rattle.base64_codec.specs.declared.Fault.{Fault}
-use Rattle.base64_codec.specs.declared.Verdict.{Verdict}
 use Rattle.decimal.specs.Read.{parse_of}
 use Rattle.decimal.specs.Write as Decimal
 use Rattle.decimal.specs.declared.Number.{Number}
-use Rattle.decimal.specs.declared.Parsed.{Parsed}
-use Rattle.decimal.specs.declared.Parsed.TheVariants.{Integer, Malformed, OutOfRange}
+use Rattle.decimal.specs.declared.ParseError.{ParseError}
 use Rattle.command.specs.Refusals.{refusal_number}
 use Rattle.command.specs.Keys.{Alias, Kind, place_in}
 use Rattle.command.specs.Letters.{safe_byte, is_byte}
@@ -41,6 +40,11 @@ pub data Got : Type 0 where
 abbrev pub refuses : Refusal → Got
 refuses r = Got.refused (refusal_number r)
 
+-- a code that was read, or a refusal
+abbrev pub code_got : Result ℕ Refusal → Got
+code_got (Ok code) = Got.got (Value.number (count code))
+code_got (Err r) = refuses r
+
 -- the code of an alias
 unfoldable pub alias_read : Refusal → List Alias → List ℕ → Got
 alias_read unknown [] v = refuses unknown
@@ -63,10 +67,13 @@ safe_read short v =
     (refuses Refusal.UnsafeCharacter)
 
 -- "63 integer malformed (or over 19 digits), 64 integer out of range"
-abbrev pub integer_read : Parsed → Got
-integer_read (Integer n) = Got.got (Value.number n)
-integer_read Malformed = refuses Refusal.MalformedInteger
-integer_read OutOfRange = refuses Refusal.OutOfRange
+abbrev pub integer_refusal : ParseError → Refusal
+integer_refusal ParseError.Malformed = Refusal.MalformedInteger
+integer_refusal ParseError.OutOfRange = Refusal.OutOfRange
+
+abbrev pub integer_read : Result Number ParseError → Got
+integer_read (Ok n) = Got.got (Value.number n)
+integer_read (Err error) = refuses (integer_refusal error)
 
 -- "65 Base64 length or padding, 66 Base64 character, 67 unused bits not zero"
 abbrev pub base64_refusal : Fault → Refusal
@@ -74,9 +81,14 @@ base64_refusal Fault.Length = Refusal.Base64Length
 base64_refusal Fault.Character = Refusal.Base64Character
 base64_refusal Fault.UnusedBits = Refusal.UnusedBits
 
-abbrev pub base64_read : Verdict → List ℕ → Got
-base64_read (Verdict.Valid padding) b = Got.got (Value.bytes b)
-base64_read (Verdict.Invalid fault) b = refuses (base64_refusal fault)
+-- of decoding: that a scratch has no room besides, which is what a short buffer is refused with
+abbrev pub decode_refusal : DecodeError → Refusal
+decode_refusal (DecodeError.Invalid fault) = base64_refusal fault
+decode_refusal DecodeError.NoRoom = Refusal.ShortBuffer
+
+abbrev pub base64_read : Result ℕ Fault → List ℕ → Got
+base64_read (Ok padding) b = Got.got (Value.bytes b)
+base64_read (Err fault) b = refuses (base64_refusal fault)
 
 -- the value of a kind that a text is
 unfoldable pub value_read : Kind → List ℕ → Got

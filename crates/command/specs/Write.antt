@@ -1,5 +1,5 @@
 -- Writing a command: what `write` answers, and the buffer afterwards.
-use Rattle.std.specs.Prelude.{cond, ◌||◌, ℕ, List, [], ◌∷◌, length, ltb}
+use Rattle.std.specs.Prelude.{Result, Ok, Err, cond, ◌||◌, ℕ, List, [], ◌∷◌, length, ltb}
 use Rattle.std.proofs.lemmas.List.Edits.{sets}
 use Rattle.octets.specs.Outcome.{Outcome, outcome}
 use Rattle.frames.specs.Stream.{text_limit}
@@ -8,7 +8,7 @@ use Rattle.command.specs.Values.{Value, Shown, shown}
 use Rattle.command.specs.Meaning.{missing}
 use Rattle.command.specs.Canonical.{canonical}
 use Rattle.command.specs.Refusals.{refusal_number}
-use Rattle.command.specs.declared.Written.{Written}
+use Rattle.command.specs.declared.Refusal.{Refusal}
 
 -- nothing at fault, or a refusal
 pub data Checked : Type 0 where
@@ -49,6 +49,6 @@ unfoldable pub write_of : List Value → List ℕ → Outcome Answer
 write_of c out = written_by (checked_of keys c) c out
 
 -- the code's answer, its refusal by document 01's number
-abbrev pub answered : Written → Answer
-answered (Written.Length n) = Answer.written n
-answered (Written.Refused r) = Answer.refused (refusal_number r)
+abbrev pub answered : Result ℕ Refusal → Answer
+answered (Ok n) = Answer.written n
+answered (Err r) = Answer.refused (refusal_number r)

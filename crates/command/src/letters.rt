@@ -1,7 +1,8 @@
 // Which bytes may stand where, and how many.
 ghost use Rattle.std.specs.Prelude.{◌+◌, ◌&&◌, ◌≡◌, drop, ltb};
 ghost use Rattle.octets.specs.Members.{every};
-ghost use Rattle.command.specs.Classes.{byte_of, in_ranges, run};
+ghost use Rattle.command.specs.Classes.{byte_of, run};
+ghost use Rattle.command.specs.Letters.{key_byte, safe_byte, text_byte};
 
 // The bytes of a text, of a key, and of a safe string.
 #[derive(Clone, Copy)]
@@ -11,15 +12,14 @@ pub enum Class {
     Safe,
 }
 
-// Whether each byte of s is of the class. No early way out, so that many are tested at once.
+// Whether each byte of s is of the class. No early way out as `all` of an iterator has, so that many are
+// tested at once.
 pub fn all(class: Class, s: &[u8]) -> bool
     ensures { result ≡ every (byte_of class) s.now }
 {
     let mut all = true;
-    let mut i = 0;
-    while i < s.len() {
-        all = all & is(class, s[i]);
-        i += 1;
+    for c in s {
+        all &= is(class, *c);
     }
     all
 }
@@ -29,50 +29,51 @@ pub fn all(class: Class, s: &[u8]) -> bool
 pub fn pass(class: Class, s: &[u8], from: usize) -> usize
     ensures { result ≡ from + run (byte_of class) (drop from s.now) }
 {
-    let mut i = from;
-    while i < s.len() {
+    for i in from..s.len() {
         if !is(class, s[i]) {
             return i;
         }
-        i += 1;
     }
-    i
+    from.max(s.len())
 }
 
 // Whether a string is not "at most 32 bytes", where that is asked.
 pub fn over(short: bool, len: usize) -> bool
     ensures { result ≡ (short && ltb 32 len) }
 {
-    short & (len > 32)
+    short && len > 32
 }
 
-// Whether c is of the class. What safe strings have besides keys' bytes stands beside these: `-`, `.`
-// and `/` before 0, `:` after 9, and `@` before A.
+// Whether c is of the class.
 fn is(class: Class, c: u8) -> bool
     ensures { result ≡ byte_of class c }
 {
     match class {
-        Class::Text => (c >= 0x20) & (c <= 0x7E),
-        Class::Key => in_ranges(b'0', b'9', b'A', c),
-        Class::Safe => in_ranges(b'-', b':', b'@', c),
+        Class::Text => is_text(c),
+        Class::Key => is_key(c),
+        Class::Safe => is_safe(c),
     }
 }
 
-// Whether c is from `low` to `high`, from `capital` to Z, `_`, or from a to z.
-fn in_ranges(low: u8, high: u8, capital: u8, c: u8) -> bool
-    ensures { result ≡ in_ranges low high capital c }
+#[tactic(auto, unfolding(crate::specs::Letters::text_byte))]
+fn is_text(c: u8) -> bool
+    ensures { result ≡ text_byte c }
 {
-    if c >= b'a' {
-        return c <= b'z';
-    }
-    if c >= capital {
-        if c <= b'Z' {
-            return true;
-        }
-        return c == b'_';
-    }
-    if c >= low {
-        return c <= high;
-    }
-    false
+    matches!(c, b' '..=b'~')
+}
+
+#[tactic(auto, unfolding(crate::specs::Letters::key_byte, octets::specs::Search::index_of, octets::specs::Search::index_after))]
+fn is_key(c: u8) -> bool
+    ensures { result ≡ key_byte c }
+{
+    matches!(c, b'0'..=b'9' | b'A'..=b'Z' | b'_' | b'a'..=b'z')
+}
+
+// What safe strings have besides keys' bytes stands beside these: `-`, `.` and `/` before 0, `:` after 9,
+// and `@` before A.
+#[tactic(auto, unfolding(crate::specs::Letters::safe_byte, octets::specs::Search::index_of, octets::specs::Search::index_after))]
+fn is_safe(c: u8) -> bool
+    ensures { result ≡ safe_byte c }
+{
+    matches!(c, b'-'..=b':' | b'@'..=b'Z' | b'_' | b'a'..=b'z')
 }

@@ -6,8 +6,10 @@
 // `command_writer`.
 #![tactic(auto)]
 
+mod codes;
 pub mod keys;
 pub mod letters;
+mod refusals;
 pub mod words;
 
 ghost use Rattle.std.specs.Prelude.{◌||◌, ◌≡◌, eqb};
@@ -17,7 +19,7 @@ ghost use Rattle.command.specs.Slots as Slots;
 use decimal::Number;
 
 // "action": none is the case of a command without one, which only a writer can meet.
-#[derive(Clone, Copy)]
+#[derive(Clone, Copy, PartialEq, Eq, Debug)]
 pub enum Action {
     None,
     Send,
@@ -30,34 +32,8 @@ pub enum Action {
     Status,
 }
 
-impl Action {
-    // Its code; 0 is that of none.
-    pub fn code(self) -> u64
-        ensures { result ≡ Slots.action_code self }
-    {
-        match self {
-            Action::None => 0,
-            Action::Send => 1,
-            Action::Receive => 2,
-            Action::File => 3,
-            Action::Data => 4,
-            Action::EndData => 5,
-            Action::Finish => 6,
-            Action::Cancel => 7,
-            Action::Status => 8,
-        }
-    }
-}
-
-// Whether one of an action and an id, which a command must have, is lacking.
-pub fn lacks(action: Action, id: Place) -> bool
-    ensures { result ≡ (eqb (Slots.action_code action) 0 || eqb id.len 0) }
-{
-    (action.code() == 0) | (id.len == 0)
-}
-
 // "file type"
-#[derive(Clone, Copy)]
+#[derive(Clone, Copy, PartialEq, Eq, Debug)]
 pub enum FileType {
     Regular,
     Directory,
@@ -66,14 +42,14 @@ pub enum FileType {
 }
 
 // "transmission"
-#[derive(Clone, Copy)]
+#[derive(Clone, Copy, PartialEq, Eq, Debug)]
 pub enum Transmission {
     Simple,
     Rsync,
 }
 
 // Where bytes stand in a buffer.
-#[derive(Clone, Copy)]
+#[derive(Clone, Copy, PartialEq, Eq, Debug)]
 pub struct Place {
     pub start: usize,
     pub len: usize,
@@ -106,6 +82,13 @@ pub struct Command {
 }
 
 impl Command {
+    // Whether one of an action and an id, which a command must have, is lacking.
+    pub fn lacks(&self) -> bool
+        ensures { result ≡ (eqb (Slots.action_code self.now.action) 0 || eqb self.now.id.len 0) }
+    {
+        self.action == Action::None || self.id.len == 0
+    }
+
     // How many bytes a scratch has at least: three for each four of the longest text.
     pub const SCRATCH_ROOM: usize = 6144;
 
@@ -133,81 +116,57 @@ impl Place {
     pub const NOWHERE: Place = Place { start: 0, len: 0 };
 }
 
-// Why a text is not read, or a command not written.
-#[derive(Clone, Copy)]
+// Why a text is not read, or a command not written, each with its number in the tables of documents 01
+// and 02.
+#[derive(Clone, Copy, PartialEq, Eq, Debug)]
 pub enum Refusal {
-    TextTooLong,
-    BadByte,
-    BadField,
-    Repeated,
-    UnknownWord,
-    UnsafeCharacter,
-    MalformedInteger,
-    OutOfRange,
-    Base64Length,
-    Base64Character,
-    UnusedBits,
-    Missing,
-    TooLong,
-    ShortBuffer,
+    TextTooLong = 1,
+    BadByte = 3,
+    BadField = 4,
+    Repeated = 5,
+    UnknownWord = 61,
+    UnsafeCharacter = 62,
+    MalformedInteger = 63,
+    OutOfRange = 64,
+    Base64Length = 65,
+    Base64Character = 66,
+    UnusedBits = 67,
+    Missing = 7,
+    TooLong = 8,
+    ShortBuffer = 9,
 }
 
 impl Refusal {
-    // Its number in the tables of documents 01 and 02.
+    // Its number.
     pub fn number(self) -> u8
         ensures { result ≡ refusal_number self }
     {
-        match self {
-            Refusal::TextTooLong => 1,
-            Refusal::BadByte => 3,
-            Refusal::BadField => 4,
-            Refusal::Repeated => 5,
-            Refusal::UnknownWord => 61,
-            Refusal::UnsafeCharacter => 62,
-            Refusal::MalformedInteger => 63,
-            Refusal::OutOfRange => 64,
-            Refusal::Base64Length => 65,
-            Refusal::Base64Character => 66,
-            Refusal::UnusedBits => 67,
-            Refusal::Missing => 7,
-            Refusal::TooLong => 8,
-            Refusal::ShortBuffer => 9,
-        }
+        self as u8
     }
 }
 
-// What reading a text answers.
-#[derive(Clone, Copy)]
-pub enum Reading {
-    Read(Command),
-    Refused(Refusal),
-}
-
-// What writing a command answers: the length of its text.
-#[derive(Clone, Copy)]
-pub enum Written {
-    Length(usize),
-    Refused(Refusal),
-}
-
-// One field of a command, whichever its key: whether it has stood, a word's code or an integer,
-// and a string's place. What a key's kind does not use is zero.
+// One field of a command, whichever its key: a word's code or an integer, and a string's place. What a
+// key's kind does not use is zero; no enum says which it is, since the kind does.
 #[derive(Clone, Copy)]
 pub struct Slot {
-    pub stood: bool,
     pub number: Number,
     pub place: Place,
 }
 
 impl Slot {
+    // What a key that has not stood means, whichever its kind.
+    pub const EMPTY: Slot = Slot {
+        number: ZERO,
+        place: Place::NOWHERE,
+    };
+
     // That of an integer.
     pub fn numbered(number: Number) -> Slot
         ensures { result ≡ Slots.numbered number }
     {
         Slot {
-            stood: true,
-            number: number,
-            place: Place::NOWHERE,
+            number,
+            ..Slot::EMPTY
         }
     }
 
@@ -226,9 +185,8 @@ impl Slot {
         ensures { result ≡ Slots.placed place }
     {
         Slot {
-            stood: true,
-            number: ZERO,
-            place: place,
+            place,
+            ..Slot::EMPTY
         }
     }
 }

@@ -1,42 +1,49 @@
-// Strings parted by a byte, as the words of a key are by blanks.
-ghost use Rattle.std.specs.Prelude.{◌≡◌, [], get_or};
-ghost use Rattle.octets.specs.Split.{split};
-ghost use Rattle.command.specs.Keys.{place_in};
+// The words of a key.
+ghost use Rattle.std.specs.Prelude.{◌≡◌};
+ghost use Rattle.std.specs.List.{position};
+ghost use Rattle.std.specs.Str.{bytes_eq};
+ghost use Rattle.command.specs.Rows.{words_of};
+ghost use Rattle.command.specs.Values.{code_got, value_read};
 
-// The place of a word among the words, and their number where it is not there.
-pub fn place_in(words: &[u8], word: &[u8]) -> usize
-    ensures { result ≡ place_in (split 32 words.now) word.now }
-{
-    let mut n = 0;
-    let mut at = 0;
-    loop {
-        let end = octets::find(words, at, b' ');
-        if octets::equal(word, &words[at..end]) {
-            return n;
+use crate::Refusal;
+
+// A word that is read as another one's code, and never written.
+#[derive(Clone, Copy)]
+pub struct Alias {
+    pub text: &'static [u8],
+    pub code: u64,
+}
+
+// The refusal of an unknown word, the code of the first, from which the others count on, the words in the
+// order of their codes, and the aliases.
+#[derive(Clone, Copy)]
+pub struct Words {
+    pub unknown: Refusal,
+    pub first: u8,
+    pub texts: &'static [&'static [u8]],
+    pub aliases: &'static [Alias],
+}
+
+impl Words {
+    // The code of a word or of an alias.
+    pub fn code(&self, text: &[u8]) -> Result<u64, Refusal>
+        ensures { code_got result ≡ value_read (words_of self.now) text.now }
+    {
+        if let Some(i) = place_in(self.texts, text) {
+            return Ok(u64::from(self.first) + i as u64);
         }
-        n += 1;
-        if end == words.len() {
-            return n;
+        for alias in self.aliases {
+            if octets::equal(text, alias.text) {
+                return Ok(alias.code);
+            }
         }
-        at = end + 1;
+        Err(self.unknown)
     }
 }
 
-// Part i of what b divides s into, and nothing where there is none.
-pub fn part(s: &[u8], b: u8, i: usize) -> &[u8]
-    ensures { result.now ≡ get_or (split b s.now) i [] }
+// The place of a text among texts.
+fn place_in(texts: &[&'static [u8]], text: &[u8]) -> Option<usize>
+    ensures { result ≡ position (λ t. bytes_eq text.now t.now) texts.now }
 {
-    let mut from = 0;
-    let mut left = i;
-    loop {
-        let end = octets::find(s, from, b);
-        if left == 0 {
-            return &s[from..end];
-        }
-        if end == s.len() {
-            return &s[..0];
-        }
-        from = end + 1;
-        left -= 1;
-    }
+    texts.iter().position(|known| text == *known)
 }

@@ -3,6 +3,7 @@ use Prim.Native.Nat.{ℕ, ◌+◌, ◌*◌, ◌≤◌}
 use mathlib.Core.List.{List}
 use native.Mathlib.Omega.{arith}
 use lib.ListN.{length, get_or}
+use Rattle.std.specs.Prelude.{is_some}
 use Rattle.command.specs.Keys.{Kind, keys, kind_at}
 use Rattle.command.specs.Values.{Got, value_read}
 use Rattle.command.specs.Fields.{Turn}
@@ -25,5 +26,5 @@ module _ (n at : ℕ) (v : List ℕ) (s : Reader) where
   pub known-within : Within (4 * s.used + 3 * length v) (kept n at v s)
   unfolding kept
   known-within =
-      by_test (Within (4 * s.used + 3 * length v)) (get_or s.slots n free).stood
+      by_test (Within (4 * s.used + 3 * length v)) (is_some (get_or s.slots n free))
       (λ e. tt) (λ e. value-within (kind_at keys n) (value_read (kind_at keys n) v) (reads (kind_at keys n) v))

@@ -10,6 +10,7 @@ use lib.ListN.{length, get_or, take, drop, length-take, length-drop}
 use lib.Seq.{take-nil, take-take, drop-drop, get_or-drop, get_or-take}
 use lib.Dec.{ltb, eqb}
 use borrow.Author.Tests.{lt-ltb, le-ltb, le-leb, lt-leb, ltb-true, not-true}
+use Rattle.std.specs.Prelude.{Option, Ok}
 use Rattle.octets.specs.Search.{index_of, index_after}
 use Rattle.octets.specs.Members.{every}
 use Rattle.octets.specs.Split.{split}
@@ -17,14 +18,13 @@ use Rattle.octets.proofs.Below.{both_test}
 use Rattle.octets.proofs.Finds.{index-found}
 use Rattle.octets.proofs.Cuts.{cut-within, cut-length, cut-last, cut-more}
 use Rattle.command.specs.Classes.{run}
-use Rattle.command.specs.Keys.{keys, number_of}
+use Rattle.command.specs.Keys.{keys, number_of, within}
 use Rattle.command.specs.Letters.{key_byte, text_byte}
 use Rattle.command.specs.Fields.{Turn, and_then, is_key, known, field_read, fields_read}
 use Rattle.command.specs.Read.{Reader, kept}
 use Rattle.command.proofs.Calm.{calm, plain, key-plain}
 use Rattle.command.proofs.Runs.{run_is}
 use Rattle.command_reader.specs.States.{left, Names}
-use Rattle.command_reader.specs.declared.fields.Named.TheVariants as Named
 
 -- ---- a field, cut off what is left of a text
 -- a key's byte is neither `;` nor `=`
@@ -186,10 +186,18 @@ module _ (t : List ℕ) (at sign : ℕ) (h : at ≤ length t) (q : sign ≡ at +
             value,
           )
 
-      -- which is that of key n, or of none
-      pub field-named : (n : ℕ) → n ≡ number_of keys (take (sign - at) l)
-          → (15 ≤ n → Names (Named.Unknown end) t at) × (n < 15 → Names (Named.Key n (sign + 1) end) t at)
-      field-named n m = (
-        λ k. (omega arith, end-within, λ s. left-next t at end h ends s ∙ rw (here s, ← m, le-ltb n 15 k)),
-        λ k. (k, omega arith, omega arith, end-within, λ s. left-next t at end h ends s ∙ rw (here s, ← m, lt-ltb n 15 k)),
-      )
+      -- which is that of the key with its name, or of none
+      pub field-named : (key : Option ℕ) → key ≡ within (length keys) (number_of keys (take (sign - at) l))
+          → Names (Ok (record { key = key; from = sign + 1; end = end })) t at
+      field-named key m = rw m (go (dec_lt n 15))
+        where
+          n : ℕ
+          n = number_of keys (take (sign - at) l)
+
+          go : Dec (n < 15) → Names (Ok (record { key = within 15 n; from = sign + 1; end = end })) t at
+          go (yes k) =
+              rw (lt-ltb n 15 k)
+              (omega arith, omega arith, end-within, k, λ s. left-next t at end h ends s ∙ rw (here s, lt-ltb n 15 k))
+          go (no k) =
+              rw (le-ltb n 15 (omega arith))
+              (omega arith, omega arith, end-within, tt, λ s. left-next t at end h ends s ∙ rw (here s, le-ltb n 15 (omega arith)))

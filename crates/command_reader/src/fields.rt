@@ -9,82 +9,56 @@ ghost use Rattle.command_reader.specs.States.{Names};
 
 use crate::slots::complete;
 use crate::values;
-use crate::values::Kept;
 use command::keys::{COUNT, number_of};
 use command::letters::Class;
-use command::{Place, Reading, Refusal, Slot, ZERO, letters};
+use command::{Command, Refusal, letters};
 
-// What a field names: nothing, where no key stands before a `=`; an unknown key, and where the field ends;
-// or the number of a key, where its value starts, and where it ends.
-#[derive(Drop)]
-pub enum Named {
-    Bad,
-    Unknown(usize),
-    Key(usize, usize, usize),
+// A field: the number of its key, if it is known, and where its value starts and ends.
+#[derive(Clone, Copy)]
+pub struct Field {
+    pub key: Option<usize>,
+    pub from: usize,
+    pub end: usize,
 }
 
 // Reads the fields of a text that starts `5113;`, and puts the command together. The slots and how many
 // bytes of the scratch are used stay here: to hand them on would copy them.
-pub(crate) fn read_fields(text: &[u8], scratch: &mut [u8]) -> Reading
+pub(crate) fn read_fields(text: &[u8], scratch: &mut [u8]) -> Result<Command, Refusal>
     requires { (5 ≤ length text.now) × (length text.now ≤ text_limit) × (scratch_room ≤ length scratch.old) }
     ensures { outcome (answered result) scratch.new
         ≡ finished (fields_read kept 5 (split 59 (drop 5 text.now)) (begun scratch.old)) }
 {
-    let mut slots = [FREE; COUNT];
+    let mut slots = [None; COUNT];
     let mut used = 0;
     let mut at = 5;
     while at <= text.len() {
-        match next_field(text, at) {
-            Named::Bad => return Reading::Refused(Refusal::BadField),
-            Named::Unknown(end) => {
-                at = end + 1;
+        let field = next_field(text, at)?;
+        if let Some(n) = field.key {
+            if slots[n].is_some() {
+                return Err(Refusal::Repeated);
             }
-            Named::Key(n, from, end) => {
-                let slot = slots[n];
-                if slot.stood {
-                    return Reading::Refused(Refusal::Repeated);
-                }
-                match values::keep(n, from, &text[from..end], scratch, used) {
-                    Kept::Slot(filled, stored) => {
-                        slots[n] = filled;
-                        used += stored;
-                        at = end + 1;
-                    }
-                    Kept::Refused(r) => return Reading::Refused(r),
-                }
-            }
+            let value = &text[field.from..field.end];
+            let kept = values::keep(n, field.from, value, scratch, used)?;
+            slots[n] = Some(kept.slot);
+            used += kept.stored;
         }
+        at = field.end + 1;
     }
     complete(slots)
 }
 
-// The slot of a key that has not stood.
-const FREE: Slot = Slot {
-    stood: false,
-    number: ZERO,
-    place: Place::NOWHERE,
-};
-
-// What the field at place `at` names. The bytes of its key are passed, and then its value.
-fn next_field(text: &[u8], at: usize) -> Named
+// The field at place `at`, refused where no key stands before a `=`. The bytes of its key are passed, and
+// then its value.
+fn next_field(text: &[u8], at: usize) -> Result<Field, Refusal>
     requires { (at ≤ length text.now) × (length text.now ≤ text_limit) }
     ensures { Names result text.now at }
 {
     let sign = letters::pass(Class::Key, text, at);
-    if sign == text.len() {
-        return Named::Bad;
-    }
-    if text[sign] != b'=' {
-        return Named::Bad;
-    }
-    if sign == at {
-        return Named::Bad;
+    if sign == text.len() || text[sign] != b'=' || sign == at {
+        return Err(Refusal::BadField);
     }
     let from = sign + 1;
     let end = octets::find(text, from, b';');
-    let n = number_of(&text[at..sign]);
-    if n >= COUNT {
-        return Named::Unknown(end);
-    }
-    Named::Key(n, from, end)
+    let key = number_of(&text[at..sign]);
+    Ok(Field { key, from, end })
 }

@@ -2,108 +2,92 @@
 ghost use Rattle.std.specs.Prelude.{◌≡◌, ℕ, ◌+◌, ◌*◌, ◌≤◌, ◌<◌, length};
 ghost use Rattle.command.specs.Keys as Keys;
 ghost use Rattle.command.specs.Rows.{words_of};
-ghost use Rattle.command.specs.Values.{base64_refusal};
-ghost use Rattle.command_reader.specs.Keeping.{word_at, Plain, Keeps};
+ghost use Rattle.command_reader.specs.Keeping.{plain, Plain, Keeps};
 
-use base64_codec::{Decoded, Fault};
-use command::keys::{Kind, place_of, row_at};
+use command::keys::{Kind, Row, row_at};
 use command::letters::Class;
+use command::words::Words;
 use command::{Place, Refusal, Slot, letters};
-use decimal::Parsed;
 
-// What a value is kept as: its slot, and how many bytes it stored in the scratch; or its refusal.
-#[derive(Drop)]
-pub enum Kept {
-    Slot(Slot, usize),
-    Refused(Refusal),
+// What a value is kept as: its slot, and how many bytes it stored in the scratch.
+#[derive(Clone, Copy)]
+pub struct Kept {
+    pub slot: Slot,
+    pub stored: usize,
+}
+
+impl Kept {
+    // A value of which nothing goes to the scratch.
+    fn plain(slot: Slot) -> Kept
+        ensures { result ≡ plain slot }
+    {
+        Kept { slot, stored: 0 }
+    }
 }
 
 // Keeps the value v of the key with number k, which stands at place `at` of the text. What it stores in
 // the scratch comes after the bytes that are used.
-pub(crate) fn keep(k: usize, at: usize, v: &[u8], scratch: &mut [u8], used: usize) -> Kept
+pub(crate) fn keep(
+    k: usize,
+    at: usize,
+    v: &[u8],
+    scratch: &mut [u8],
+    used: usize,
+) -> Result<Kept, Refusal>
     requires { 4 * used + 3 * length v.now ≤ 4 * length scratch.old }
     ensures { Keeps (Keys.kind_at Keys.keys k) at v.now scratch.old used result scratch.new }
 {
-    let row = row_at(k);
-    let kind = row.2;
+    let Row(_, kind) = row_at(k);
     match kind {
-        Kind::Word(unknown, first, count) => word(k, unknown, first as u64, count as u64, v),
-        Kind::Safe(short) => safe(short, at, v),
+        Kind::Word(words) => word(words, v),
+        Kind::Safe(short) => safe(*short, at, v),
         Kind::Integer => integer(v),
         Kind::Base64 => base64(v, scratch, used),
     }
 }
 
-// One of the words of key k, of which there are `count`; the first one's code is `first`. `finished`
-// reads as `finish`; another word is refused as unknown.
-fn word(k: usize, unknown: Refusal, first: u64, count: u64, v: &[u8]) -> Kept
-    requires { (first ≤ 1) × (length (words_of (Keys.kind_at Keys.keys k)) ≡ count) × (count ≤ 8) }
-    ensures { (at : ℕ) → Plain (word_at k unknown first) at v.now result }
+// One of the words of a key.
+fn word(words: &Words, v: &[u8]) -> Result<Kept, Refusal>
+    ensures { (at : ℕ) → Plain (words_of words.now) at v.now result }
 {
-    let n = place_of(k, v) as u64;
-    if n < count {
-        return Kept::Slot(Slot::coded(first + n), 0);
-    }
-    if k == 0 {
-        if octets::equal(v, b"finished") {
-            return Kept::Slot(Slot::coded(6), 0);
-        }
-    }
-    Kept::Refused(unknown)
+    let code = words.code(v)?;
+    Ok(Kept::plain(Slot::coded(code)))
 }
 
 // A safe string, of at most 32 bytes if it is to be short. It stays where it stands.
-fn safe(short: bool, at: usize, v: &[u8]) -> Kept
+fn safe(short: bool, at: usize, v: &[u8]) -> Result<Kept, Refusal>
     ensures { Plain (Keys.safe short) at v.now result }
 {
     if !letters::all(Class::Safe, v) {
-        return Kept::Refused(Refusal::UnsafeCharacter);
+        return Err(Refusal::UnsafeCharacter);
     }
     if letters::over(short, v.len()) {
-        return Kept::Refused(Refusal::TooLong);
+        return Err(Refusal::TooLong);
     }
     let place = Place {
         start: at,
         len: v.len(),
     };
-    Kept::Slot(Slot::placed(place), 0)
+    Ok(Kept::plain(Slot::placed(place)))
 }
 
-fn integer(v: &[u8]) -> Kept
+fn integer(v: &[u8]) -> Result<Kept, Refusal>
     ensures { (at : ℕ) → Plain Keys.integer at v.now result }
 {
-    match decimal::parse(v) {
-        Parsed::Integer(n) => Kept::Slot(Slot::numbered(n), 0),
-        Parsed::Malformed => Kept::Refused(Refusal::MalformedInteger),
-        Parsed::OutOfRange => Kept::Refused(Refusal::OutOfRange),
-    }
+    let number = decimal::parse(v)?;
+    Ok(Kept::plain(Slot::numbered(number)))
 }
 
 // Base64, whose bytes go to the scratch. There is room for them, so that NoRoom does not come.
-fn base64(v: &[u8], scratch: &mut [u8], used: usize) -> Kept
+fn base64(v: &[u8], scratch: &mut [u8], used: usize) -> Result<Kept, Refusal>
     requires { 4 * used + 3 * length v.now ≤ 4 * length scratch.old }
     ensures { (at : ℕ) → Keeps Keys.base64 at v.now scratch.old used result scratch.new }
 {
-    match base64_codec::decode(v, scratch, used) {
-        Decoded::Length(n) => {
-            let place = Place {
-                start: used,
-                len: n,
-            };
-            Kept::Slot(Slot::placed(place), n)
-        }
-        Decoded::Invalid(fault) => Kept::Refused(base64_refusal(fault)),
-        Decoded::NoRoom => Kept::Refused(Refusal::ShortBuffer),
-    }
-}
-
-// The refusal of a text that is no Base64.
-fn base64_refusal(fault: Fault) -> Refusal
-    ensures { result ≡ base64_refusal fault }
-{
-    match fault {
-        Fault::Length => Refusal::Base64Length,
-        Fault::Character => Refusal::Base64Character,
-        Fault::UnusedBits => Refusal::UnusedBits,
-    }
+    let stored = base64_codec::decode(v, scratch, used)?;
+    let place = Place {
+        start: used,
+        len: stored,
+    };
+    let slot = Slot::placed(place);
+    Ok(Kept { slot, stored })
 }

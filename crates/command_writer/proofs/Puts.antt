@@ -8,16 +8,16 @@ use lib.ListN.{length, length-append}
 use lib.Seq.{sets, length-sets}
 use lib.Dec.{leb, eqb}
 use borrow.Author.Tests.{le-leb, leb-false}
+use Rattle.std.specs.Prelude.{Result, Ok, Err}
 use Rattle.octets.specs.Outcome.{outcome, stored_at}
 use Rattle.octets.proofs.Stores.{sets-append}
 use Rattle.command.specs.Values.{Shown, unshown, integer_shown}
 use Rattle.command.specs.Write.{Checked, before}
-use Rattle.command.specs.declared.Written.{Written}
-use Rattle.command.specs.declared.Refusal.TheVariants as Refusal
+use Rattle.command.specs.declared.Refusal.{Refusal}
 use Rattle.decimal.specs.Write.{text_of, negative_zero, out_of_range, write_of}
 use Rattle.decimal.specs.declared.Number.{Number}
-use Rattle.decimal.specs.declared.Written as Decimal
-use Rattle.decimal.specs.declared.Written.TheVariants as DecimalWritten
+use Rattle.decimal.specs.declared.WriteError.{WriteError}
+use Rattle.decimal.specs.declared.WriteError.TheVariants.{NegativeZero, OutOfRange, NoRoom}
 use Rattle.command_writer.specs.Stores.{spare, Put, PutOr}
 
 pub put-none : (out : List ℕ) (at : ℕ) → Put [] out at at out
@@ -43,16 +43,20 @@ put_then {x} {y} {l} {m} {n} {o} {p} {q} f g =
     }
 
 -- ---- a number
--- what is answered: its end, as it was stored or else as it was counted, or that it is no integer of ours
-abbrev pub number_told : Decimal.Written → ℕ → Written
-number_told (DecimalWritten.End at) end = Written.Length at
-number_told DecimalWritten.NegativeZero end = Written.Refused Refusal.MalformedInteger
-number_told DecimalWritten.OutOfRange end = Written.Refused Refusal.OutOfRange
-number_told DecimalWritten.NoRoom end = Written.Length end
+-- what is answered, and its end, as it was stored or else as it was counted
+abbrev pub number_told : Result ℕ WriteError → Result (Unit {0}) Refusal
+number_told (Ok at) = Ok tt
+number_told (Err NegativeZero) = Err Refusal.MalformedInteger
+number_told (Err OutOfRange) = Err Refusal.OutOfRange
+number_told (Err NoRoom) = Ok tt
 
-pub put-number : (n : Number) (out after : List ℕ) (at end : ℕ) (w : Decimal.Written) → outcome w after ≡ write_of n out at
+abbrev pub end_told : Result ℕ WriteError → ℕ → ℕ
+end_told (Ok at) end = at
+end_told (Err e) end = end
+
+pub put-number : (n : Number) (out after : List ℕ) (at end : ℕ) (w : Result ℕ WriteError) → outcome w after ≡ write_of n out at
     → spare end ≡ spare (at + length (text_of n))
-    → PutOr (before (integer_shown n) Checked.fine) (text_of n) out at (number_told w end) after
+    → PutOr (before (integer_shown n) Checked.fine) (text_of n) out at (number_told w) (end_told w end) after
 unfolding write_of integer_shown
 put-number n out after at end w e s =
     go (negative_zero n) (out_of_range n) (eqb n.magnitude 0) (leb (at + length (text_of n)) (length out)) refl e
@@ -63,14 +67,13 @@ put-number n out after at end w e s =
     fine false = refl
 
     go : (z x y f : Bool) → leb (at + length (text_of n)) (length out) ≡ f
-        → outcome w after ≡ cond z (outcome DecimalWritten.NegativeZero out) (cond x (outcome DecimalWritten.OutOfRange out)
-        (cond f (outcome (DecimalWritten.End (at + length (text_of n))) (sets out at (text_of n))) (outcome DecimalWritten.NoRoom out)))
+        → outcome w after ≡ cond z (outcome (Err NegativeZero) out) (cond x (outcome (Err OutOfRange) out)
+        (cond f (outcome (Ok (at + length (text_of n))) (sets out at (text_of n))) (outcome (Err NoRoom) out)))
         → PutOr (before (cond z (unshown Refusal.MalformedInteger) (cond x (unshown Refusal.OutOfRange)
-        (cond y Shown.left_out (Shown.text (text_of n))))) Checked.fine) (text_of n) out at (number_told w end) after
+        (cond y Shown.left_out (Shown.text (text_of n))))) Checked.fine) (text_of n) out at (number_told w) (end_told w end) after
     go true x y f ef q = rw (ap (λ o. o.answer) q)
     go false true y f ef q = rw (ap (λ o. o.answer) q)
-    go false false y true ef q =
-        rw (fine y, ap (λ o. o.answer) q) (at + length (text_of n), refl, record { ends = refl; stores = λ h k. ap (λ o. o.buffer) q })
+    go false false y true ef q = rw (fine y, ap (λ o. o.answer) q) (refl, record { ends = refl; stores = λ h k. ap (λ o. o.buffer) q })
     go false false y false ef q =
         let over = leb-false (at + length (text_of n)) (length out) ef in
-        rw (fine y, ap (λ o. o.answer) q) (end, refl, record { ends = s; stores = λ h k. absurd (omega (arith, over)) })
+        rw (fine y, ap (λ o. o.answer) q) (refl, record { ends = s; stores = λ h k. absurd (omega (arith, over)) })

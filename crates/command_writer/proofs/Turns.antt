@@ -5,16 +5,17 @@ use mathlib.Core.List.{List, ◌∷◌, ◌++◌}
 use native.Mathlib.Numerals.{add-one}
 use lib.ListN.{length, get_or, drop}
 use lib.Seq.{drop-cons}
+use Rattle.std.specs.Prelude.{Result, Ok, Err}
 use Rattle.command.specs.Keys.{Kind, key, keys, key_at, kind_at}
 use Rattle.command.specs.Values.{Value, Shown, shown}
 use Rattle.command.specs.Refusals.{refusal_number}
-use Rattle.command.specs.Slots.{free, slots_of, value_at, values_at, values_of}
+use Rattle.command.specs.Slots.{free, held, slots_of, value_at, values_at, values_of}
 use Rattle.command.specs.Write.{Checked, before, checked_of}
 use Rattle.command.specs.declared.Command.{Command}
 use Rattle.command.specs.declared.Slot.{Slot}
-use Rattle.command.specs.declared.Written.{Written}
-use Rattle.command_writer.specs.Stores.{Put}
-use Rattle.command_writer.specs.Pieces.{piece, pieces, FieldPut}
+use Rattle.command.specs.declared.Refusal.{Refusal}
+use Rattle.command_writer.specs.Stores.{Put, PutOr}
+use Rattle.command_writer.specs.Pieces.{piece, pieces}
 use Rattle.command_writer.proofs.Puts.{put_then}
 use Rattle.command_writer.proofs.Checks.{and_then, before-is, put-fine, put-fault}
 
@@ -30,18 +31,18 @@ module _ (slots : List Slot) (text scratch : List ℕ) where
   pieces_from k = pieces (drop k keys) (values_from k)
 
   abbrev shown_at : ℕ → Shown
-  shown_at k = shown (kind_at keys k) (value_at (kind_at keys k) (get_or slots k free) text scratch)
+  shown_at k = shown (kind_at keys k) (value_at (kind_at keys k) (get_or slots k (held free)) text scratch)
 
   -- what the answer to the field of key k tells: it is put, and the others are left; or it is the first at fault
-  abbrev pub Turned : ℕ → List ℕ → List ℕ → ℕ → Written → Type 0
-  Turned k out after at (Written.Length end) =
+  abbrev pub Turned : ℕ → List ℕ → List ℕ → ℕ → Result (Unit {0}) Refusal → ℕ → Type 0
+  Turned k out after at (Ok x) end =
       (checked_from k ≡ checked_from (k + 1))
       × ((e : ℕ) (a : List ℕ) → Put (pieces_from (k + 1)) after end e a → Put (pieces_from k) out at e a)
-  Turned k out after at (Written.Refused r) = checked_from k ≡ Checked.fault (refusal_number r)
+  Turned k out after at (Err r) end = checked_from k ≡ Checked.fault (refusal_number r)
 
   module _ (k : ℕ) (h : k < 15) (l : k < length slots) where
-    values-at : values_from k ≡ value_at (kind_at keys k) (get_or slots k free) text scratch ∷ values_from (k + 1)
-    values-at = rw (add-one, drop-cons keys k (key "" Kind.integer) h, drop-cons slots k free l)
+    values-at : values_from k ≡ value_at (kind_at keys k) (get_or slots k (held free)) text scratch ∷ values_from (k + 1)
+    values-at = rw (add-one, drop-cons keys k (key "" Kind.integer) h, drop-cons slots k (held free) l)
 
     checked-at : checked_from k ≡ and_then (before (shown_at k) Checked.fine) (checked_from (k + 1))
     unfolding checked_of
@@ -51,13 +52,14 @@ module _ (slots : List Slot) (text scratch : List ℕ) where
     unfolding pieces
     pieces-at = rw (values-at, add-one, drop-cons keys k (key "" Kind.integer) h)
 
-    pub turned : (out after : List ℕ) (at : ℕ) (r : Written) → FieldPut (key_at keys k).name (shown_at k) out at r after
-        → Turned k out after at r
-    turned out after at (Written.Length end) p =
+    pub turned : (out after : List ℕ) (at end : ℕ) (r : Result (Unit {0}) Refusal)
+        → PutOr (before (shown_at k) Checked.fine) (piece (key_at keys k).name (shown_at k)) out at r end after
+        → Turned k out after at r end
+    turned out after at end (Ok x) p =
         let f = put-fine (before (shown_at k) Checked.fine) (piece (key_at keys k).name (shown_at k)) out after at end p in
         (checked-at ∙ rw f.0, λ e a q. rw pieces-at (put_then f.1 q))
-    turned out after at (Written.Refused r) p =
-        checked-at ∙ rw (put-fault (before (shown_at k) Checked.fine) (piece (key_at keys k).name (shown_at k)) out after at r p)
+    turned out after at end (Err r) p =
+        checked-at ∙ rw (put-fault (before (shown_at k) Checked.fine) (piece (key_at keys k).name (shown_at k)) out after at end r p)
 
 -- at the start everything is left
 module _ (c : Command) (slots : List Slot) (e : slots ≡ slots_of c) where

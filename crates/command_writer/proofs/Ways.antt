@@ -16,13 +16,12 @@ use Rattle.command.specs.Values.{Value, Shown, unshown, word_shown, shown}
 use Rattle.command.specs.Meaning.{bytes_in, missing}
 use Rattle.command.specs.Canonical.{canonical}
 use Rattle.command.specs.Slots.{action_code, slots_of, bytes_at, values_of}
-use Rattle.command.specs.Write.{Checked, Answer, answered, before, checked_of, write_of}
+use Rattle.command.specs.Write.{Checked, Answer, before, checked_of, write_of}
 use Rattle.command.specs.declared.Command.{Command}
 use Rattle.command.specs.declared.Place.{Place}
 use Rattle.command.specs.declared.Refusal.{Refusal}
-use Rattle.command.specs.declared.Written.{Written}
 use Rattle.command.proofs.Cases.{by_test, either_false}
-use Rattle.command_writer.specs.Stores.{spare, PutOr}
+use Rattle.command_writer.specs.Stores.{spare, Put}
 use Rattle.command_writer.specs.Pieces.{whole}
 use Rattle.command_writer.proofs.Canons.{fine-at, canonical-pieces}
 
@@ -93,12 +92,12 @@ module _ (c : Command) (text scratch out : List ℕ) where
       unfolding write_of
       refused-room o = rw (fine, missing-is, there, short-is, o)
 
-      pub written : short ≡ false → (r : Written) (after : List ℕ) → PutOr Checked.fine (whole vs) out 0 r after
-          → outcome (answered r) after ≡ write_of vs out
+      pub written : short ≡ false → (end : ℕ) (after : List ℕ) → Put (whole vs) out 0 end after
+          → outcome (Answer.written end) after ≡ write_of vs out
       unfolding write_of
-      written o r after (end, q, p) =
+      written o end after p =
           let u = either_false (ltb text_limit n) (ltb (length out) n) o in
           let h = ltb-false text_limit n u.0 in
           let k = ltb-false (length out) n u.1 in
           let i : end ≡ length (whole vs) = omega (arith, p.ends) in
-          rw (q, i, p.stores (omega arith) (omega arith), fine, missing-is, there, short-is, o, canonical-is)
+          rw (i, p.stores (omega arith) (omega arith), fine, missing-is, there, short-is, o, canonical-is)

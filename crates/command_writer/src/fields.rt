@@ -5,74 +5,53 @@ ghost use Rattle.command.specs.Values.{shown};
 ghost use Rattle.command.specs.Slots.{value_at, values_of};
 ghost use Rattle.command.specs.Write.{checked_of};
 ghost use Rattle.command_writer.specs.Pieces.{whole, FieldPut};
-ghost use Rattle.command_writer.specs.Stores.{PutOr};
+ghost use Rattle.command_writer.specs.Stores.{Told};
 
 use crate::slots::slots;
-use crate::store::put;
-use crate::values::{base64, integer, safe, word};
-use command::keys::{COUNT, Kind, row_at};
-use command::{Command, Slot, Written};
+use crate::store::Draft;
+use command::keys::{Kind, Row, row_at};
+use command::{Command, Refusal, Slot};
+
+// What the places of a command lie in.
+#[derive(Clone, Copy)]
+pub struct Sources<'a> {
+    pub text: &'a [u8],
+    pub scratch: &'a [u8],
+}
 
 // Puts `5113` and then the fields of a command, up to the first that is refused.
-pub(crate) fn put_fields<'a>(
-    command: Command,
-    text: &'a [u8],
-    scratch: &'a [u8],
-    out: &mut [u8],
-) -> Written
-    ensures { PutOr (checked_of keys (values_of command text.now scratch.now))
-        (whole (values_of command text.now scratch.now)) out.old 0 result out.new }
+pub(crate) fn put_fields(
+    command: &Command,
+    sources: &Sources<'_>,
+    draft: &mut Draft<'_>,
+) -> Result<(), Refusal>
+    ensures { Told (checked_of keys (values_of command.now sources.now.text.now sources.now.scratch.now))
+        (whole (values_of command.now sources.now.text.now sources.now.scratch.now)) draft.old result draft.new }
 {
+    draft.put(b"5113");
     let slots = slots(command);
-    let mut at = put(b"5113", out, 0);
-    let mut k = 0;
-    while k < COUNT {
-        match put_field(k, slots[k], text, scratch, out, at) {
-            Written::Length(end) => {
-                at = end;
-            }
-            Written::Refused(refusal) => {
-                return Written::Refused(refusal);
-            }
-        }
-        k += 1;
+    for (k, slot) in slots.iter().enumerate() {
+        put_field(k, *slot, sources, draft)?;
     }
-    Written::Length(at)
+    Ok(())
 }
 
 // Puts the field of the key with number k.
-fn put_field<'a>(
+fn put_field(
     k: usize,
     slot: Slot,
-    text: &'a [u8],
-    scratch: &'a [u8],
-    out: &mut [u8],
-    at: usize,
-) -> Written
+    sources: &Sources<'_>,
+    draft: &mut Draft<'_>,
+) -> Result<(), Refusal>
     ensures { FieldPut (key_at keys k).name
-        (shown (kind_at keys k) (value_at (kind_at keys k) slot text.now scratch.now))
-        out.old at result out.new }
+        (shown (kind_at keys k) (value_at (kind_at keys k) slot sources.now.text.now sources.now.scratch.now))
+        draft.old result draft.new }
 {
-    let row = row_at(k);
-    let bytes = row.0;
-    let len = row.1;
-    let name = &bytes[..len];
-    let kind = row.2;
+    let Row(name, kind) = row_at(k);
     match kind {
-        Kind::Word(unknown, first, count) => {
-            word(
-                name,
-                k,
-                unknown,
-                first as u64,
-                count as u64,
-                slot.number,
-                out,
-                at,
-            )
-        },
-        Kind::Safe(short) => safe(name, short, text, slot.place, out, at),
-        Kind::Integer => integer(name, slot.number, out, at),
-        Kind::Base64 => base64(name, scratch, slot.place, out, at),
+        Kind::Word(words) => draft.put_word(name, words, slot.number),
+        Kind::Safe(short) => draft.put_safe(name, *short, sources.text, slot.place),
+        Kind::Integer => draft.put_integer(name, slot.number),
+        Kind::Base64 => draft.put_bytes(name, sources.scratch, slot.place),
     }
 }

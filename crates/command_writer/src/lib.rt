@@ -20,53 +20,60 @@ ghost use Rattle.command.specs.RoundTrips.{WrittenThenRead, WritesCanonical};
 ghost use Rattle.command_writer.specs.Pieces.{whole};
 ghost use Rattle.command_writer.specs.Stores.{spare};
 
-use command::{Command, Refusal, Written, lacks};
+use crate::fields::{Sources, put_fields};
+use crate::store::Draft;
+use command::{Command, Refusal};
 use frames::Framing;
 
 // Stores the canonical text of a command, whose places lie in text and scratch, at the start of out.
 // A refusal leaves out as before. What is written is exactly the canonical texts, and a command that is
 // written and read again is the same command.
-pub fn write<'a>(command: Command, text: &'a [u8], scratch: &'a [u8], out: &mut [u8]) -> Written
-    ensures out_after { outcome (answered result) out.new
-        ≡ write_of (values_of command text.now scratch.now) out.old }
-    ensures written_then_read { WrittenThenRead × WritesCanonical }
-{
-    let mut empty = [0u8; 0];
-    match fields::put_fields(command, text, scratch, &mut empty) {
-        Written::Length(n) => write_measured(command, text, scratch, out, n),
-        Written::Refused(refusal) => Written::Refused(refusal),
-    }
-}
-
-// Writes a command of which no field is at fault, and whose text has n bytes.
-fn write_measured<'a>(
+pub fn write<'a>(
     command: Command,
     text: &'a [u8],
     scratch: &'a [u8],
     out: &mut [u8],
-    n: usize,
-) -> Written
-    requires { (checked_of keys (values_of command text.now scratch.now) ≡ Checked.fine)
-        × (spare n ≡ spare (length (whole (values_of command text.now scratch.now)))) }
-    ensures { outcome (answered result) out.new
+) -> Result<usize, Refusal>
+    ensures out_after { outcome (answered result) out.new
         ≡ write_of (values_of command text.now scratch.now) out.old }
+    ensures written_then_read { WrittenThenRead × WritesCanonical }
 {
-    let action = command.action;
-    let id = command.id;
-    let missing = lacks(action, id);
-    let short = no_room(n, out.len());
-    if missing {
-        return Written::Refused(Refusal::Missing);
+    let sources = Sources { text, scratch };
+    let mut empty = [0u8; 0];
+    let mut measured = Draft {
+        out: &mut empty,
+        end: 0,
+    };
+    put_fields(&command, &sources, &mut measured)?;
+    write_measured(&command, &sources, out, measured.end)
+}
+
+// Writes a command of which no field is at fault, and whose text has n bytes.
+fn write_measured(
+    command: &Command,
+    sources: &Sources<'_>,
+    out: &mut [u8],
+    n: usize,
+) -> Result<usize, Refusal>
+    requires { (checked_of keys (values_of command.now sources.now.text.now sources.now.scratch.now) ≡ Checked.fine)
+        × (spare n ≡ spare (length (whole (values_of command.now sources.now.text.now sources.now.scratch.now)))) }
+    ensures { outcome (answered result) out.new
+        ≡ write_of (values_of command.now sources.now.text.now sources.now.scratch.now) out.old }
+{
+    if command.lacks() {
+        return Err(Refusal::Missing);
     }
-    if short {
-        return Written::Refused(Refusal::ShortBuffer);
+    if no_room(n, out.len()) {
+        return Err(Refusal::ShortBuffer);
     }
-    fields::put_fields(command, text, scratch, out)
+    let mut draft = Draft { out, end: 0 };
+    put_fields(command, sources, &mut draft)?;
+    Ok(draft.end)
 }
 
 // Whether a text of n bytes passes the limit, or a buffer of this length is shorter.
 fn no_room(n: usize, len: usize) -> bool
     ensures { result ≡ (ltb text_limit n || ltb len n) }
 {
-    (n > Framing::TEXT_LIMIT) | (n > len)
+    n > Framing::TEXT_LIMIT || n > len
 }

@@ -1,15 +1,62 @@
-// Strings put one after another into a buffer. What does not fit is counted all the same, so that an
-// empty buffer serves to measure. Lengths over the limit are not told apart, so that no sum can wrap.
+// A text that is put together in a buffer. What does not fit is counted all the same, so that an empty
+// buffer serves to measure. Lengths over the limit are not told apart, so that no sum can wrap.
 ghost use Rattle.std.specs.Prelude.{◌≡◌, ◌+◌, [], ◌∷◌, ◌++◌};
 ghost use Rattle.base64_codec.specs.Encode as Base64;
 ghost use Rattle.decimal.specs.Write as Decimal;
 ghost use Rattle.command.specs.Values.{integer_shown};
 ghost use Rattle.command.specs.Write.{Checked, before};
-ghost use Rattle.command_writer.specs.Stores.{spare, Put, PutOr};
+ghost use Rattle.command_writer.specs.Stores.{spare, Puts, Told};
 
-use command::{Refusal, Written};
-use decimal::Number;
+use command::Refusal;
+use decimal::{Number, WriteError};
 use frames::Framing;
+
+// The buffer, and where the text ends so far.
+#[derive(Drop)]
+pub struct Draft<'a> {
+    pub out: &'a mut [u8],
+    pub end: usize,
+}
+
+impl Draft<'_> {
+    // Puts a string.
+    pub(crate) fn put(&mut self, s: &[u8])
+        ensures { Puts s.now self.old self.new }
+    {
+        octets::copy_at(s, self.out, self.end);
+        self.end = end_of(self.end, s.len());
+    }
+
+    // Puts `;key=`, with the name of a key.
+    pub(crate) fn put_key(&mut self, name: &[u8])
+        ensures { Puts (59 ∷ name.now ++ 61 ∷ []) self.old self.new }
+    {
+        self.put(b";");
+        self.put(name);
+        self.put(b"=");
+    }
+
+    // Puts the Base64 of some bytes.
+    pub(crate) fn put_base64(&mut self, bytes: &[u8])
+        ensures { Puts (Base64.text_of bytes.now) self.old self.new }
+    {
+        base64_codec::encode(bytes, self.out, self.end);
+        self.end = end_of(self.end, (bytes.len() + 2) / 3 * 4);
+    }
+
+    // Puts the text of a number. A negative zero, or a number past signed 64 bits, is refused.
+    pub(crate) fn put_number(&mut self, n: Number) -> Result<(), Refusal>
+        ensures { Told (before (integer_shown n) Checked.fine) (Decimal.text_of n) self.old result self.new }
+    {
+        self.end = match decimal::write(n, self.out, self.end) {
+            Ok(end) => end,
+            Err(WriteError::NoRoom) => end_of(self.end, decimal::text_length(n)),
+            Err(WriteError::NegativeZero) => return Err(Refusal::MalformedInteger),
+            Err(WriteError::OutOfRange) => return Err(Refusal::OutOfRange),
+        };
+        Ok(())
+    }
+}
 
 // Where n bytes from place `at` on end, or any place over the limit.
 fn end_of(at: usize, n: usize) -> usize
@@ -22,42 +69,4 @@ fn end_of(at: usize, n: usize) -> usize
         return n;
     }
     at + n
-}
-
-// Puts a string at a place and answers its end.
-pub(crate) fn put(s: &[u8], out: &mut [u8], at: usize) -> usize
-    ensures { Put s.now out.old at result out.new }
-{
-    octets::copy_at(s, out, at);
-    end_of(at, s.len())
-}
-
-// Puts `;key=`, with the name of a key.
-pub(crate) fn put_key(name: &[u8], out: &mut [u8], at: usize) -> usize
-    ensures { Put (59 ∷ name.now ++ 61 ∷ []) out.old at result out.new }
-{
-    let key = put(b";", out, at);
-    let sign = put(name, out, key);
-    put(b"=", out, sign)
-}
-
-// Puts the Base64 of some bytes.
-pub(crate) fn put_base64(bytes: &[u8], out: &mut [u8], at: usize) -> usize
-    ensures { Put (Base64.text_of bytes.now) out.old at result out.new }
-{
-    base64_codec::encode(bytes, out, at);
-    end_of(at, (bytes.len() + 2) / 3 * 4)
-}
-
-// Puts the text of a number. A negative zero, or a number past signed 64 bits, is refused.
-pub(crate) fn put_number(n: Number, out: &mut [u8], at: usize) -> Written
-    ensures { PutOr (before (integer_shown n) Checked.fine) (Decimal.text_of n)
-        out.old at result out.new }
-{
-    match decimal::write(n, out, at) {
-        decimal::Written::End(end) => Written::Length(end),
-        decimal::Written::NegativeZero => Written::Refused(Refusal::MalformedInteger),
-        decimal::Written::OutOfRange => Written::Refused(Refusal::OutOfRange),
-        decimal::Written::NoRoom => Written::Length(end_of(at, decimal::text_length(n))),
-    }
 }

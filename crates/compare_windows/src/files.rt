@@ -4,10 +4,10 @@ ghost use Rattle.streams.specs.Streams.{Within};
 use std::fs::File;
 use std::io;
 use std::io::Stderr;
-use streams::{Got, argument, fill, open_read, say, say_error};
+use streams::{argument, fill, open_read, say, say_error};
 
 // Reads argument k's file until it ends or the buffer is full.
-pub(crate) fn read(rt: &HostRuntime, k: usize, recording: &mut [u8]) -> Got
+pub(crate) fn read(rt: &HostRuntime, k: usize, recording: &mut [u8]) -> Option<usize>
     ensures { Within result recording.new }
 {
     let mut path = [0u8; 4096];
@@ -15,7 +15,7 @@ pub(crate) fn read(rt: &HostRuntime, k: usize, recording: &mut [u8]) -> Got
         Ok(n) => read_path(rt, &path[..n], recording),
         Err(error) => {
             fail_argument(rt.stderr(), k, error);
-            Got::Failed
+            None
         }
     }
 }
@@ -28,31 +28,31 @@ fn fail_argument(err: Stderr, k: usize, error: io::Error) {
     }
 }
 
-fn read_path(rt: &HostRuntime, path: &[u8], recording: &mut [u8]) -> Got
+fn read_path(rt: &HostRuntime, path: &[u8], recording: &mut [u8]) -> Option<usize>
     ensures { Within result recording.new }
 {
     match open_read(rt, path) {
         Ok(mut file) => read_file(rt.stderr(), &mut file, path, recording),
         Err(error) => {
             fail(rt.stderr(), b"cannot open ", path, error);
-            Got::Failed
+            None
         }
     }
 }
 
-fn read_file(err: Stderr, file: &mut File, path: &[u8], recording: &mut [u8]) -> Got
+fn read_file(err: Stderr, file: &mut File, path: &[u8], recording: &mut [u8]) -> Option<usize>
     ensures { Within result recording.new }
 {
     match fill(file, recording) {
-        Ok(n) => Got::Bytes(n),
+        Ok(n) => Some(n),
         Err(error) => {
             fail(err, b"cannot read ", path, error);
-            Got::Failed
+            None
         }
     }
 }
 
-fn fail<'a>(err: Stderr, words: &'a [u8], path: &'a [u8], error: io::Error) {
+fn fail(err: Stderr, words: &[u8], path: &[u8], error: io::Error) {
     say(err, words);
     say_error(err, path, error);
 }

@@ -7,18 +7,18 @@ mod files;
 mod report;
 
 use std::io::Stdout;
-use streams::{Got, Run};
-use windows::Compared;
+use streams::Run;
+use windows::Line;
 
 // One byte more than a recording may have is read, so that a longer one is refused. What cannot be read is
 // said where it is read.
 fn main(rt: HostRuntime) {
-    let mut first = [0u8; Compared::LIMIT + 1];
-    let mut second = [0u8; Compared::LIMIT + 1];
-    let Got::Bytes(n) = files::read(&rt, 1, &mut first) else {
+    let mut first = [0u8; Line::LIMIT + 1];
+    let mut second = [0u8; Line::LIMIT + 1];
+    let Some(n) = files::read(&rt, 1, &mut first) else {
         return;
     };
-    let Got::Bytes(m) = files::read(&rt, 2, &mut second) else {
+    let Some(m) = files::read(&rt, 2, &mut second) else {
         return;
     };
     let run = compare(rt.stdout(), &first[..n], &second[..m]);
@@ -26,8 +26,8 @@ fn main(rt: HostRuntime) {
 }
 
 // The list has room for the rows of any two recordings.
-fn compare<'a>(out: Stdout, first: &'a [u8], second: &'a [u8]) -> Run {
-    let mut list = [0usize; Compared::LIST_ROOM];
+fn compare(out: Stdout, first: &[u8], second: &[u8]) -> Run {
+    let mut list = [0usize; Line::LIST_ROOM];
     let compared = windows::compare(first, second, &mut list);
     report::tell(out, compared, first, second, &list)
 }

@@ -1,89 +1,83 @@
 // The lines on standard output.
-ghost use Rattle.std.specs.Prelude.{◌+◌, ◌≤◌, length};
-
-use octets::size::least;
 use std::io::Stdout;
 use streams::Run;
-use windows::Compared;
+use windows::{Judgement, Line, Refusal};
 
-pub(crate) fn tell<'a>(
+pub(crate) fn tell(
     out: Stdout,
-    compared: Compared,
-    first: &'a [u8],
-    second: &'a [u8],
-    list: &'a [usize],
+    compared: Result<usize, Refusal>,
+    first: &[u8],
+    second: &[u8],
+    list: &[usize],
 ) -> Run {
     let run = Run::Well(out);
     match compared {
-        Compared::Rows(n) => total(rows(run, first, second, list, n), list, n),
-        Compared::Refused(n) => run.text(b"refused ").number(n as usize).text(b"\n"),
+        Ok(n) => total(lines(run, first, second, list, n), list, n),
+        Err(refusal) => {
+            let refused = run.text(b"refused ").number(usize::from(refusal.number()));
+            refused.text(b"\n")
+        }
     }
 }
 
-// A line for each of the first n rows.
-fn rows<'a>(run: Run, first: &'a [u8], second: &'a [u8], list: &'a [usize], n: usize) -> Run {
-    let count = least(n, list.len() / Compared::ROW);
-    let mut all = run;
-    let mut i = 0;
-    while i < count {
-        all = row(all, first, second, list, i * Compared::ROW);
-        i += 1;
+// The first n lines.
+fn lines(mut run: Run, first: &[u8], second: &[u8], list: &[usize], n: usize) -> Run {
+    for numbers in list.as_chunks::<{ Line::LEN }>().0.iter().take(n) {
+        run = line(run, first, second, Line::read(numbers));
     }
-    all
+    run
 }
 
 // What only the second has is named by its own bytes, all else by the first's.
-fn row<'a>(run: Run, first: &'a [u8], second: &'a [u8], list: &'a [usize], at: usize) -> Run
-    requires { at + 6 ≤ length list.now }
-{
-    if list[at] == Compared::SECOND {
-        return pair(run, second, list, at).text(b"only in the second\n");
-    }
-    verdict(pair(run, first, list, at), list[at], list[at + 1])
+fn line(run: Run, first: &[u8], second: &[u8], line: Line) -> Run {
+    let recording = if line.found == Judgement::OnlySecond {
+        second
+    } else {
+        first
+    };
+    found(pair(run, recording, line), line.found)
 }
 
 // The ids of session and file, from their places in the recording.
-fn pair<'a>(run: Run, recording: &'a [u8], list: &'a [usize], at: usize) -> Run
-    requires { at + 6 ≤ length list.now }
-{
-    let session = octets::part(recording, list[at + 2], list[at + 3]);
-    let file = octets::part(recording, list[at + 4], list[at + 5]);
+fn pair(run: Run, recording: &[u8], line: Line) -> Run {
+    let session = octets::part(recording, line.id.start, line.id.len);
+    let file = octets::part(recording, line.file_id.start, line.file_id.len);
     run.text(session).text(b"\t").text(file).text(b"\t")
 }
 
-fn verdict(run: Run, verdict: usize, offset: usize) -> Run {
-    if verdict == Compared::FIRST {
-        return run.text(b"only in the first\n");
+fn found(run: Run, found: Judgement) -> Run {
+    match found {
+        Judgement::OnlyFirst => run.text(b"only in the first\n"),
+        Judgement::OnlySecond => run.text(b"only in the second\n"),
+        Judgement::Same => run.text(b"same\n"),
+        Judgement::Different(offset) => run.text(b"different at ").number(offset).text(b"\n"),
     }
-    if verdict == Compared::SAME {
-        return run.text(b"same\n");
-    }
-    run.text(b"different at ").number(offset).text(b"\n")
 }
 
 fn total(run: Run, list: &[usize], n: usize) -> Run {
-    let same = run.number(count(list, n, Compared::SAME)).text(b" same, ");
-    let different = same
-        .number(count(list, n, Compared::DIFFERENT))
-        .text(b" different, ");
+    let same = run.number(count(list, n, |found| found == Judgement::Same));
+    let different = same.text(b" same, ").number(count(
+        list,
+        n,
+        |found| matches!(found, Judgement::Different(_)),
+    ));
     let first = different
-        .number(count(list, n, Compared::FIRST))
-        .text(b" only in the first, ");
-    first
-        .number(count(list, n, Compared::SECOND))
-        .text(b" only in the second\n")
+        .text(b" different, ")
+        .number(count(list, n, |found| found == Judgement::OnlyFirst));
+    let second = first
+        .text(b" only in the first, ")
+        .number(count(list, n, |found| found == Judgement::OnlySecond));
+    second.text(b" only in the second\n")
 }
 
-// How many of the first n rows have this verdict.
-fn count(list: &[usize], n: usize, verdict: usize) -> usize {
-    let rows = least(n, list.len() / Compared::ROW);
-    let mut found = 0;
-    let mut i = 0;
-    while i < rows {
-        if list[i * Compared::ROW] == verdict {
-            found += 1;
-        }
-        i += 1;
-    }
-    found
+// How many of the first n lines say so.
+fn count<F: Fn(Judgement) -> bool>(list: &[usize], n: usize, says: F) -> usize
+    requires { F.IsAlwaysCallable says }
+{
+    let (lines, _) = list.as_chunks::<{ Line::LEN }>();
+    lines
+        .iter()
+        .take(n)
+        .filter(|numbers| says(Line::read(numbers).found))
+        .count()
 }

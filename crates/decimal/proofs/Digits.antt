@@ -11,11 +11,11 @@ use lib.Seq.{sets}
 use lib.Arith.{mod-mul}
 use lib.Dec.{ltb, lit<}
 use borrow.Author.Tests.{le-ltb, ltb-false}
+use Rattle.std.specs.Prelude.{Some}
 use Rattle.octets.proofs.Stores.{sets_last}
 use Rattle.decimal.specs.Read.{digits_of}
 use Rattle.decimal.specs.Write.{fixed}
 use Rattle.decimal.specs.Claims.{FixedReads, ReadsFixed}
-use Rattle.decimal.specs.declared.reader.Run.TheVariants.{Value}
 use Rattle.decimal.proofs.Powers.{ten_pos}
 
 pub length-fixed : (w n : ℕ) → length (fixed w n) ≡ w
@@ -46,19 +46,19 @@ digits_cons a d r h =
 
 pub read-fixed : FixedReads
 unfolding fixed
-read-fixed zero a n = unfold digits_of in ap Value (omega arith)
+read-fixed zero a n = unfold digits_of in ap Some (omega arith)
 read-fixed (suc w) a n =
     digits_cons a (n / 10 ^ w % 10) (fixed w n) (mod-lt _ (lit< tt))
     ∙ read-fixed w (a * 10 + n / 10 ^ w % 10) n
-    ∙ ap Value (rw (pow-succ' 10 w, mod-mul n {m = 10} {c = 10 ^ w} (lit< tt) (ten_pos w)) (omega arith))
+    ∙ ap Some (rw (pow-succ' 10 w, mod-mul n {m = 10} {c = 10 ^ w} (lit< tt) (ten_pos w)) (omega arith))
 
 -- what reads begins with a digit, and the others read after it
-pub digits-first : (a c : ℕ) (r : List ℕ) (m : ℕ) → digits_of a (c ∷ r) ≡ Value m
-    → (48 ≤ c) × (c ≤ 57) × (digits_of (a * 10 + (c - 48)) r ≡ Value m)
+pub digits-first : (a c : ℕ) (r : List ℕ) (m : ℕ) → digits_of a (c ∷ r) ≡ Some m
+    → (48 ≤ c) × (c ≤ 57) × (digits_of (a * 10 + (c - 48)) r ≡ Some m)
 unfolding digits_of
 digits-first a c r m e = go (ltb c 48) refl (ltb 57 c) refl
   where
-    go : (x : Bool) → ltb c 48 ≡ x → (y : Bool) → ltb 57 c ≡ y → (48 ≤ c) × (c ≤ 57) × (digits_of (a * 10 + (c - 48)) r ≡ Value m)
+    go : (x : Bool) → ltb c 48 ≡ x → (y : Bool) → ltb 57 c ≡ y → (48 ≤ c) × (c ≤ 57) × (digits_of (a * 10 + (c - 48)) r ≡ Some m)
     go true ex y ey = let z : ◌≡◌ {A = ℕ} 0 1 = cc (simp ex at e) in absurd (omega arith)
     go false ex true ey = let z : ◌≡◌ {A = ℕ} 0 1 = cc (simp (ex, ey) at e) in absurd (omega arith)
     go false ex false ey = (ltb-false _ _ ex, ltb-false _ _ ey, simp (ex, ey) at e)

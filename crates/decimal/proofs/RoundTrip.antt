@@ -8,6 +8,7 @@ use native.Mathlib.Nat.{mod-eq_of_lt}
 use lib.ListN.{length, drop}
 use lib.Dec.{ltb, eqb}
 use borrow.Author.Tests.{ne_eqb, le-ltb, le-leb, eqb-true, ltb-false}
+use Rattle.std.specs.Prelude.{Option, Some, None, Ok, Err}
 use Rattle.octets.specs.Slices.{starts_with}
 use Rattle.octets.specs.Ascii.{ascii}
 use Rattle.decimal.specs.Limits.{most_digits, limit}
@@ -17,9 +18,7 @@ use Rattle.decimal.specs.Canonical.{Canonical}
 use Rattle.decimal.specs.Canonical as C
 use Rattle.decimal.specs.Claims.{WrittenReads, ReadWrites}
 use Rattle.decimal.specs.declared.Number.{Number}
-use Rattle.decimal.specs.declared.reader.Run.{Run}
-use Rattle.decimal.specs.declared.reader.Run.TheVariants.{Value, NotDigits}
-use Rattle.decimal.specs.declared.Parsed.TheVariants.{Integer, Malformed, OutOfRange}
+use Rattle.decimal.specs.declared.ParseError.TheVariants.{Malformed, OutOfRange}
 use Rattle.decimal.proofs.Powers.{ten_pos, above-some, above-none}
 use Rattle.decimal.proofs.Widths.{width-least, width-unique}
 use Rattle.decimal.proofs.Digits.{length-fixed, read-fixed, digits-first, fixed-read}
@@ -28,7 +27,7 @@ use Rattle.decimal.proofs.Texts.{canonical-text}
 
 -- ---- written, then read
 -- the digits of a magnitude within the limit
-read-magnitude : (s : Bool) (m : ℕ) → m ≤ limit s → magnitude_of s (fixed (width_of m) m) ≡ Integer (signed s m)
+read-magnitude : (s : Bool) (m : ℕ) → m ≤ limit s → magnitude_of s (fixed (width_of m) m) ≡ Ok (signed s m)
 unfolding magnitude_of ranged_of
 read-magnitude s m h =
     let w = width-least m in
@@ -36,7 +35,7 @@ read-magnitude s m h =
     let l = length-fixed (width_of m) m in
     let u = w.least most_digits (omega arith) (omega arith) in
     let ds = fixed (width_of m) m in
-    let v : digits_of 0 ds ≡ Value m = read-fixed (width_of m) 0 m ∙ ap Value (rw (mod-eq_of_lt (w.holds (omega arith))) (omega arith)) in
+    let v : digits_of 0 ds ≡ Some m = read-fixed (width_of m) 0 m ∙ ap Some (rw (mod-eq_of_lt (w.holds (omega arith))) (omega arith)) in
     rw (ne_eqb (length ds) 0 (λ e. omega arith), le-ltb most_digits (length ds) (omega arith), v, le-ltb (limit s) m h)
 
 -- digits begin with no `-`
@@ -46,12 +45,12 @@ no_minus zero n = refl
 no_minus (suc w) n = rw (ne_eqb (n / 10 ^ w % 10 + 48) 45 (λ e. omega arith))
 
 read-signed : (s : Bool) (m : ℕ) → (s && eqb m 0) ≡ false → m ≤ limit s
-    → parse_of (signed_text s (fixed (width_of m) m)) ≡ Integer (record { negative = s; magnitude = m })
+    → parse_of (signed_text s (fixed (width_of m) m)) ≡ Ok (record { negative = s; magnitude = m })
 read-signed true m z h = unfold parse_of starts_with in read-magnitude true m h ∙ rw z
 read-signed false m z h = no_minus (width_of m) m ∙ read-magnitude false m h
 
 -- each number that `write` takes reads back as itself
-pub read-written : (n : Number) → writable n ≡ true → parse_of (text_of n) ≡ Integer n
+pub read-written : (n : Number) → writable n ≡ true → parse_of (text_of n) ≡ Ok n
 unfolding text_of
 read-written n e = let h = writable-is n e in read-signed n.negative n.magnitude h.0 h.1
 
@@ -60,29 +59,29 @@ read-written n e = let h = writable-is n e in read-signed n.negative n.magnitude
 record Magnitude (s : Bool) (t : List ℕ) (n : Number) : Type 0 where
   value : ℕ
   short : length t ≤ most_digits
-  digits : digits_of 0 t ≡ Value value
+  digits : digits_of 0 t ≡ Some value
   within : value ≤ limit s
   same : n ≡ signed s value
 
-magnitude-is : (s : Bool) (t : List ℕ) (n : Number) → magnitude_of s t ≡ Integer n → Magnitude s t n
+magnitude-is : (s : Bool) (t : List ℕ) (n : Number) → magnitude_of s t ≡ Ok n → Magnitude s t n
 unfolding magnitude_of ranged_of
 magnitude-is s t n e = go (eqb (length t) 0) (ltb most_digits (length t)) refl (digits_of 0 t) refl e
   where
-    ranged : (m : ℕ) → ltb most_digits (length t) ≡ false → digits_of 0 t ≡ Value m → (b : Bool) → ltb (limit s) m ≡ b
-        → cond b OutOfRange (Integer (signed s m)) ≡ Integer n → Magnitude s t n
+    ranged : (m : ℕ) → ltb most_digits (length t) ≡ false → digits_of 0 t ≡ Some m → (b : Bool) → ltb (limit s) m ≡ b
+        → cond b (Err OutOfRange) (Ok (signed s m)) ≡ Ok n → Magnitude s t n
     ranged m el ed true eb q = let z : ◌≡◌ {A = ℕ} 0 1 = cc in absurd (omega arith)
     ranged m el ed false eb q = record { value = m; short = ltb-false _ _ el; digits = ed; within = ltb-false _ _ eb; same = cc }
 
-    go : (x y : Bool) → ltb most_digits (length t) ≡ y → (d : Run) → digits_of 0 t ≡ d
-        → cond x Malformed (cond y Malformed (digits_ranged s d)) ≡ Integer n → Magnitude s t n
+    go : (x y : Bool) → ltb most_digits (length t) ≡ y → (d : Option ℕ) → digits_of 0 t ≡ d
+        → cond x (Err Malformed) (cond y (Err Malformed) (digits_ranged s d)) ≡ Ok n → Magnitude s t n
     go true y ey d ed q = let z : ◌≡◌ {A = ℕ} 0 1 = cc in absurd (omega arith)
     go false true ey d ed q = let z : ◌≡◌ {A = ℕ} 0 1 = cc in absurd (omega arith)
-    go false false ey NotDigits ed q = let z : ◌≡◌ {A = ℕ} 0 1 = cc in absurd (omega arith)
-    go false false ey (Value m) ed q = ranged m ey ed (ltb (limit s) m) refl q
+    go false false ey None ed q = let z : ◌≡◌ {A = ℕ} 0 1 = cc in absurd (omega arith)
+    go false false ey (Some m) ed q = ranged m ey ed (ltb (limit s) m) refl q
 
 -- digits without leading zeros are those of their value, which is not 0
 digits_are : (c : ℕ) (r : List ℕ) (m : ℕ) → 49 ≤ c → length r < 20
-    → digits_of 0 (c ∷ r) ≡ Value m → (fixed (width_of m) m ≡ c ∷ r) × (1 ≤ m)
+    → digits_of 0 (c ∷ r) ≡ Some m → (fixed (width_of m) m ≡ c ∷ r) × (1 ≤ m)
 digits_are c r m h l e =
     let f = fixed-read (c ∷ r) 0 m e in
     let g = fixed-read r (0 * 10 + (c - 48)) m (digits-first 0 c r m e).2 in
@@ -94,7 +93,7 @@ signed_is : (s : Bool) (m : ℕ) → 1 ≤ m → signed s m ≡ record { negativ
 signed_is true m h = rw (ne_eqb m 0 (λ e. omega arith))
 signed_is false m h = refl
 
-write_again : (s : Bool) (c : ℕ) (r : List ℕ) (n : Number) → 49 ≤ c → magnitude_of s (c ∷ r) ≡ Integer n → text_of n ≡ signed_text s (c ∷ r)
+write_again : (s : Bool) (c : ℕ) (r : List ℕ) (n : Number) → 49 ≤ c → magnitude_of s (c ∷ r) ≡ Ok n → text_of n ≡ signed_text s (c ∷ r)
 unfolding text_of
 write_again s c r n h e =
     let m = magnitude-is s (c ∷ r) n e in
@@ -102,7 +101,7 @@ write_again s c r n h e =
     rw (m.same ∙ signed_is s m.value d.1, d.0)
 
 -- each canonical text that reads is the text of what it reads as
-pub written_read : {t : List ℕ} (n : Number) → Canonical t → parse_of t ≡ Integer n → text_of n ≡ t
+pub written_read : {t : List ℕ} (n : Number) → Canonical t → parse_of t ≡ Ok n → text_of n ≡ t
 unfolding parse_of starts_with
 written_read n C.zero e =
     unfold magnitude_of digits_of ranged_of text_of fixed width_from in
@@ -122,14 +121,14 @@ signed-writable true m h = go (eqb m 0) refl
 signed-writable false m h = rw (le-ltb (limit false) m h)
 
 -- `write` takes each number that a text reads as
-pub parse-writable : (t : List ℕ) (n : Number) → parse_of t ≡ Integer n → writable n ≡ true
+pub parse-writable : (t : List ℕ) (n : Number) → parse_of t ≡ Ok n → writable n ≡ true
 unfolding parse_of
 parse-writable t n e = go (starts_with t (ascii "-")) e
   where
-    accepted : (s : Bool) (ds : List ℕ) → magnitude_of s ds ≡ Integer n → writable n ≡ true
+    accepted : (s : Bool) (ds : List ℕ) → magnitude_of s ds ≡ Ok n → writable n ≡ true
     accepted s ds q = let m = magnitude-is s ds n q in rw m.same (signed-writable s m.value m.within)
 
-    go : (b : Bool) → cond b (magnitude_of true (drop 1 t)) (magnitude_of false t) ≡ Integer n → writable n ≡ true
+    go : (b : Bool) → cond b (magnitude_of true (drop 1 t)) (magnitude_of false t) ≡ Ok n → writable n ≡ true
     go true q = accepted true (drop 1 t) q
     go false q = accepted false t q
 

@@ -1,30 +1,14 @@
 -- The width of a number: the least number of digits, one or more, that holds it.
-use Prim.Native.Nat.{ℕ, zero, suc, ◌+◌, ◌-◌, ◌^◌, ◌≤◌, ◌<◌}
+use Prim.Native.Nat.{ℕ, zero, suc, ◌+◌, ◌^◌, ◌≤◌, ◌<◌}
 use mathlib.Core.Path.{◌≡◌, refl}
 use mathlib.Core.Bool.{Bool, true, false, cond}
 use native.Mathlib.Omega.{arith}
 use native.Mathlib.Decide.{dec_lt}
-use native.Mathlib.Numerals.{add-one}
 use lib.Dec.{ltb}
-use borrow.Author.Tests.{lt-ltb, le-ltb, ltb-true, ltb-false}
+use borrow.Author.Tests.{ltb-true, ltb-false}
 use Rattle.decimal.specs.Write.{width_from, width_of}
 use Rattle.decimal.proofs.Powers.{ten_le, ten_lt}
 
--- ---- as the loop looks for it
--- a width that holds the number is the one
-pub width_is : (f w n : ℕ) → n < 10 ^ w → width_from f w n ≡ w
-unfolding width_from
-width_is zero w n h = refl
-width_is (suc f) w n h = rw (lt-ltb n (10 ^ w) h)
-
--- one that does not is passed
-pub width-more : (w n : ℕ) → w < 20 → 10 ^ w ≤ n → width_from (20 - w) w n ≡ width_from (20 - (w + 1)) (w + 1) n
-unfolding width_from
-width-more w n h k =
-    let e : 20 - w ≡ suc (20 - suc w) = omega arith in
-    rw (e, add-one, le-ltb n (10 ^ w) k)
-
--- ---- what it is
 -- k is the least width from w to `last` that holds n, if one does
 pub record Least (w last n k : ℕ) : Type 0 where
   pub first : w ≤ k

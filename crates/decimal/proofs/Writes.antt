@@ -6,11 +6,12 @@ use mathlib.Core.List.{List}
 use native.Mathlib.Omega.{arith}
 use lib.ListN.{length}
 use borrow.Author.Tests.{le-ltb, ltb-false}
+use Rattle.std.specs.Prelude.{Ok, Err}
 use Rattle.octets.specs.Outcome.{stored_at}
 use Rattle.decimal.specs.Limits.{most_digits, limit}
 use Rattle.decimal.specs.Write.{text_of, negative_zero, out_of_range, writable, write_of}
 use Rattle.decimal.specs.declared.Number.{Number}
-use Rattle.decimal.specs.declared.Written.TheVariants.{End, NoRoom}
+use Rattle.decimal.specs.declared.WriteError.TheVariants.{NoRoom}
 
 -- a magnitude within the limit has no more digits than are read
 pub limit_lt : (s : Bool) → limit s < 10 ^ most_digits
@@ -30,6 +31,6 @@ writable-is n e = go (negative_zero n) refl (out_of_range n) refl e
 
 -- the text of such a number is stored, if it fits
 pub write-stores : (n : Number) (out : List ℕ) (at : ℕ) → writable n ≡ true
-    → write_of n out at ≡ stored_at (End (at + length (text_of n))) NoRoom (text_of n) out at
+    → write_of n out at ≡ stored_at (Ok (at + length (text_of n))) (Err NoRoom) (text_of n) out at
 unfolding write_of
 write-stores n out at e = let h = writable-is n e in rw (h.0, le-ltb _ _ h.1)

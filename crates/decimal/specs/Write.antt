@@ -1,10 +1,11 @@
 -- Writing: "integers without leading zeros or `-0`".
 use Rattle.std.specs.Prelude.{ℕ, zero, suc, ◌+◌, ◌/◌, ◌%◌, ◌^◌, Bool, true, false, not, cond, ◌&&◌, List, [], ◌∷◌, length, ltb, eqb}
+use Rattle.std.specs.Prelude.{Result, Ok, Err}
 use Rattle.octets.specs.Outcome.{Outcome, outcome, stored_at}
 use Rattle.decimal.specs.Limits.{limit, minus, digit0}
 use Rattle.decimal.specs.declared.Number.{Number}
-use Rattle.decimal.specs.declared.Written.{Written}
-use Rattle.decimal.specs.declared.Written.TheVariants.{End, NegativeZero, OutOfRange, NoRoom}
+use Rattle.decimal.specs.declared.WriteError.{WriteError}
+use Rattle.decimal.specs.declared.WriteError.TheVariants.{NegativeZero, OutOfRange, NoRoom}
 
 -- the last w digits of n
 unfoldable pub fixed : ℕ → ℕ → List ℕ
@@ -41,8 +42,8 @@ unfoldable pub writable : Number → Bool
 writable n = not (negative_zero n) && not (out_of_range n)
 
 -- a negative zero or a number past signed 64 bits is refused; else the text is stored at its place, if it fits
-unfoldable pub write_of : Number → List ℕ → ℕ → Outcome Written
+unfoldable pub write_of : Number → List ℕ → ℕ → Outcome (Result ℕ WriteError)
 write_of n out at =
-    cond (negative_zero n) (outcome NegativeZero out)
-    (cond (out_of_range n) (outcome OutOfRange out)
-    (stored_at (End (at + length (text_of n))) NoRoom (text_of n) out at))
+    cond (negative_zero n) (outcome (Err NegativeZero) out)
+    (cond (out_of_range n) (outcome (Err OutOfRange) out)
+    (stored_at (Ok (at + length (text_of n))) (Err NoRoom) (text_of n) out at))

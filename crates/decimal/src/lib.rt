@@ -9,6 +9,7 @@ mod writer;
 ghost use Rattle.std.specs.Prelude.{◌≡◌, length};
 ghost use Rattle.octets.specs.Outcome.{outcome};
 ghost use Rattle.decimal.specs.Claims.{FixedReads, ReadsFixed, WrittenReads, ReadWrites};
+ghost use Rattle.decimal.specs.Limits.{limit};
 ghost use Rattle.decimal.specs.Read.{parse_of};
 ghost use Rattle.decimal.specs.Write.{text_of, write_of};
 
@@ -29,25 +30,23 @@ impl Number {
     pub const LIMIT_BELOW: u64 = 9223372036854775808;
 }
 
-// What reading answers. Malformed is told before out of range.
-#[derive(Clone, Copy)]
-pub enum Parsed {
-    Integer(Number),
+// Why a text reads as none. Malformed is told before out of range.
+#[derive(Clone, Copy, Debug, PartialEq, Eq)]
+pub enum ParseError {
     Malformed,
     OutOfRange,
 }
 
-// What writing answers: where the text ends, or why there is none.
-#[derive(Clone, Copy)]
-pub enum Written {
-    End(usize),
+// Why a number is not written.
+#[derive(Clone, Copy, Debug, PartialEq, Eq)]
+pub enum WriteError {
     NegativeZero,
     OutOfRange,
     NoRoom,
 }
 
 // The integer that a whole text is. `-0` is zero, which has no sign.
-pub fn parse(text: &[u8]) -> Parsed
+pub fn parse(text: &[u8]) -> Result<Number, ParseError>
     ensures value { result ≡ parse_of text.now }
     ensures read_writes { ReadWrites × ReadsFixed }
 {
@@ -62,33 +61,37 @@ pub fn text_length(n: Number) -> usize
     ensures { result ≡ length (text_of n) }
 {
     let w = writer::width(n.magnitude);
-    if n.negative {
-        return w + 1;
-    }
-    w
+    if n.negative { w + 1 } else { w }
 }
 
-// Stores the text of n in `out` from place `at` on, without leading zeros. A refusal leaves `out` as
-// before; a number that is no integer of ours is told before a lack of room.
+// Stores the text of n in `out` from place `at` on, without leading zeros, and answers where it ends. An
+// error leaves `out` as before; a number that is no integer of ours is told before a lack of room.
 #[tactic(auto, unfolding(crate::specs::Write::write_of))]
-pub fn write(n: Number, out: &mut [u8], at: usize) -> Written
+pub fn write(n: Number, out: &mut [u8], at: usize) -> Result<usize, WriteError>
     ensures out_after { outcome result out.new ≡ write_of n out.old at }
     ensures written_reads { WrittenReads × FixedReads }
 {
-    if n.negative {
-        if n.magnitude == 0 {
-            return Written::NegativeZero;
-        }
-        if n.magnitude > Number::LIMIT_BELOW {
-            return Written::OutOfRange;
-        }
-    } else if n.magnitude > Number::LIMIT {
-        return Written::OutOfRange;
+    if n.negative && n.magnitude == 0 {
+        return Err(WriteError::NegativeZero);
+    }
+    if n.magnitude > limit(n.negative) {
+        return Err(WriteError::OutOfRange);
     }
     let len = text_length(n);
     if !octets::fits(at, len, out.len()) {
-        return Written::NoRoom;
+        return Err(WriteError::NoRoom);
     }
     writer::fill(n, out, at);
-    Written::End(at + len)
+    Ok(at + len)
+}
+
+// The greatest magnitude of a sign.
+fn limit(negative: bool) -> u64
+    ensures { result ≡ limit negative }
+{
+    if negative {
+        Number::LIMIT_BELOW
+    } else {
+        Number::LIMIT
+    }
 }

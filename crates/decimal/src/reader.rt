@@ -3,83 +3,46 @@ ghost use Rattle.std.specs.Prelude.{◌≡◌, ◌≤◌, length};
 ghost use Rattle.decimal.specs.Limits.{most_digits};
 ghost use Rattle.decimal.specs.Read.{digits_of, magnitude_of, ranged_of};
 
-use crate::{Number, Parsed};
-
-// What a run of digits is.
-#[derive(Clone, Copy)]
-pub enum Run {
-    Value(u64),
-    NotDigits,
-}
+use crate::{Number, ParseError};
 
 // The integer of this sign whose digits are the whole text.
-pub(crate) fn magnitude(negative: bool, text: &[u8]) -> Parsed
+pub(crate) fn magnitude(negative: bool, text: &[u8]) -> Result<Number, ParseError>
     ensures { result ≡ magnitude_of negative text.now }
 {
-    if text.len() == 0 {
-        return Parsed::Malformed;
-    }
-    if text.len() > Number::DIGITS {
-        return Parsed::Malformed;
+    if text.is_empty() || text.len() > Number::DIGITS {
+        return Err(ParseError::Malformed);
     }
     match digits(text) {
-        Run::Value(m) => ranged(negative, m),
-        Run::NotDigits => Parsed::Malformed,
+        Some(m) => ranged(negative, m),
+        None => Err(ParseError::Malformed),
     }
 }
 
 // The integer of this sign and magnitude, if it is within signed 64 bits.
 #[tactic(auto, unfolding(crate::specs::Read::ranged_of))]
-fn ranged(negative: bool, m: u64) -> Parsed
-    ensures { result ≡ ranged_of negative m }
+fn ranged(negative: bool, magnitude: u64) -> Result<Number, ParseError>
+    ensures { result ≡ ranged_of negative magnitude }
 {
-    if negative {
-        if m > Number::LIMIT_BELOW {
-            return Parsed::OutOfRange;
-        }
-        if m == 0 {
-            return Parsed::Integer(Number {
-                negative: false,
-                magnitude: 0,
-            });
-        }
-        return Parsed::Integer(Number {
-            negative: true,
-            magnitude: m,
-        });
+    if magnitude > crate::limit(negative) {
+        return Err(ParseError::OutOfRange);
     }
-    if m > Number::LIMIT {
-        return Parsed::OutOfRange;
-    }
-    Parsed::Integer(Number {
-        negative: false,
-        magnitude: m,
+    Ok(Number {
+        negative: negative && magnitude != 0,
+        magnitude,
     })
 }
 
 // The value of so few digits that any u64 can hold it.
-fn digits(text: &[u8]) -> Run
+fn digits(text: &[u8]) -> Option<u64>
     requires { length text.now ≤ most_digits }
     ensures { result ≡ digits_of 0 text.now }
 {
     let mut value: u64 = 0;
-    let mut i = 0;
-    while i < text.len() {
-        let c = wide(text[i]);
-        if c < 48 {
-            return Run::NotDigits;
+    for c in text {
+        if !c.is_ascii_digit() {
+            return None;
         }
-        if c > 57 {
-            return Run::NotDigits;
-        }
-        value = value * 10 + (c - 48);
-        i += 1;
+        value = value * 10 + u64::from(*c - b'0');
     }
-    Run::Value(value)
-}
-
-fn wide(x: u8) -> u64
-    ensures { result ≡ x }
-{
-    x as u64
+    Some(value)
 }

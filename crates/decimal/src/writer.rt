@@ -9,13 +9,7 @@ use crate::Number;
 pub(crate) fn width(n: u64) -> usize
     ensures { (result ≡ width_of n) × (result ≤ 20) }
 {
-    let mut w: usize = 1;
-    let mut rest = n / 10;
-    while rest > 0 {
-        rest = rest / 10;
-        w += 1;
-    }
-    w
+    if n == 0 { 1 } else { n.ilog10() as usize + 1 }
 }
 
 // Stores the text of n from place `at` on.
@@ -25,7 +19,7 @@ pub(crate) fn fill(n: Number, out: &mut [u8], at: usize)
 {
     let w = width(n.magnitude);
     if n.negative {
-        out[at] = 45;
+        out[at] = b'-';
         digits(n.magnitude, w, out, at + 1);
     } else {
         digits(n.magnitude, w, out, at);
@@ -38,11 +32,9 @@ fn digits(n: u64, w: usize, out: &mut [u8], at: usize)
     ensures { out.new ≡ sets out.old at (fixed w n) }
 {
     let mut rest = n;
-    let mut k = w;
-    while k > 0 {
-        k -= 1;
+    for k in (0..w).rev() {
         out[at + k] = digit(rest % 10);
-        rest = rest / 10;
+        rest /= 10;
     }
 }
 
@@ -50,5 +42,5 @@ fn digit(d: u64) -> u8
     requires { d < 10 }
     ensures { result ≡ d + 48 }
 {
-    (d + 48) as u8
+    d as u8 + b'0'
 }

@@ -1,7 +1,7 @@
 -- The examples hold, and the laws are false of the wrong ones: each by computing the definitions.
 use Prim.Native.Nat.{ℕ, ◌≤◌, ◌<◌}
 use mathlib.Core.Path.{◌≡◌, refl, ap}
-use mathlib.Core.Bool.{true}
+use mathlib.Core.Bool.{true, cond}
 use mathlib.Core.Logic.{◌⊎◌, inl, inr}
 use mathlib.Core.List.{List, [], ◌∷◌}
 use native.Mathlib.Omega.{arith}
@@ -17,10 +17,12 @@ use Rattle.delta.specs.Weak as Weak
 use Rattle.delta.specs.Laws.{listed, signature, Signs, Taken}
 use Rattle.delta.specs.Examples.{DeltaExamples, head}
 use Rattle.delta.specs.WrongPatchers.{light_of, DeltaTeeth}
-use Rattle.delta.specs.declared.Refusal.TheVariants as Refusal
+use Rattle.delta.specs.declared.Refusal.{Refusal}
 use Rattle.delta.specs.declared.Entry.{Entry}
 use Rattle.delta.specs.declared.Step.{Step}
-use Rattle.delta.specs.declared.Checksum.TheVariants as Checksum
+use Rattle.std.specs.Prelude.{None, Result, Ok, Err, is_some}
+use Rattle.delta.specs.declared.Measured.{Measured}
+use Rattle.delta.proofs.CallLaws.{hash_in}
 use Rattle.delta.specs.declared.Measured.{Measured}
 
 -- what computing opens: who names one of these on an `unfolding` line opens all that its own line names
@@ -73,6 +75,14 @@ unsigned : (size : ℕ) (es : List Entry) → [] ≡ Layout.laid_signature size 
 unfolding layout
 unsigned size es e = let z : 0 ≡ length (Layout.laid_signature size es) = ap length e in omega arith
 
+-- what an answer has
+next_in : Result Step Refusal → ℕ
+next_in (Ok p) = p.next
+next_in (Err why) = 0
+
+hash_count : Result Measured Refusal → ℕ
+hash_count r = cond (is_some (hash_in r)) 1 0
+
 -- a hash of no bytes
 abbrev hash : Layout.Op
 hash = Layout.Op.hash []
@@ -87,7 +97,7 @@ none-long (inr (inl h)) = omega arith
 none-long (inr (inr h)) = omega arith
 
 pub teeth : DeltaTeeth
-unfolding patching summing
+unfolding patching summing next_in hash_count
 teeth =
     record {
       damage_is_end = λ h. let z : ◌≡◌ {A = ℕ} 0 1 = ap length (h (4 ∷ []) [] (omega arith, tt) refl).0 in omega arith;
@@ -98,41 +108,41 @@ teeth =
           let z : ◌≡◌ {A = ℕ} 3 6 = ap length (h (2 ∷ 0 ∷ 0 ∷ 2 ∷ 0 ∷ 0 ∷ []) (hash ∷ []) all refl).0 in
           omega arith;
       data_too_short = λ h.
-          let z : ◌≡◌ {A = ℕ} 0 5 = ap (λ (s : Step). s.next) (h [] [] (Layout.Op.bytes []) (omega arith) (omega arith)) in
+          let z : ◌≡◌ {A = ℕ} 0 5 = ap next_in (h [] [] (Layout.Op.bytes []) (omega arith) (omega arith)) in
           omega arith;
       any_header = λ h. let l = h [] (signature 1 0) tt refl in unsigned 1 l.entries l.laid;
       no_header = λ h. let e = (h 4 [] signs).0 in let z : ◌≡◌ {A = ℕ} 0 1 = cc in omega arith;
       all_refused = λ h.
-          let e = ap (λ (o : Outcome Measured). o.answer)
+          let e = ap (λ (o : Outcome (Result Measured Refusal)). o.answer)
           (h (head 4) [] [] [] 4 [] [] (taken [] tt refl (omega arith) (omega arith)) (omega arith) (omega arith)) in
           let z : ◌≡◌ {A = ℕ} 0 1 = cc in
           omega arith;
       long_damaged = λ h.
           let l : 65536 < length (replicate {A = ℕ} 65537 0) = omega (arith, length-replicate {A = ℕ} 65537 0) in
-          let e = ap (λ (o : Outcome Measured). o.answer) (h (replicate 65537 0) [] [] [] (inl l)) in
+          let e = ap (λ (o : Outcome (Result Measured Refusal)). o.answer) (h (replicate 65537 0) [] [] [] (inl l)) in
           let z : ◌≡◌ {A = ℕ} 0 1 = cc in
           omega arith;
       all_too_long = λ h. none-long (h [] [] [] [] refl);
-      all_taken = λ h. let m = (h [] [] [] [] 0 Checksum.None tt tt refl).0 in unsigned m.size m.entries m.taken.signature;
+      all_taken = λ h. let m = (h [] [] [] [] 0 None tt tt refl).0 in unsigned m.size m.entries m.taken.signature;
       no_room_damaged = λ h.
           let t = taken (new ∷ []) (omega arith, tt) refl (omega arith) (omega arith) in
           let o = h (head 4) [] (Layout.laid_all (new ∷ [])) [] 4 [] (new ∷ []) t (inr (omega arith)) in
-          let e = ap (λ (o : Outcome Measured). o.answer) o in
+          let e = ap (λ (o : Outcome (Result Measured Refusal)). o.answer) o in
           let z : ◌≡◌ {A = ℕ} 0 1 = cc in
           omega arith;
       room_asked_first = λ h. let m = (h [] [] [] [] tt tt refl).made in unsigned m.size m.entries m.taken.signature;
       hash_not_told = λ h.
-          let e = ap (λ (o : Outcome Measured). o.answer)
+          let e = ap (λ (o : Outcome (Result Measured Refusal)). o.answer)
           (h (head 4) [] (2 ∷ 0 ∷ 0 ∷ []) [] 4 [] (hash ∷ [])
           (taken (hash ∷ []) (omega arith, tt) refl (omega arith) (omega arith)) (omega arith) (omega arith)) in
-          let z : ◌≡◌ {A = ℕ} 0 1 = cc in
+          let z : ◌≡◌ {A = ℕ} 0 1 = ap hash_count e in
           omega arith;
       written_anyway = λ h.
           let e = h [] [] [] (1 ∷ []) Refusal.Damaged refl in
           let z : ◌≡◌ {A = ℕ} 0 1 = ap (λ (l : List ℕ). get_or l 0 0) e in
           omega arith;
       nothing_measured = λ h.
-          let e = (h [] [] [] []).0 0 Checksum.None refl (omega arith) in
+          let e = (h [] [] [] []).0 0 None refl (omega arith) in
           let z : ◌≡◌ {A = ℕ} 0 1 = cc in
           omega arith;
       light_weights = λ h. let e = h [] 1 0 (omega arith) in omega arith;

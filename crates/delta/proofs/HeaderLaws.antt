@@ -9,9 +9,9 @@ use lib.Dec.{leb, ltb, eqb}
 use borrow.Author.Tests.{ltb-true, ltb-false, leb-true, eqb-true}
 use Rattle.octets.proofs.Below.{both_test}
 use Rattle.delta.specs.Read.{limit, field_in, plain_in, is_signature, signature_of}
-use Rattle.delta.specs.declared.Refusal.TheVariants as Refusal
+use Rattle.delta.specs.declared.Refusal.{Refusal}
 use Rattle.delta.specs.declared.Signature.{Signature}
-use Rattle.delta.specs.declared.Signed.{Signed}
+use Rattle.std.specs.Prelude.{Ok, Err}
 
 pub record IsRead (s : List ℕ) (g : Signature) : Type 0 where
   pub size : g.block_size ≡ field_in s 8 4
@@ -21,14 +21,14 @@ pub record IsRead (s : List ℕ) (g : Signature) : Type 0 where
   pub short : length s ≤ limit
   pub plain : plain_in s ≡ true
 
-pub signed-read : (s : List ℕ) {g : Signature} → signature_of s ≡ Signed.Read g → IsRead s g
+pub signed-read : (s : List ℕ) {g : Signature} → signature_of s ≡ Ok g → IsRead s g
 unfolding signature_of
 signed-read s {g} e = by (ltb limit (length s)) refl (is_signature s) refl e
   where
     by : (u : Bool) → ltb limit (length s) ≡ u → (v : Bool) → is_signature s ≡ v
-        → cond u (Signed.Refused Refusal.TooLong)
-        (cond v (Signed.Read (record { block_size = field_in s 8 4; blocks = (length s - 12) / 20 })) (Signed.Refused Refusal.Damaged))
-        ≡ Signed.Read g
+        → cond u (Err Refusal.TooLong)
+        (cond v (Ok (record { block_size = field_in s 8 4; blocks = (length s - 12) / 20 })) (Err Refusal.Damaged))
+        ≡ Ok g
         → IsRead s g
     by true p v q e = let z : ◌≡◌ {A = ℕ} 0 1 = cc in absurd (omega arith)
     by false p false q e = let z : ◌≡◌ {A = ℕ} 0 1 = cc in absurd (omega arith)
@@ -48,3 +48,5 @@ signed-read s {g} e = by (ltb limit (length s)) refl (is_signature s) refl e
           short = ltb-false limit (length s) p;
           plain = c.0;
         }
+
+pub ruleset reading = (signed-read)

@@ -15,6 +15,7 @@ use Rattle.delta.specs.Read.{Delta, after, delta_from, delta_of, placed, step_of
 use Rattle.delta.specs.Laws.{listed, ReadsLaid, LaidReads, told_at, TellsEach}
 use Rattle.delta.proofs.OperationLaws.{HeldPayload, Held, held}
 use Rattle.delta.proofs.WalkLaws.{skip}
+use Rattle.std.specs.Prelude.{Ok}
 
 -- ---- a number at the front
 module _ (k n : ℕ) (r : List ℕ) where
@@ -103,7 +104,7 @@ reads-one : (o : Op) (r : List ℕ) → Fits o → delta_of (laid o ++ r) ≡ De
 reads-one o r h =
     rw (laid-parts o) (read-on (kind_of o) (size_of o) (operands_of o) r o (operands-size o) (operation-read o r h))
 
-told-placed : (at : ℕ) (o : Op) → placed at (Read.one o (size_of o)) ≡ told_at at o
+told-placed : (at : ℕ) (o : Op) → placed at (Read.one o (size_of o)) ≡ Ok (told_at at o)
 unfolding placed size_of
 told-placed at (Op.block i) = let e : at + 1 + 8 ≡ at + 9 = omega arith in rw e
 told-placed at (Op.bytes bs) = let e : at + 1 + (4 + length bs) ≡ at + 5 + length bs = omega arith in rw e

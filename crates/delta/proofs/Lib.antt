@@ -1,4 +1,3 @@
-mod Choices
 mod FieldLaws
 mod HeaderLaws
 mod OperationLaws

@@ -1,25 +1,33 @@
 -- An operation read from bytes, and by its place in the delta.
 use Prim.Native.Nat.{ℕ, ◌+◌, ◌≤◌}
-use mathlib.Core.Path.{◌≡◌, refl}
+use mathlib.Core.Path.{◌≡◌, refl, ap, ◌∙◌}
 use mathlib.Core.Bool.{Bool, true, false, cond}
 use mathlib.Core.List.{List}
 use native.Mathlib.Omega.{arith}
 use lib.ListN.{length, take, drop, length-drop, length-append}
-use lib.Seq.{length-take-le}
+use lib.Seq.{length-take-le, drop-drop}
 use lib.Dec.{leb, eqb}
 use borrow.Author.Tests.{leb-true, eqb-true}
-use Rattle.delta.proofs.Choices.{by_cond}
+use Rattle.std.proofs.lemmas.Bool.{cond_both}
 use Rattle.octets.specs.Little.{little}
 use Rattle.octets.proofs.Littles.{length-little}
 use Rattle.delta.specs.Layout.{Op, laid}
-use Rattle.delta.specs.Read.{Read, field_in, step, block_in, blocks_in, payload_in, operation_of, placed}
-use Rattle.delta.specs.Read.{payload_at, payload_step, data_at, hash_at}
+use Rattle.delta.specs.Read.{span, Read, field_in, step, block_in, blocks_in, payload_in, operation_of, placed}
+use Rattle.delta.specs.Read.{payload_at}
+use Rattle.std.specs.Prelude.{Result, Ok, Err}
+use Rattle.delta.specs.declared.Refusal.{Refusal}
+use Rattle.delta.specs.declared.Span.{Span}
+use Rattle.delta.specs.declared.Step.{Step}
 use Rattle.delta.specs.declared.Operation.{Operation}
-use Rattle.delta.specs.declared.operations.Payload.{Payload}
 
-payload-placed : (at k : ℕ) (f : List ℕ → Op) (o : ℕ → ℕ → Operation) (r : List ℕ)
-    → ((bs : List ℕ) (m : ℕ) → placed at (Read.one (f bs) m) ≡ step (o (at + 1 + k) (length bs)) (at + 1 + m))
-    → payload_step o at (payload_at at k r) ≡ placed at (payload_in k f r)
+-- where a payload stands, its operation
+abbrev pub payload_step : (Span → Operation) → Result Span Refusal → Result Step Refusal
+payload_step o (Ok p) = Ok (step (o p) (p.start + p.len))
+payload_step o (Err why) = Err why
+
+payload-placed : (at k : ℕ) (f : List ℕ → Op) (o : Span → Operation) (r : List ℕ)
+    → ((bs : List ℕ) (m : ℕ) → placed at (Read.one (f bs) m) ≡ Ok (step (o (span (at + 1 + k) (length bs))) (at + 1 + m)))
+    → payload_step o (payload_at at k r) ≡ placed at (payload_in k f r)
 unfolding payload_at payload_in
 payload-placed at k f o r e = by (leb (k + n) (length r)) refl
   where
@@ -27,7 +35,7 @@ payload-placed at k f o r e = by (leb (k + n) (length r)) refl
     n = field_in r 0 k
 
     by : (u : Bool) → leb (k + n) (length r) ≡ u
-        → payload_step o at (cond u (Payload.Of (at + 1 + k) n (at + 1 + k + n)) Payload.CutOff)
+        → payload_step o (cond u (Ok (span (at + 1 + k) n)) (Err Refusal.Damaged))
         ≡ placed at (cond u (Read.one (f (take n (drop k r))) (k + n)) Read.damaged)
     by true h =
         let l : length (take n (drop k r)) ≡ n =
@@ -36,19 +44,27 @@ payload-placed at k f o r e = by (leb (k + n) (length r)) refl
         rw (e (take n (drop k r)) (k + n), l, m)
     by false h = unfold placed in refl
 
-pub data-placed : (at : ℕ) (r : List ℕ) → data_at at (payload_at at 4 r) ≡ placed at (payload_in 4 (λ bs. Op.bytes bs) r)
+pub data-placed : (at : ℕ) (r : List ℕ)
+    → payload_step (λ p. Operation.Data p) (payload_at at 4 r) ≡ placed at (payload_in 4 (λ bs. Op.bytes bs) r)
 unfolding placed
-data-placed at r = payload-placed at 4 (λ bs. Op.bytes bs) (λ s n. Operation.Data s n) r go
+data-placed at r = payload-placed at 4 (λ bs. Op.bytes bs) (λ p. Operation.Data p) r go
   where
-    go : (bs : List ℕ) (m : ℕ) → placed at (Read.one (Op.bytes bs) m) ≡ step (Operation.Data (at + 1 + 4) (length bs)) (at + 1 + m)
+    go : (bs : List ℕ) (m : ℕ)
+        → placed at (Read.one (Op.bytes bs) m) ≡ Ok (step (Operation.Data (span (at + 1 + 4) (length bs))) (at + 1 + m))
     go bs m = let e : at + 1 + 4 ≡ at + 5 = omega arith in rw e
 
-pub hash-placed : (at : ℕ) (r : List ℕ) → hash_at at (payload_at at 2 r) ≡ placed at (payload_in 2 (λ bs. Op.hash bs) r)
+pub hash-placed : (at : ℕ) (r : List ℕ)
+    → payload_step (λ p. Operation.Hash p) (payload_at at 2 r) ≡ placed at (payload_in 2 (λ bs. Op.hash bs) r)
 unfolding placed
-hash-placed at r = payload-placed at 2 (λ bs. Op.hash bs) (λ s n. Operation.Hash s n) r go
+hash-placed at r = payload-placed at 2 (λ bs. Op.hash bs) (λ p. Operation.Hash p) r go
   where
-    go : (bs : List ℕ) (m : ℕ) → placed at (Read.one (Op.hash bs) m) ≡ step (Operation.Hash (at + 1 + 2) (length bs)) (at + 1 + m)
+    go : (bs : List ℕ) (m : ℕ)
+        → placed at (Read.one (Op.hash bs) m) ≡ Ok (step (Operation.Hash (span (at + 1 + 2) (length bs))) (at + 1 + m))
     go bs m = let e : at + 1 + 2 ≡ at + 3 = omega arith in rw e
+
+-- the second number of a range
+pub range_more : (at : ℕ) (d : List ℕ) → drop 8 (drop (at + 1) d) ≡ drop (at + 9) d
+range_more at d = let e : at + 1 + 8 ≡ at + 9 = omega arith in drop-drop 8 (at + 1) d ∙ ap (λ (k : ℕ). drop k d) e
 
 -- ---- what is known of an operation that was read, from its type and the bytes after it
 abbrev pub HeldPayload : ℕ → List ℕ → List ℕ → ℕ → Type 0
@@ -71,14 +87,14 @@ payload-held k r h =
 pub held : (t : ℕ) (r : List ℕ) → Held t r (operation_of t r)
 unfolding operation_of block_in blocks_in payload_in
 held t r =
-    by_cond (Held t r) (eqb t 0)
-    (λ a. by_cond (Held t r) (leb 8 (length r)) (λ h. (eqb-true t 0 a, refl, leb-true 8 (length r) h, refl)) (λ _. tt))
-    (λ _. by_cond (Held t r) (eqb t 1)
-    (λ a. by_cond (Held t r) (leb (4 + field_in r 0 4) (length r)) (λ h. (eqb-true t 1 a, payload-held 4 r h)) (λ _. tt))
-    (λ _. by_cond (Held t r) (eqb t 2)
-    (λ a. by_cond (Held t r) (leb (2 + field_in r 0 2) (length r)) (λ h. (eqb-true t 2 a, payload-held 2 r h)) (λ _. tt))
-    (λ _. by_cond (Held t r) (eqb t 3)
-    (λ a. by_cond (Held t r) (leb 12 (length r)) (λ h. (eqb-true t 3 a, refl, leb-true 12 (length r) h, refl, refl)) (λ _. tt))
+    cond_both (eqb t 0) _ _ (Held t r)
+    (λ a. cond_both (leb 8 (length r)) _ _ (Held t r) (λ h. (eqb-true t 0 a, refl, leb-true 8 (length r) h, refl)) (λ _. tt))
+    (λ _. cond_both (eqb t 1) _ _ (Held t r)
+    (λ a. cond_both (leb (4 + field_in r 0 4) (length r)) _ _ (Held t r) (λ h. (eqb-true t 1 a, payload-held 4 r h)) (λ _. tt))
+    (λ _. cond_both (eqb t 2) _ _ (Held t r)
+    (λ a. cond_both (leb (2 + field_in r 0 2) (length r)) _ _ (Held t r) (λ h. (eqb-true t 2 a, payload-held 2 r h)) (λ _. tt))
+    (λ _. cond_both (eqb t 3) _ _ (Held t r)
+    (λ a. cond_both (leb 12 (length r)) _ _ (Held t r) (λ h. (eqb-true t 3 a, refl, leb-true 12 (length r) h, refl, refl)) (λ _. tt))
     (λ _. tt))))
 
 -- its type and its operands

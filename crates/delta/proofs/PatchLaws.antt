@@ -13,25 +13,25 @@ use Rattle.octets.specs.Bytes.{Bytes}
 use Rattle.octets.specs.Outcome.{outcome}
 use Rattle.octets.proofs.Below.{both_test}
 use Rattle.delta.specs.Layout.{Op}
-use Rattle.delta.specs.Read.{limit, Delta, delta_of, field_in, is_signature, signature_of}
-use Rattle.delta.specs.Patch.{inside, sound, hashes, joined, hash_from, Result, result_of}
+use Rattle.delta.specs.Read.{measured, limit, Delta, delta_of, field_in, is_signature, signature_of}
+use Rattle.delta.specs.Patch.{inside, sound, hashes, joined, hash_from, NewFile, result_of}
 use Rattle.delta.specs.Calls.{Patched, inputs_of, limited, patched_of, patch_by, patch_of, measured_in, stored_in, measure_of, apply_of}
 use Rattle.delta.specs.Laws.{listed, new_file, Taken, Made, TooLarge, Applies, OnlyApplies, TooLongFirst, TooLongOnly, KeepsOutput}
 use Rattle.delta.specs.Laws.{RefusesTooLarge, NoRoomLast, Measures}
 use Rattle.delta.specs.declared.Refusal.{Refusal}
 use Rattle.delta.specs.declared.Entry.{Entry}
-use Rattle.delta.specs.declared.Checksum.{Checksum}
 use Rattle.delta.specs.declared.Signature.{Signature}
-use Rattle.delta.specs.declared.Signed.{Signed}
-use Rattle.delta.specs.declared.Measured.{Measured}
-use Rattle.delta.proofs.Choices.{by_cond}
-use Rattle.delta.proofs.CallLaws.{inputs_read, inputs-signed}
+use Rattle.std.proofs.lemmas.Bool.{cond_both}
+use Rattle.delta.proofs.CallLaws.{length_in, hash_in, inputs_read, inputs-signed}
 use Rattle.delta.proofs.LayoutLaws.{reads-laid, laid-reads}
 use Rattle.delta.proofs.SignatureLaws.{reads-signature, laid-signatures}
+use Rattle.std.specs.Prelude.{Option, Result, Ok, Err}
+use Rattle.delta.specs.declared.Span.{Span}
+use Rattle.delta.specs.declared.Measured.{Measured}
 
 -- ---- what is taken is made
 made_of : (s old d : List ℕ) (size : ℕ) (es : List Entry) (os : List Op) → Taken s old d size es os
-    → patch_of s old d ≡ limited (Result.made (new_file size old os) (hash_from 0 (listed os)))
+    → patch_of s old d ≡ limited (NewFile.made (new_file size old os) (hash_from 0 (listed os)))
 unfolding patch_of inputs_of patched_of result_of
 made_of s old d size es os t =
     rw (le-ltb limit (length old) t.short_old, le-ltb limit (length d) t.short_delta)
@@ -43,11 +43,11 @@ applies s old d out size es os t short room =
     let n = length (new_file size old os) in
     rw (made_of s old d size es os t, le-ltb limit n short, le-ltb (length out) n room)
 
-too_large : (bs out : List ℕ) (h : Checksum) → (limit < length bs) ⊎ (length out < length bs)
-    → stored_in (limited (Result.made bs h)) out ≡ outcome (Measured.Refused Refusal.NoRoom) out
+too_large : (bs out : List ℕ) (h : Option Span) → (limit < length bs) ⊎ (length out < length bs)
+    → stored_in (limited (NewFile.made bs h)) out ≡ outcome (Err Refusal.NoRoom) out
 too_large bs out h (inl l) = rw (lt-ltb limit (length bs) l)
 too_large bs out h (inr l) =
-    by_cond (λ (p : Patched). stored_in p out ≡ outcome (Measured.Refused Refusal.NoRoom) out) (ltb limit (length bs)) (λ _. refl)
+    cond_both (ltb limit (length bs)) _ _ (λ (p : Patched). stored_in p out ≡ outcome (Err Refusal.NoRoom) out) (λ _. refl)
     (λ _. rw (lt-ltb (length out) (length bs) l))
 
 pub refuses-too-large : RefusesTooLarge apply_of
@@ -69,7 +69,7 @@ sound-listed size old (Delta.next o d) h =
     ap (λ (r : Delta). Delta.next o r) (sound-listed size old d (both_test (inside size old o) (sound size old d) h).1)
 
 module _ (s old d out : List ℕ) (b : Bytes s) (c : Bytes d) where
-  module _ {g : Signature} (e : inputs_of s old d ≡ Signed.Read g) where
+  module _ {g : Signature} (e : inputs_of s old d ≡ Ok g) where
     abbrev size : ℕ
     size = g.block_size
 
@@ -108,25 +108,25 @@ module _ (s old d out : List ℕ) (b : Bytes s) (c : Bytes d) where
   Judged (Patched.patched bs h) = Made s old d out (length bs) h × (length bs ≤ limit)
 
   -- reading a signature asks for no room
-  abbrev Roomless : Signed → Type 0
-  Roomless (Signed.Read g) = Unit {0}
-  Roomless (Signed.Refused Refusal.TooLong) = Unit {0}
-  Roomless (Signed.Refused Refusal.Damaged) = Unit {0}
-  Roomless (Signed.Refused Refusal.NoRoom) = ⊥
+  abbrev Roomless : Result Signature Refusal → Type 0
+  Roomless (Ok g) = Unit {0}
+  Roomless (Err Refusal.TooLong) = Unit {0}
+  Roomless (Err Refusal.Damaged) = Unit {0}
+  Roomless (Err Refusal.NoRoom) = ⊥
 
   inputs-roomless : Roomless (inputs_of s old d)
   unfolding inputs_of signature_of
   inputs-roomless =
-      by_cond Roomless (ltb limit (length old) || ltb limit (length d)) (λ _. tt)
-      (λ _. by_cond Roomless (ltb limit (length s)) (λ _. tt) (λ _. by_cond Roomless (is_signature s) (λ _. tt) (λ _. tt)))
+      cond_both (ltb limit (length old) || ltb limit (length d)) _ _ Roomless (λ _. tt)
+      (λ _. cond_both (ltb limit (length s)) _ _ Roomless (λ _. tt) (λ _. cond_both (is_signature s) _ _ Roomless (λ _. tt) (λ _. tt)))
 
-  judged-result : {g : Signature} → inputs_of s old d ≡ Signed.Read g → Judged (patched_of g.block_size old d)
+  judged-result : {g : Signature} → inputs_of s old d ≡ Ok g → Judged (patched_of g.block_size old d)
   unfolding patched_of result_of
   judged-result {g} e =
-      by_cond (λ (r : Result). Judged (limited r)) (sound g.block_size old (delta_of d) && leb (hashes (delta_of d)) 1)
+      cond_both (sound g.block_size old (delta_of d) && leb (hashes (delta_of d)) 1) _ _ (λ (r : NewFile). Judged (limited r))
       (λ q. let m = taken_in e q in
       let n = length (joined g.block_size old (delta_of d)) in
-      by_cond Judged (ltb limit n)
+      cond_both (ltb limit n) _ _ Judged
       (λ u. record { n = n; h = hash_from 0 (delta_of d); made = m; more = inl (ltb-true limit n u) }) (λ u. (m, ltb-false limit n u)))
       (λ _. tt)
 
@@ -134,37 +134,37 @@ module _ (s old d out : List ℕ) (b : Bytes s) (c : Bytes d) where
   unfolding patch_of
   judged = go (inputs_of s old d) refl inputs-roomless
     where
-      go : (i : Signed) → inputs_of s old d ≡ i → Roomless i → Judged (patch_by i old d)
-      go (Signed.Read g) e r = judged-result e
-      go (Signed.Refused Refusal.TooLong) e r = tt
-      go (Signed.Refused Refusal.Damaged) e r = tt
-      go (Signed.Refused Refusal.NoRoom) e r = absurd r
+      go : (i : Result Signature Refusal) → inputs_of s old d ≡ i → Roomless i → Judged (patch_by i old d)
+      go (Ok g) e r = judged-result e
+      go (Err Refusal.TooLong) e r = tt
+      go (Err Refusal.Damaged) e r = tt
+      go (Err Refusal.NoRoom) e r = absurd r
 
-  only_in : (p : Patched) → Judged p → (n : ℕ) (h : Checksum) → (stored_in p out).answer ≡ Measured.Length n h
+  only_in : (p : Patched) → Judged p → (n : ℕ) (h : Option Span) → (stored_in p out).answer ≡ Ok (measured n h)
       → Made s old d out n h × (n ≤ limit) × (n ≤ length out)
   only_in (Patched.refused why) j n h e = let z : ◌≡◌ {A = ℕ} 0 1 = cc in absurd (omega arith)
   only_in (Patched.patched bs k) j n h e = by (ltb (length out) (length bs)) refl e
     where
       by : (u : Bool) → ltb (length out) (length bs) ≡ u
-          → (cond u (outcome (Measured.Refused Refusal.NoRoom) out) (outcome (Measured.Length (length bs) k) (sets out 0 bs))).answer
-          ≡ Measured.Length n h
+          → (cond u (outcome (Err Refusal.NoRoom) out) (outcome (Ok (measured (length bs) k)) (sets out 0 bs))).answer
+          ≡ Ok (measured n h)
           → Made s old d out n h × (n ≤ limit) × (n ≤ length out)
       by true q e = let z : ◌≡◌ {A = ℕ} 0 1 = cc in absurd (omega arith)
       by false q e =
-          let m : length bs ≡ n = cc in
-          let l : k ≡ h = cc in
+          let m : length bs ≡ n = ap length_in e in
+          let l : k ≡ h = ap hash_in e in
           let f = ltb-false (length out) (length bs) q in
           (rw (m, l) at j.0, omega (arith, j.1), omega arith)
 
-  room_in : (p : Patched) → Judged p → (stored_in p out).answer ≡ Measured.Refused Refusal.NoRoom → TooLarge s old d out
+  room_in : (p : Patched) → Judged p → (stored_in p out).answer ≡ Err Refusal.NoRoom → TooLarge s old d out
   room_in (Patched.refused Refusal.TooLong) j e = let z : ◌≡◌ {A = ℕ} 0 1 = cc in absurd (omega arith)
   room_in (Patched.refused Refusal.Damaged) j e = let z : ◌≡◌ {A = ℕ} 0 1 = cc in absurd (omega arith)
   room_in (Patched.refused Refusal.NoRoom) j e = j
   room_in (Patched.patched bs k) j e = by (ltb (length out) (length bs)) refl e
     where
       by : (u : Bool) → ltb (length out) (length bs) ≡ u
-          → (cond u (outcome (Measured.Refused Refusal.NoRoom) out) (outcome (Measured.Length (length bs) k) (sets out 0 bs))).answer
-          ≡ Measured.Refused Refusal.NoRoom
+          → (cond u (outcome (Err Refusal.NoRoom) out) (outcome (Ok (measured (length bs) k)) (sets out 0 bs))).answer
+          ≡ Err Refusal.NoRoom
           → TooLarge s old d out
       by true q e = record { n = length bs; h = k; made = j.0; more = inr (ltb-true (length out) (length bs) q) }
       by false q e = let z : ◌≡◌ {A = ℕ} 0 1 = cc in absurd (omega arith)
@@ -182,27 +182,28 @@ pub keeps_output : KeepsOutput apply_of
 unfolding apply_of
 keeps_output s old d out why e = go (patch_of s old d) e
   where
-    go : (p : Patched) → (stored_in p out).answer ≡ Measured.Refused why → (stored_in p out).buffer ≡ out
+    go : (p : Patched) → (stored_in p out).answer ≡ Err why → (stored_in p out).buffer ≡ out
     go (Patched.refused why) e = refl
     go (Patched.patched bs k) e = by (ltb (length out) (length bs)) e
       where
         by : (u : Bool)
-            → let o = cond u (outcome (Measured.Refused Refusal.NoRoom) out) (outcome (Measured.Length (length bs) k) (sets out 0 bs)) in
-            o.answer ≡ Measured.Refused why → o.buffer ≡ out
+            → let o = cond u (outcome (Err Refusal.NoRoom) out) (outcome (Ok (measured (length bs) k)) (sets out 0 bs)) in
+            o.answer ≡ Err why → o.buffer ≡ out
         by true e = refl
         by false e = let z : ◌≡◌ {A = ℕ} 0 1 = cc in absurd (omega arith)
 
 -- ---- 17 comes first
 too_long : (s old d : List ℕ) → (limit < length s) ⊎ ((limit < length old) ⊎ (limit < length d))
-    → inputs_of s old d ≡ Signed.Refused Refusal.TooLong
+    → inputs_of s old d ≡ Err Refusal.TooLong
 unfolding inputs_of signature_of
 too_long s old d (inl h) =
     rw (lt-ltb limit (length s) h)
-    (by_cond (λ (x : Signed). x ≡ Signed.Refused Refusal.TooLong) (ltb limit (length old) || ltb limit (length d)) (λ _. refl) (λ _. refl))
+    (cond_both (ltb limit (length old) || ltb limit (length d)) _ _ (λ (x : Result Signature Refusal). x ≡ Err Refusal.TooLong)
+    (λ _. refl) (λ _. refl))
 too_long s old d (inr (inl h)) = rw (lt-ltb limit (length old) h)
 too_long s old d (inr (inr h)) = rw (lt-ltb limit (length d) h) (go (ltb limit (length old)))
   where
-    go : (u : Bool) → cond (u || true) (Signed.Refused Refusal.TooLong) (signature_of s) ≡ Signed.Refused Refusal.TooLong
+    go : (u : Bool) → cond (u || true) (Err Refusal.TooLong) (signature_of s) ≡ Err Refusal.TooLong
     go true = refl
     go false = refl
 
@@ -212,29 +213,29 @@ too-long-first s old d out h = rw (too_long s old d h)
 
 -- ---- and nothing else gets 17
 -- the signature and the delta of inputs that are short enough
-not_too-long : (old d out : List ℕ) (x : Signed) → (x ≡ Signed.Refused Refusal.TooLong → ⊥)
-    → (stored_in (patch_by x old d) out).answer ≡ Measured.Refused Refusal.TooLong → ⊥
+not_too-long : (old d out : List ℕ) (x : Result Signature Refusal) → (x ≡ Err Refusal.TooLong → ⊥)
+    → (stored_in (patch_by x old d) out).answer ≡ Err Refusal.TooLong → ⊥
 unfolding patched_of
-not_too-long old d out (Signed.Refused why) n e = n (cc)
-not_too-long old d out (Signed.Read g) n e = made (result_of g.block_size old d) e
+not_too-long old d out (Err why) n e = n (cc)
+not_too-long old d out (Ok g) n e = made (result_of g.block_size old d) e
   where
     -- an answer that is not 17
-    other : {m : Measured} → m ≡ Measured.Refused Refusal.NoRoom → m ≡ Measured.Refused Refusal.TooLong → ⊥
+    other : {m : Result Measured Refusal} → m ≡ Err Refusal.NoRoom → m ≡ Err Refusal.TooLong → ⊥
     other a b = let z : ◌≡◌ {A = ℕ} 0 1 = cc in omega arith
 
-    made : (r : Result) → (stored_in (limited r) out).answer ≡ Measured.Refused Refusal.TooLong → ⊥
-    made Result.damaged e = let z : ◌≡◌ {A = ℕ} 0 1 = cc in omega arith
-    made (Result.made bs h) e = within (ltb limit (length bs)) e
+    made : (r : NewFile) → (stored_in (limited r) out).answer ≡ Err Refusal.TooLong → ⊥
+    made NewFile.damaged e = let z : ◌≡◌ {A = ℕ} 0 1 = cc in omega arith
+    made (NewFile.made bs h) e = within (ltb limit (length bs)) e
       where
         stored : (v : Bool)
-            → (cond v (outcome (Measured.Refused Refusal.NoRoom) out) (outcome (Measured.Length (length bs) h) (sets out 0 bs))).answer
-            ≡ Measured.Refused Refusal.TooLong → ⊥
+            → (cond v (outcome (Err Refusal.NoRoom) out) (outcome (Ok (measured (length bs) h)) (sets out 0 bs))).answer
+            ≡ Err Refusal.TooLong → ⊥
         stored true e = other refl e
         stored false e = let z : ◌≡◌ {A = ℕ} 0 1 = cc in omega arith
 
         within : (u : Bool)
             → (stored_in (cond u (Patched.refused Refusal.NoRoom) (Patched.patched bs h)) out).answer
-            ≡ Measured.Refused Refusal.TooLong → ⊥
+            ≡ Err Refusal.TooLong → ⊥
         within true e = other refl e
         within false e = stored (ltb (length out) (length bs)) e
 
@@ -242,20 +243,20 @@ pub too-long-only : TooLongOnly apply_of
 unfolding apply_of patch_of inputs_of signature_of
 too-long-only s old d out = by (ltb limit (length old)) refl (ltb limit (length d)) refl (ltb limit (length s)) refl
   where
-    read : Signed
-    read = cond (is_signature s) (Signed.Read (record { block_size = field_in s 8 4; blocks = (length s - 12) / 20 }))
-        (Signed.Refused Refusal.Damaged)
+    read : Result Signature Refusal
+    read = cond (is_signature s) (Ok (record { block_size = field_in s 8 4; blocks = (length s - 12) / 20 }))
+        (Err Refusal.Damaged)
 
     by : (a : Bool) → ltb limit (length old) ≡ a → (b : Bool) → ltb limit (length d) ≡ b → (c : Bool) → ltb limit (length s) ≡ c
-        → let x = cond (a || b) (Signed.Refused Refusal.TooLong) (cond c (Signed.Refused Refusal.TooLong) read) in
-        (stored_in (patch_by x old d) out).answer ≡ Measured.Refused Refusal.TooLong
+        → let x = cond (a || b) (Err Refusal.TooLong) (cond c (Err Refusal.TooLong) read) in
+        (stored_in (patch_by x old d) out).answer ≡ Err Refusal.TooLong
         → (limit < length s) ⊎ ((limit < length old) ⊎ (limit < length d))
     by true q b r c t e = inr (inl (ltb-true limit (length old) q))
     by false q true r c t e = inr (inr (ltb-true limit (length d) r))
     by false q false r true t e = inl (ltb-true limit (length s) t)
     by false q false r false t e =
         absurd (not_too-long old d out read
-        (by_cond (λ (x : Signed). x ≡ Signed.Refused Refusal.TooLong → ⊥) (is_signature s)
+        (cond_both (is_signature s) _ _ (λ (x : Result Signature Refusal). x ≡ Err Refusal.TooLong → ⊥)
         (λ _ k. let z : ◌≡◌ {A = ℕ} 0 1 = cc in omega arith) (λ _ k. let z : ◌≡◌ {A = ℕ} 0 1 = cc in omega arith)) e)
 
 -- ---- measured first
@@ -264,10 +265,10 @@ unfolding apply_of measure_of
 measures s old d out = go (patch_of s old d)
   where
     go : (p : Patched)
-        → ((n : ℕ) (h : Checksum) → measured_in p ≡ Measured.Length n h → n ≤ length out → (stored_in p out).answer ≡ Measured.Length n h)
-        × ((why : Refusal) → measured_in p ≡ Measured.Refused why → (stored_in p out).answer ≡ Measured.Refused why)
+        → ((n : ℕ) (h : Option Span) → measured_in p ≡ Ok (measured n h) → n ≤ length out → (stored_in p out).answer ≡ Ok (measured n h))
+        × ((why : Refusal) → measured_in p ≡ Err why → (stored_in p out).answer ≡ Err why)
     go (Patched.refused w) = (λ n h e l. (let z : ◌≡◌ {A = ℕ} 0 1 = cc in absurd (omega arith)), λ why e. e)
     go (Patched.patched bs k) = (
-      λ n h e l. (let m : length bs ≡ n = cc in rw (le-ltb (length out) (length bs) (omega arith)) e),
+      λ n h e l. (let m : length bs ≡ n = ap length_in e in rw (le-ltb (length out) (length bs) (omega arith)) e),
       λ why e. (let z : ◌≡◌ {A = ℕ} 0 1 = cc in absurd (omega arith)),
     )

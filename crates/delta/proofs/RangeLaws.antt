@@ -1,12 +1,13 @@
 -- A range of blocks is one part of the old file.
 use Prim.Native.Nat.{ℕ, zero, suc, ◌+◌, ◌-◌, ◌*◌, ◌≤◌, min}
 use mathlib.Core.Path.{◌≡◌, sym, ap, ◌∙◌}
-use mathlib.Core.List.{List, [], ◌∷◌, ◌++◌}
+use mathlib.Core.List.{List, ◌++◌}
 use native.Mathlib.Omega.{arith}
-use native.Mathlib.Nat.{one-mul, suc-mul, add_comm, zero-min, min-zero, suc-min-suc}
+use native.Mathlib.Nat.{le-mul_of_pos_right, one-mul, suc-mul, add_comm, zero-min, min-zero, suc-min-suc}
 use lib.ListN.{length, take, drop, length-drop}
 use lib.Seq.{take-add, drop-drop}
 use borrow.Author.Tests.{le-leb}
+use Rattle.std.proofs.lemmas.List.{take_min}
 use Rattle.octets.specs.Slices.{part_of}
 use Rattle.delta.specs.Patch.{block_of, range_of}
 
@@ -20,11 +21,6 @@ range-piece size old i (suc n) =
     rw (e, take-add size ((n + 1) * size) (drop (i * size) old), drop-drop size (i * size) old, ← suc-mul i size)
     (ap (λ (r : List ℕ). block_of size old i ++ r) (range-piece size old (suc i) n))
 
-take_min : (n : ℕ) (l : List ℕ) → take (min n (length l)) l ≡ take n l
-take_min zero l = rw (zero-min (length l))
-take_min (suc n) [] = rw (min-zero (suc n))
-take_min (suc n) (x ∷ l) = rw (suc-min-suc n (length l)) (ap (λ (r : List ℕ). x ∷ r) (take_min n l))
-
 -- as the code takes it: no more than there is
 pub part-range : (size : ℕ) (old : List ℕ) (i n : ℕ) → i * size ≤ length old
     → part_of old (i * size) (min ((n + 1) * size) (length old - i * size)) ≡ range_of size old i n
@@ -33,3 +29,6 @@ part-range size old i n h =
     let start = i * size in
     rw (le-leb (start + min ((n + 1) * size) (length old - start)) (length old) (omega arith), ← length-drop start old)
     (take_min ((n + 1) * size) (drop start old) ∙ sym (range-piece size old i n))
+
+-- a block's index is never past its start
+pub ruleset reaching = (le-mul_of_pos_right)

@@ -17,10 +17,9 @@ use Rattle.delta.specs.Read.{limit, field_in, plain_in, signature_of, entry_from
 use Rattle.delta.specs.Laws.{no_entry, signature, ours, Signs, ReadsSignature, SignatureLaid, LaidSignatures}
 use Rattle.delta.specs.declared.Entry.{Entry}
 use Rattle.delta.specs.declared.Signature.{Signature}
-use Rattle.delta.specs.declared.Signed.TheVariants as Signed
-use Rattle.delta.specs.declared.Found.TheVariants as Found
 use Rattle.delta.proofs.HeaderLaws.{signed-read}
 use Rattle.delta.proofs.LayoutLaws.{drop-little, field-little, length_front, bytes_drop, field-laid, field_lt}
+use Rattle.std.specs.Prelude.{Some, None, Ok}
 
 -- ---- entries laid out, and read
 length-entry : (e : Entry) (r : List ℕ) → length (laid_entry e ++ r) ≡ 20 + length r
@@ -83,7 +82,7 @@ module _ (size : ℕ) (es : List Entry) (k : Signs size es) where
   unfolding laid_signature
   size-laid = unfold little in field-little 4 size (laid_entries es) k.fits
 
-  header-reads : signature_of s ≡ Signed.Read (signature size (length es))
+  header-reads : signature_of s ≡ Ok (signature size (length es))
   unfolding signature_of
   header-reads =
       let l = length-signature in
@@ -95,15 +94,15 @@ module _ (size : ℕ) (es : List Entry) (k : Signs size es) where
   unfolding laid_signature
   behind i = sym (drop-drop (20 * i) 12 s) ∙ ap (drop (20 * i)) (unfold little in drop-little 4 size (laid_entries es))
 
-  entry-reads : (i : ℕ) → i < length es → entry_of s i ≡ Found.Block (get_or es i no_entry)
+  entry-reads : (i : ℕ) → i < length es → entry_of s i ≡ Ok (Some (get_or es i no_entry))
   unfolding entry_of entry_in
   entry-reads i h =
       let e = entries_at es i h k.entries in
       rw (header-reads, lt-ltb i (length es) h)
-      (ap (λ (x : Entry). Found.Block x)
+      (ap (λ (x : Entry). Ok (Some x))
       (entry-from s (12 + 20 * i) (get_or es i no_entry) (laid_entries (drop (suc i) es)) e.0 (behind i ∙ e.1)))
 
-  none_reads : (i : ℕ) → length es ≤ i → entry_of s i ≡ Found.Nothing
+  none_reads : (i : ℕ) → length es ≤ i → entry_of s i ≡ Ok None
   unfolding entry_of entry_in
   none_reads i h = rw (header-reads, le-ltb i (length es) h)
 
@@ -149,7 +148,7 @@ entries-laid (suc n) r b l =
     let rest = entries-laid n (drop 20 r) (bytes_drop 20 r b) (omega (arith, length-drop 20 r)) in
     (rw rest.0 (entry-laid r h b), (entry-fits r h b, rest.1), ap suc rest.2)
 
-module _ (s : List ℕ) (g : Signature) (b : Bytes s) (e : signature_of s ≡ Signed.Read g) where
+module _ (s : List ℕ) (g : Signature) (b : Bytes s) (e : signature_of s ≡ Ok g) where
   -- the four fields are zero
   zeros :
       (eqb (field_in s 0 2) 0 ≡ true) × (eqb (field_in s 2 2) 0 ≡ true) × (eqb (field_in s 4 2) 0 ≡ true)

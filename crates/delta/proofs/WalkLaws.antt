@@ -11,81 +11,79 @@ use lib.Dec.{leb, leb-suc-zero, leb-suc-suc}
 use borrow.Author.Tests.{le-leb, ltb-true}
 use Rattle.octets.specs.Outcome.{Outcome}
 use Rattle.octets.specs.Slices.{part_of, copy_at}
-use Rattle.octets.specs.declared.Stored.{Stored}
 use Rattle.octets.proofs.Lists.{drop_at, drop-end}
 use Rattle.octets.proofs.Stores.{sets-append}
 use Rattle.delta.specs.Layout.{Op, laid}
-use Rattle.delta.specs.Read.{limit, Read, operation_of, Delta, delta_from, delta_of, placed}
-use Rattle.delta.specs.Patch.{within, range_of, inside, piece_of, sound, hashes, joined, hash_from, Result, result_of}
+use Rattle.delta.specs.Read.{span, measured, limit, Read, operation_of, Delta, delta_from, delta_of, placed}
+use Rattle.delta.specs.Patch.{within, range_of, inside, piece_of, sound, hashes, joined, hash_from, NewFile, result_of}
 use Rattle.delta.specs.Walk.{tally, span_of, put_of, copied_of, hashed_of, turn_of, Makes}
-use Rattle.delta.specs.declared.Checksum.{Checksum}
 use Rattle.delta.specs.declared.Step.{Step}
-use Rattle.delta.specs.declared.spans.Span.TheVariants as Span
 use Rattle.delta.specs.declared.walk.Tally.{Tally}
-use Rattle.delta.specs.declared.walk.Turn.{Turn}
-use Rattle.delta.specs.declared.walk.Walked.TheVariants as Walked
-use Rattle.delta.proofs.Choices.{by_cond}
+use Rattle.std.proofs.lemmas.Bool.{cond_both}
 use Rattle.delta.proofs.FieldLaws.{part-within, part_small}
 use Rattle.delta.proofs.OperationLaws.{Held, held, held-size}
 use Rattle.delta.proofs.RangeLaws.{part-range}
+use Rattle.std.specs.Prelude.{Option, Some, None, Result, Ok, Err}
+use Rattle.delta.specs.declared.Span.{Span}
+use Rattle.delta.specs.declared.Refusal.{Refusal}
 
 -- ---- what is left to make, from a place on and after a hash
-abbrev pub prefixed : List ℕ → Result → Result
-prefixed p Result.damaged = Result.damaged
-prefixed p (Result.made bs h) = Result.made (p ++ bs) h
+abbrev pub prefixed : List ℕ → NewFile → NewFile
+prefixed p NewFile.damaged = NewFile.damaged
+prefixed p (NewFile.made bs h) = NewFile.made (p ++ bs) h
 
-prefixed-twice : (p q : List ℕ) (r : Result) → prefixed p (prefixed q r) ≡ prefixed (p ++ q) r
-prefixed-twice p q Result.damaged = refl
-prefixed-twice p q (Result.made bs h) = ap (λ (l : List ℕ). Result.made l h) (sym (append_assoc p q bs))
+prefixed-twice : (p q : List ℕ) (r : NewFile) → prefixed p (prefixed q r) ≡ prefixed (p ++ q) r
+prefixed-twice p q NewFile.damaged = refl
+prefixed-twice p q (NewFile.made bs h) = ap (λ (l : List ℕ). NewFile.made l h) (sym (append_assoc p q bs))
 
-prefixed-none : (r : Result) → prefixed [] r ≡ r
-prefixed-none Result.damaged = refl
-prefixed-none (Result.made bs h) = refl
+prefixed-none : (r : NewFile) → prefixed [] r ≡ r
+prefixed-none NewFile.damaged = refl
+prefixed-none (NewFile.made bs h) = refl
 
 -- an operation after a hash: a second one is damage
-abbrev noted : Op → Checksum → ℕ → (Checksum → Result) → Result
+abbrev noted : Op → Option Span → ℕ → (Option Span → NewFile) → NewFile
 noted (Op.block i) h at f = f h
 noted (Op.bytes bs) h at f = f h
-noted (Op.hash bs) Checksum.None at f = f (Checksum.At (at + 3) (length bs))
-noted (Op.hash bs) (Checksum.At p n) at f = Result.damaged
+noted (Op.hash bs) None at f = f (Some (span (at + 3) (length bs)))
+noted (Op.hash bs) (Some p) at f = NewFile.damaged
 noted (Op.blocks i n) h at f = f h
 
 module _ (size : ℕ) (old : List ℕ) where
-  unfoldable pub result_from : ℕ → Checksum → Delta → Result
-  result_from at h Delta.end = Result.made [] h
-  result_from at h Delta.damaged = Result.damaged
+  unfoldable pub result_from : ℕ → Option Span → Delta → NewFile
+  result_from at h Delta.end = NewFile.made [] h
+  result_from at h Delta.damaged = NewFile.damaged
   result_from at h (Delta.next o d) =
       cond (inside size old o)
       (noted o h at (λ k. prefixed (piece_of size old o) (result_from (at + length (laid o)) k d)))
-      Result.damaged
+      NewFile.damaged
 
   -- how many hashes may follow, and which is told
-  abbrev free : Checksum → ℕ
-  free Checksum.None = 1
-  free (Checksum.At p n) = 0
+  abbrev free : Option Span → ℕ
+  free None = 1
+  free (Some p) = 0
 
-  abbrev first : Checksum → Checksum → Checksum
-  first Checksum.None k = k
-  first (Checksum.At p n) k = Checksum.At p n
+  abbrev first : Option Span → Option Span → Option Span
+  first None k = k
+  first (Some p) k = Some p
 
-  all_of : (b s l : Bool) (p bs : List ℕ) (h : Checksum)
-      → cond b (prefixed p (cond (s && l) (Result.made bs h) Result.damaged)) Result.damaged
-      ≡ cond ((b && s) && l) (Result.made (p ++ bs) h) Result.damaged
+  all_of : (b s l : Bool) (p bs : List ℕ) (h : Option Span)
+      → cond b (prefixed p (cond (s && l) (NewFile.made bs h) NewFile.damaged)) NewFile.damaged
+      ≡ cond ((b && s) && l) (NewFile.made (p ++ bs) h) NewFile.damaged
   all_of true true true p bs h = refl
   all_of true true false p bs h = refl
   all_of true false l p bs h = refl
   all_of false s l p bs h = refl
 
-  never : (s : Bool) (r : Result) → Result.damaged ≡ cond (s && false) r Result.damaged
+  never : (s : Bool) (r : NewFile) → NewFile.damaged ≡ cond (s && false) r NewFile.damaged
   never true r = refl
   never false r = refl
 
-  result-from : (d : Delta) (at : ℕ) (h : Checksum)
+  result-from : (d : Delta) (at : ℕ) (h : Option Span)
       → result_from at h d
-      ≡ cond (sound size old d && leb (hashes d) (free h)) (Result.made (joined size old d) (first h (hash_from at d))) Result.damaged
+      ≡ cond (sound size old d && leb (hashes d) (free h)) (NewFile.made (joined size old d) (first h (hash_from at d))) NewFile.damaged
   unfolding result_from sound hashes joined hash_from
-  result-from Delta.end at Checksum.None = refl
-  result-from Delta.end at (Checksum.At p n) = refl
+  result-from Delta.end at None = refl
+  result-from Delta.end at (Some p) = refl
   result-from Delta.damaged at h = refl
   result-from (Delta.next (Op.block i) d) at h =
       rw (result-from d (at + length (laid (Op.block i))) h)
@@ -93,10 +91,10 @@ module _ (size : ℕ) (old : List ℕ) where
   result-from (Delta.next (Op.bytes bs) d) at h =
       rw (result-from d (at + length (laid (Op.bytes bs))) h)
       (all_of true (sound size old d) (leb (hashes d) (free h)) bs (joined size old d) _)
-  result-from (Delta.next (Op.hash bs) d) at Checksum.None =
-      rw (result-from d (at + length (laid (Op.hash bs))) (Checksum.At (at + 3) (length bs)), leb-suc-suc (hashes d) 0)
+  result-from (Delta.next (Op.hash bs) d) at None =
+      rw (result-from d (at + length (laid (Op.hash bs))) (Some (span (at + 3) (length bs))), leb-suc-suc (hashes d) 0)
       (all_of true (sound size old d) (leb (hashes d) 0) [] (joined size old d) _)
-  result-from (Delta.next (Op.hash bs) d) at (Checksum.At p n) = rw (leb-suc-zero (hashes d)) (never (sound size old d) _)
+  result-from (Delta.next (Op.hash bs) d) at (Some p) = rw (leb-suc-zero (hashes d)) (never (sound size old d) _)
   result-from (Delta.next (Op.blocks i n) d) at h =
       rw (result-from d (at + length (laid (Op.blocks i n))) h)
       (all_of (within size old (i + n)) (sound size old d) (leb (hashes d) (free h)) _ (joined size old d) _)
@@ -129,12 +127,22 @@ stored-put p out at h = rw (le-leb (at + length p) (length out) h)
 stored-size : (p out : List ℕ) (at : ℕ) → length (copy_at p out at).buffer ≡ length out
 unfolding copy_at
 stored-size p out at =
-    by_cond (λ (o : Outcome Stored). length o.buffer ≡ length out) (leb (at + length p) (length out))
+    cond_both (leb (at + length p) (length out)) _ _ (λ (o : Outcome (Option ℕ)). length o.buffer ≡ length out)
     (λ _. length-sets out at p) (λ _. refl)
+
+-- ---- a turn does not ask where its tally stands
+pub copied_moved : (p : Option Span) (at next total : ℕ) (h : Option Span) (old out : List ℕ)
+    → copied_of p next (tally next total h) old out ≡ copied_of p next (tally at total h) old out
+unfolding copied_of put_of
+copied_moved None at next total h old out = refl
+copied_moved (Some p) at next total h old out = refl
+
+-- what a turn needs
+pub ruleset turning = (part_small, copied_moved)
 
 -- ---- a walk on its way
 module _ (size : ℕ) (old d out₀ : List ℕ) where
-  abbrev left : Tally → Result
+  abbrev left : Tally → NewFile
   left t = result_from size old t.at t.checksum (delta_of (drop t.at d))
 
   pub record Walking (t : Tally) (out : List ℕ) : Type 0 where
@@ -147,14 +155,14 @@ module _ (size : ℕ) (old d out₀ : List ℕ) where
     pub whole : result_of size old d ≡ prefixed before (left t)
 
   -- what a turn gives: a walk that has come further, or damage
-  abbrev pub Turned : Tally → Turn → List ℕ → Type 0
-  Turned t (Turn.On u) out = Walking u out × (t.at < u.at)
-  Turned t Turn.Damaged out = result_of size old d ≡ Result.damaged
+  abbrev pub Turned : Tally → Result Tally Refusal → List ℕ → Type 0
+  Turned t (Ok u) out = Walking u out × (t.at < u.at)
+  Turned t (Err why) out = (why ≡ Refusal.Damaged) × (result_of size old d ≡ NewFile.damaged)
 
-  abbrev TurnedBy : Tally → Outcome Turn → Type 0
+  abbrev TurnedBy : Tally → Outcome (Result Tally Refusal) → Type 0
   TurnedBy t o = Turned t o.answer o.buffer
 
-  pub start-walks : Walking (tally 0 0 Checksum.None) out₀
+  pub start-walks : Walking (tally 0 0 None) out₀
   unfolding result_of
   start-walks =
       record {
@@ -164,12 +172,12 @@ module _ (size : ℕ) (old d out₀ : List ℕ) where
         total = refl;
         room = refl;
         stored = λ h. refl;
-        whole = sym (prefixed-none _ ∙ result-from size old (delta_of d) 0 Checksum.None);
+        whole = sym (prefixed-none _ ∙ result-from size old (delta_of d) 0 None);
       }
 
   module _ (t : Tally) (out : List ℕ) (w : Walking t out) where
     -- past an operation that makes a piece
-    made-turn : (piece : List ℕ) (next : ℕ) (h : Checksum) → t.at < next → next ≤ length d → length piece ≤ limit
+    made-turn : (piece : List ℕ) (next : ℕ) (h : Option Span) → t.at < next → next ≤ length d → length piece ≤ limit
         → result_of size old d ≡ prefixed w.before (prefixed piece (result_from size old next h (delta_of (drop next d))))
         → Walking (tally next (t.total + length piece) h) (copy_at piece out t.total).buffer
     made-turn piece next h l m s e =
@@ -198,7 +206,7 @@ module _ (size : ℕ) (old d out₀ : List ℕ) where
         ≡ prefixed w.before
         (cond (within size old (i + n))
         (prefixed (range_of size old i n) (result_from size old next t.checksum (delta_of (drop next d))))
-        Result.damaged)
+        NewFile.damaged)
         → TurnedBy t (copied_of (span_of size (length old) i n) next t old out)
     unfolding span_of copied_of
     copied-turn i n next l m s e = by (within size old (i + n)) refl e
@@ -209,20 +217,20 @@ module _ (size : ℕ) (old d out₀ : List ℕ) where
         by : (u : Bool) → within size old (i + n) ≡ u
             → result_of size old d
             ≡ prefixed w.before
-            (cond u (prefixed (range_of size old i n) (result_from size old next t.checksum (delta_of (drop next d)))) Result.damaged)
+            (cond u (prefixed (range_of size old i n) (result_from size old next t.checksum (delta_of (drop next d)))) NewFile.damaged)
             → TurnedBy t
-            (copied_of (cond u (Span.Of (i * size) (min ((n + 1) * size) (length old - i * size))) Span.Outside) next t old out)
+            (copied_of (cond u (Some (span (i * size) (min ((n + 1) * size) (length old - i * size)))) None) next t old out)
         by true u q =
             let p = part-range size old i n (start u) in
             let few = part_small old (i * size) (min ((n + 1) * size) (length old - i * size)) in
             rw p (put-turn (range_of size old i n) next l m (omega (arith, rw p at few)) q)
-        by false u q = q
+        by false u q = (refl, q)
 
-    hash-turn : (bs : List ℕ) (next : ℕ) (h : Checksum) → t.at < next → next ≤ length d
+    hash-turn : (bs : List ℕ) (next : ℕ) (h : Option Span) → t.at < next → next ≤ length d
         → result_of size old d
         ≡ prefixed w.before (noted (Op.hash bs) h t.at (λ k. prefixed [] (result_from size old next k (delta_of (drop next d)))))
-        → Turned t (hashed_of h t (t.at + 3) (length bs) next) out
-    hash-turn bs next Checksum.None l m e = (
+        → Turned t (hashed_of h t (span (t.at + 3) (length bs)) next) out
+    hash-turn bs next None l m e = (
       record {
         within = m;
         few = omega (arith, w.few);
@@ -234,7 +242,7 @@ module _ (size : ℕ) (old d out₀ : List ℕ) where
       },
       l,
     )
-    hash-turn bs next (Checksum.At p n) l m e = e
+    hash-turn bs next (Some p) l m e = (refl, e)
 
     module _ (l : t.at < length d) (s : length old ≤ limit) (k : length d ≤ limit) where
       abbrev rest : List ℕ
@@ -251,7 +259,7 @@ module _ (size : ℕ) (old d out₀ : List ℕ) where
           (cond (inside size old o)
           (noted o t.checksum t.at
           (λ k. prefixed (piece_of size old o) (result_from size old (t.at + 1 + m) k (delta_of (drop (t.at + 1 + m) d)))))
-          Result.damaged)
+          NewFile.damaged)
       unfolding result_from
       ahead o m e h =
           let n : t.at + length (laid o) ≡ t.at + 1 + m = omega (arith, held-size (get_or d t.at 0) rest o m h) in
@@ -260,10 +268,14 @@ module _ (size : ℕ) (old d out₀ : List ℕ) where
       ends : (m : ℕ) → m ≤ length rest → t.at + 1 + m ≤ length d
       ends m h = omega (arith, length-drop (t.at + 1) d)
 
-      turned_by : (x : Read) → here d t.at l ≡ x → Held (get_or d t.at 0) rest x
-          → let p = placed t.at x in TurnedBy t (turn_of p.operation p.next t size old d out)
+      -- an operation that was read is passed, and one that was not is damage
+      abbrev StepTurns : Result Step Refusal → Type 0
+      StepTurns (Ok p) = TurnedBy t (turn_of p.operation p.next t size old d out)
+      StepTurns (Err why) = (why ≡ Refusal.Damaged) × (result_of size old d ≡ NewFile.damaged)
+
+      turned_by : (x : Read) → here d t.at l ≡ x → Held (get_or d t.at 0) rest x → StepTurns (placed t.at x)
       unfolding placed turn_of range_of result_from
-      turned_by Read.damaged e h = from-here (delta-damaged d t.at l e)
+      turned_by Read.damaged e h = (refl, from-here (delta-damaged d t.at l e))
       turned_by (Read.one (Op.block i) m) e h =
           let q : i + 0 ≡ i = add-zero i in
           copied-turn i 0 (t.at + 1 + m) (omega arith) (ends m (omega (arith, h.1, h.2))) s (rw q (ahead (Op.block i) m e h))
@@ -278,21 +290,24 @@ module _ (size : ℕ) (old d out₀ : List ℕ) where
       turned_by (Read.one (Op.blocks i n) m) e h =
           copied-turn i n (t.at + 1 + m) (omega arith) (ends m (omega (arith, h.1, h.2))) s (ahead (Op.blocks i n) m e h)
 
-    -- a turn of the loop
-    module _ {o : Outcome Turn} (p : Step) (l : t.at < length d) (s : length old ≤ limit) (k : length d ≤ limit)
-        (e : p ≡ placed t.at (operation_of (get_or d t.at 0) (drop (t.at + 1) d)))
-        (q : o ≡ turn_of p.operation p.next t size old d out) where
-      turned : TurnedBy t o
-      turned = rw (q, e) (turned_by l s k (here d t.at l) refl (held (get_or d t.at 0) (drop (t.at + 1) d)))
+      -- a turn of the loop
+      module _ {r : Result Step Refusal} (e : r ≡ placed t.at (operation_of (get_or d t.at 0) (drop (t.at + 1) d))) where
+        stepped : StepTurns r
+        stepped = rw e (turned_by (here d t.at l) refl (held (get_or d t.at 0) (drop (t.at + 1) d)))
 
-      pub turned_on : {u : Tally} → o.answer ≡ Turn.On u → Walking u o.buffer × (t.at < u.at)
-      turned_on a = rw a at turned
+        pub turned_on : {p : Step} {o : Outcome (Result Tally Refusal)} {u : Tally} → r ≡ Ok p
+            → o ≡ turn_of p.operation p.next t size old d out → o.answer ≡ Ok u → Walking u o.buffer × (t.at < u.at)
+        turned_on a q b = let h = rw (a, ← q) at stepped in rw b at h
 
-      pub turned-off : o.answer ≡ Turn.Damaged → Makes (result_of size old d) out₀ Walked.Damaged o.buffer
-      turned-off a = rw (rw a at turned)
+        pub turned-off : {p : Step} {o : Outcome (Result Tally Refusal)} {why : Refusal} → r ≡ Ok p
+            → o ≡ turn_of p.operation p.next t size old d out → o.answer ≡ Err why → Makes (result_of size old d) out₀ (Err why) o.buffer
+        turned-off a q b = let h = rw (a, ← q) at stepped in let k = rw b at h in rw (k.0, k.1) refl
+
+        pub no-step : {why : Refusal} → r ≡ Err why → Makes (result_of size old d) out₀ (Err why) out
+        no-step a = let k = rw a at stepped in rw (k.0, k.1) refl
 
     -- the end
-    pub walked : length d ≤ t.at → Makes (result_of size old d) out₀ (Walked.Done t.total t.checksum) out
+    pub walked : length d ≤ t.at → Makes (result_of size old d) out₀ (Ok (measured t.total t.checksum)) out
     walked h =
-        let e : left t ≡ Result.made [] t.checksum = unfold delta_from result_from in rw (drop-end d t.at h) in
-        rw (w.whole, e, append-nil) (ap (λ (n : ℕ). Walked.Done n t.checksum) w.total, w.stored)
+        let e : left t ≡ NewFile.made [] t.checksum = unfold delta_from result_from in rw (drop-end d t.at h) in
+        rw (w.whole, e, append-nil) (ap (λ (n : ℕ). Ok (measured n t.checksum)) w.total, w.stored)

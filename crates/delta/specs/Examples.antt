@@ -1,17 +1,13 @@
 -- Examples of the rules: a signature, an old file and a delta, with the new file and its hash, or the refusal.
-use Rattle.std.specs.Prelude.{ℕ, ◌≡◌, List, [], ◌∷◌, ◌++◌, map, take, replicate}
+use Rattle.std.specs.Prelude.{ℕ, ◌≡◌, List, [], ◌∷◌, ◌++◌, map, take, replicate, Some, None, Ok, Err}
 use Prim.Native.String.{String}
 use Rattle.octets.specs.Ascii.{ascii}
 use Rattle.delta.specs.Layout.{Op, laid_all, laid_signature}
-use Rattle.delta.specs.Read.{limit, signature_of, entry_of}
+use Rattle.delta.specs.Read.{limit, span, measured, signature_of, entry_of}
 use Rattle.delta.specs.Calls.{refusal_number, Patched, patch_of, apply_of}
 use Rattle.delta.specs.Laws.{signature}
 use Rattle.delta.specs.Weak.{weak_of, rolled_of}
 use Rattle.delta.specs.declared.Refusal.TheVariants as Refusal
-use Rattle.delta.specs.declared.Checksum.TheVariants as Checksum
-use Rattle.delta.specs.declared.Signed.TheVariants as Signed
-use Rattle.delta.specs.declared.Found.TheVariants as Found
-use Rattle.delta.specs.declared.Measured.TheVariants as Measured
 
 pub record Example : Type 0 where
   pub signature : List ℕ
@@ -23,7 +19,7 @@ abbrev pub example : List ℕ → String → List ℕ → Patched → Example
 example s old d a = record { signature = s; old = old; delta = d; answer = a }
 
 abbrev pub gives : String → Patched
-gives t = Patched.patched (ascii t) Checksum.None
+gives t = Patched.patched (ascii t) None
 
 abbrev pub damaged : Patched
 damaged = Patched.refused Refusal.Damaged
@@ -51,7 +47,7 @@ kitty_delta = 0 ∷ 0 ∷ 0 ∷ 0 ∷ 0 ∷ 0 ∷ 0 ∷ 0 ∷ 0 ∷ 1 ∷ 2 ∷ 
 
 abbrev pub examples : List Example
 examples =
-    example kitty_signature "abc" kitty_delta (Patched.patched (ascii "abcd") (Checksum.At 19 16))
+    example kitty_signature "abc" kitty_delta (Patched.patched (ascii "abcd") (Some (span 19 16)))
     -- a block and a range byte for byte, whose numbers kitty's delta does not show
     ∷ example (head 4) ten (0 ∷ 2 ∷ replicate 7 0) (gives "ij")
     ∷ example (head 4) ten (3 ∷ 1 ∷ 0 ∷ 0 ∷ 0 ∷ 0 ∷ 0 ∷ 0 ∷ 0 ∷ 1 ∷ 0 ∷ 0 ∷ 0 ∷ []) (gives "efghij")
@@ -76,8 +72,8 @@ examples =
     ∷ example (head 4) ten (laid_all (Op.blocks 0xFFFFFFFFFFFFFFFF 1 ∷ [])) damaged
     ∷ example (head 4) ten (laid_all (Op.blocks 0 0xFFFFFFFF ∷ [])) damaged
     -- hashes
-    ∷ example (head 4) ten (laid_all (Op.hash (0xAA ∷ 0xBB ∷ []) ∷ Op.block 0 ∷ [])) (Patched.patched (ascii "abcd") (Checksum.At 3 2))
-    ∷ example (head 4) ten (laid_all (Op.block 0 ∷ Op.hash [] ∷ [])) (Patched.patched (ascii "abcd") (Checksum.At 12 0))
+    ∷ example (head 4) ten (laid_all (Op.hash (0xAA ∷ 0xBB ∷ []) ∷ Op.block 0 ∷ [])) (Patched.patched (ascii "abcd") (Some (span 3 2)))
+    ∷ example (head 4) ten (laid_all (Op.block 0 ∷ Op.hash [] ∷ [])) (Patched.patched (ascii "abcd") (Some (span 12 0)))
     ∷ example (head 4) ten (laid_all (Op.hash [] ∷ Op.hash [] ∷ [])) damaged
     -- data, and deltas cut off
     ∷ example (head 4) ten [] (gives "")
@@ -99,16 +95,16 @@ two_blocks = laid_all (Op.block 0 ∷ Op.block 1 ∷ [])
 
 -- 9 comes after 16; what is needed is enough, and one less is not
 pub record Rooms : Type 0 where
-  pub damaged_first : (apply_of (head 4) (ascii ten) (two_blocks ++ 4 ∷ []) (replicate 3 0)).answer ≡ Measured.Refused Refusal.Damaged
-  pub short : (apply_of (head 4) (ascii ten) two_blocks (replicate 7 0)).answer ≡ Measured.Refused Refusal.NoRoom
-  pub enough : (apply_of (head 4) (ascii ten) two_blocks (replicate 8 0)).answer ≡ Measured.Length 8 Checksum.None
+  pub damaged_first : (apply_of (head 4) (ascii ten) (two_blocks ++ 4 ∷ []) (replicate 3 0)).answer ≡ Err Refusal.Damaged
+  pub short : (apply_of (head 4) (ascii ten) two_blocks (replicate 7 0)).answer ≡ Err Refusal.NoRoom
+  pub enough : (apply_of (head 4) (ascii ten) two_blocks (replicate 8 0)).answer ≡ Ok (measured 8 None)
   pub behind : (apply_of (head 4) (ascii ten) (laid_all (Op.block 2 ∷ [])) (ascii "....")).buffer ≡ ascii "ij.."
 
 pub record KittyReads : Type 0 where
-  pub header : signature_of kitty_signature ≡ Signed.Read (signature 2 2)
-  pub first : entry_of kitty_signature 0 ≡ Found.Block (record { index = 0; weak = weak_of (ascii "ab"); strong = 0xA873719C24D5735C })
-  pub second : entry_of kitty_signature 1 ≡ Found.Block (record { index = 1; weak = weak_of (ascii "c"); strong = 0x8C40219A46B9F81B })
-  pub no_third : entry_of kitty_signature 2 ≡ Found.Nothing
+  pub header : signature_of kitty_signature ≡ Ok (signature 2 2)
+  pub first : entry_of kitty_signature 0 ≡ Ok (Some (record { index = 0; weak = weak_of (ascii "ab"); strong = 0xA873719C24D5735C }))
+  pub second : entry_of kitty_signature 1 ≡ Ok (Some (record { index = 1; weak = weak_of (ascii "c"); strong = 0x8C40219A46B9F81B }))
+  pub no_third : entry_of kitty_signature 2 ≡ Ok None
 
 pub record Sums : Type 0 where
   pub empty : weak_of [] ≡ 0

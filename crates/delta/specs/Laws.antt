@@ -1,22 +1,21 @@
 -- The laws of signatures, deltas and weak sums, each of any reader, so that it can be refuted of a wrong one.
 use Rattle.std.specs.Prelude.{ℕ, ◌+◌, ◌*◌, ◌^◌, ◌≤◌, ◌<◌, ◌≡◌, true, ◌⊎◌, List, [], ◌∷◌, ◌++◌, length, get_or, take, drop}
+use Rattle.std.specs.Prelude.{Option, Some, None, Result, Ok, Err}
 use Rattle.std.proofs.lemmas.List.Edits.{sets}
 use Rattle.octets.specs.Bytes.{Bytes}
 use Rattle.octets.specs.Little.{little, number}
 use Rattle.octets.specs.Outcome.{Outcome, outcome}
 use Rattle.delta.specs.Layout.{Op, laid, laid_all, Fits, AllFit, laid_signature, EntriesFit}
-use Rattle.delta.specs.Read.{Delta, limit, delta_of, signature_of, entry_of, step, step_of}
+use Rattle.delta.specs.Read.{Delta, limit, span, measured, delta_of, signature_of, entry_of, step, step_of}
 use Rattle.delta.specs.Patch.{range_of, sound, hashes, joined, hash_from}
 use Rattle.delta.specs.Calls.{measure_of, apply_of}
 use Rattle.delta.specs.Weak.{weak_of, rolled_of}
 use Rattle.delta.specs.declared.Refusal.{Refusal}
 use Rattle.delta.specs.declared.Entry.{Entry}
 use Rattle.delta.specs.declared.Signature.{Signature}
-use Rattle.delta.specs.declared.Signed.{Signed}
-use Rattle.delta.specs.declared.Found.{Found}
 use Rattle.delta.specs.declared.Operation.TheVariants as Operation
 use Rattle.delta.specs.declared.Step.{Step}
-use Rattle.delta.specs.declared.Checksum.{Checksum}
+use Rattle.delta.specs.declared.Span.{Span}
 use Rattle.delta.specs.declared.Measured.{Measured}
 
 -- ---- numbers: once over the width, there and back
@@ -42,23 +41,23 @@ LaidReads r = (d : List ℕ) (os : List Op) → Bytes d → r d ≡ listed os �
 
 -- and by its place an operation is told as it stands there: what it has, where its payload starts, and where it ends
 abbrev pub Stepper : Type 0
-Stepper = List ℕ → ℕ → Step
+Stepper = List ℕ → ℕ → Result Step Refusal
 
 abbrev pub told_at : ℕ → Op → Step
 told_at at (Op.block i) = step (Operation.Block i) (at + 9)
-told_at at (Op.bytes bs) = step (Operation.Data (at + 5) (length bs)) (at + 5 + length bs)
-told_at at (Op.hash bs) = step (Operation.Hash (at + 3) (length bs)) (at + 3 + length bs)
+told_at at (Op.bytes bs) = step (Operation.Data (span (at + 5) (length bs))) (at + 5 + length bs)
+told_at at (Op.hash bs) = step (Operation.Hash (span (at + 3) (length bs))) (at + 3 + length bs)
 told_at at (Op.blocks i n) = step (Operation.Blocks i n) (at + 13)
 
 abbrev pub TellsEach : Stepper → Type 0
 TellsEach r =
     (front back : List ℕ) (o : Op) → Fits o → let d = front ++ (laid o ++ back) in
-    length d ≤ limit → r d (length front) ≡ told_at (length front) o
+    length d ≤ limit → r d (length front) ≡ Ok (told_at (length front) o)
 
 -- ---- signatures: the same
 pub record SignatureReader : Type 0 where
-  pub header : List ℕ → Signed
-  pub entry : List ℕ → ℕ → Found
+  pub header : List ℕ → Result Signature Refusal
+  pub entry : List ℕ → ℕ → Result (Option Entry) Refusal
 
 abbrev pub ours : SignatureReader
 ours = record { header = signature_of; entry = entry_of }
@@ -80,9 +79,9 @@ pub record Signs (size : ℕ) (es : List Entry) : Type 0 where
 abbrev pub ReadsSignature : SignatureReader → Type 0
 ReadsSignature r =
     (size : ℕ) (es : List Entry) → Signs size es
-    → (r.header (laid_signature size es) ≡ Signed.Read (signature size (length es)))
-    × ((i : ℕ) → i < length es → r.entry (laid_signature size es) i ≡ Found.Block (get_or es i no_entry))
-    × ((i : ℕ) → length es ≤ i → r.entry (laid_signature size es) i ≡ Found.Nothing)
+    → (r.header (laid_signature size es) ≡ Ok (signature size (length es)))
+    × ((i : ℕ) → i < length es → r.entry (laid_signature size es) i ≡ Ok (Some (get_or es i no_entry)))
+    × ((i : ℕ) → length es ≤ i → r.entry (laid_signature size es) i ≡ Ok None)
 
 pub record SignatureLaid (s : List ℕ) (g : Signature) : Type 0 where
   pub entries : List Entry
@@ -91,7 +90,7 @@ pub record SignatureLaid (s : List ℕ) (g : Signature) : Type 0 where
   pub all : g.blocks ≡ length entries
 
 abbrev pub LaidSignatures : SignatureReader → Type 0
-LaidSignatures r = (s : List ℕ) (g : Signature) → Bytes s → r.header s ≡ Signed.Read g → SignatureLaid s g
+LaidSignatures r = (s : List ℕ) (g : Signature) → Bytes s → r.header s ≡ Ok g → SignatureLaid s g
 
 -- ---- a range is one part of the old file
 abbrev pub Ranges : Type 0
@@ -99,7 +98,7 @@ Ranges = (size : ℕ) (old : List ℕ) (i n : ℕ) → range_of size old i n ≡
 
 -- ---- applying
 abbrev pub Patcher : Type 0
-Patcher = List ℕ → List ℕ → List ℕ → List ℕ → Outcome Measured
+Patcher = List ℕ → List ℕ → List ℕ → List ℕ → Outcome (Result Measured Refusal)
 
 -- a signature and a delta of an old file: "A block that starts at or past the old file's end, block size 0, another header field not zero,
 -- an unknown operation, a second hash operation or anything cut off" is none of these
@@ -122,10 +121,10 @@ Applies p =
     (s old d out : List ℕ) (size : ℕ) (es : List Entry) (os : List Op) → Taken s old d size es os → length (new_file size old os) ≤ limit
     → length (new_file size old os) ≤ length out
     → p s old d out
-    ≡ outcome (Measured.Length (length (new_file size old os)) (hash_from 0 (listed os))) (sets out 0 (new_file size old os))
+    ≡ outcome (Ok (measured (length (new_file size old os)) (hash_from 0 (listed os)))) (sets out 0 (new_file size old os))
 
 -- and nothing else is
-pub record Made (s old d out : List ℕ) (n : ℕ) (h : Checksum) : Type 0 where
+pub record Made (s old d out : List ℕ) (n : ℕ) (h : Option Span) : Type 0 where
   pub size : ℕ
   pub entries : List Entry
   pub operations : List Op
@@ -135,30 +134,30 @@ pub record Made (s old d out : List ℕ) (n : ℕ) (h : Checksum) : Type 0 where
 
 abbrev pub OnlyApplies : Patcher → Type 0
 OnlyApplies p =
-    (s old d out : List ℕ) (n : ℕ) (h : Checksum) → Bytes s → Bytes d → (p s old d out).answer ≡ Measured.Length n h
+    (s old d out : List ℕ) (n : ℕ) (h : Option Span) → Bytes s → Bytes d → (p s old d out).answer ≡ Ok (measured n h)
     → Made s old d out n h × (n ≤ limit) × (n ≤ length out)
 
 -- "An input over 65,536 bytes gets 17 first"
 abbrev pub TooLongFirst : Patcher → Type 0
 TooLongFirst p =
     (s old d out : List ℕ) → (limit < length s) ⊎ ((limit < length old) ⊎ (limit < length d))
-    → p s old d out ≡ outcome (Measured.Refused Refusal.TooLong) out
+    → p s old d out ≡ outcome (Err Refusal.TooLong) out
 
 -- and nothing else gets it: what is neither taken, nor too large by `NoRoomLast`, "is refused with 16"
 abbrev pub TooLongOnly : Patcher → Type 0
 TooLongOnly p =
-    (s old d out : List ℕ) → (p s old d out).answer ≡ Measured.Refused Refusal.TooLong
+    (s old d out : List ℕ) → (p s old d out).answer ≡ Err Refusal.TooLong
     → (limit < length s) ⊎ ((limit < length old) ⊎ (limit < length d))
 
 -- "refused .. and the output is as before"
 abbrev pub KeepsOutput : Patcher → Type 0
 KeepsOutput p =
-    (s old d out : List ℕ) (why : Refusal) → (p s old d out).answer ≡ Measured.Refused why → (p s old d out).buffer ≡ out
+    (s old d out : List ℕ) (why : Refusal) → (p s old d out).answer ≡ Err why → (p s old d out).buffer ≡ out
 
 -- "too little output, or a result over 65,536 bytes, gives 9 likewise, after 16"
 pub record TooLarge (s old d out : List ℕ) : Type 0 where
   pub n : ℕ
-  pub h : Checksum
+  pub h : Option Span
   pub made : Made s old d out n h
   pub more : (limit < n) ⊎ (length out < n)
 
@@ -166,18 +165,18 @@ abbrev pub RefusesTooLarge : Patcher → Type 0
 RefusesTooLarge p =
     (s old d out : List ℕ) (size : ℕ) (es : List Entry) (os : List Op) → Taken s old d size es os
     → (limit < length (new_file size old os)) ⊎ (length out < length (new_file size old os))
-    → p s old d out ≡ outcome (Measured.Refused Refusal.NoRoom) out
+    → p s old d out ≡ outcome (Err Refusal.NoRoom) out
 
 abbrev pub NoRoomLast : Patcher → Type 0
 NoRoomLast p =
-    (s old d out : List ℕ) → Bytes s → Bytes d → (p s old d out).answer ≡ Measured.Refused Refusal.NoRoom → TooLarge s old d out
+    (s old d out : List ℕ) → Bytes s → Bytes d → (p s old d out).answer ≡ Err Refusal.NoRoom → TooLarge s old d out
 
 -- measuring tells what applying with room for it answers
-abbrev pub Measures : Patcher → (List ℕ → List ℕ → List ℕ → Measured) → Type 0
+abbrev pub Measures : Patcher → (List ℕ → List ℕ → List ℕ → Result Measured Refusal) → Type 0
 Measures p m =
     (s old d out : List ℕ)
-    → ((n : ℕ) (h : Checksum) → m s old d ≡ Measured.Length n h → n ≤ length out → (p s old d out).answer ≡ Measured.Length n h)
-    × ((why : Refusal) → m s old d ≡ Measured.Refused why → (p s old d out).answer ≡ Measured.Refused why)
+    → ((n : ℕ) (h : Option Span) → m s old d ≡ Ok (measured n h) → n ≤ length out → (p s old d out).answer ≡ Ok (measured n h))
+    × ((why : Refusal) → m s old d ≡ Err why → (p s old d out).answer ≡ Err why)
 
 -- ---- the weak sum: "rolling it one byte on equals working it out afresh, for every non-empty window"
 abbrev pub Rolls : (List ℕ → ℕ) → (ℕ → ℕ → ℕ → ℕ → ℕ) → Type 0

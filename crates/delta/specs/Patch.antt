@@ -1,8 +1,9 @@
 -- The new file that a delta makes of an old one.
 use Rattle.std.specs.Prelude.{ℕ, zero, suc, ◌+◌, ◌*◌, Bool, true, false, cond, ◌&&◌, List, [], ◌++◌, length, take, drop, leb, ltb}
+use Rattle.std.specs.Prelude.{Option, Some, None}
 use Rattle.delta.specs.Layout.{Op, laid}
-use Rattle.delta.specs.Read.{Delta, delta_of}
-use Rattle.delta.specs.declared.Checksum.{Checksum}
+use Rattle.delta.specs.Read.{span, Delta, delta_of}
+use Rattle.delta.specs.declared.Span.{Span}
 
 -- ---- blocks: "the position of a block in the file is: index * block_size"
 -- "A block that starts at or past the old file's end" is refused
@@ -53,22 +54,23 @@ joined size old Delta.damaged = []
 joined size old (Delta.next o d) = piece_of size old o ++ joined size old d
 
 -- where the first hash of the operations from a place on stands, behind its type and its size
-unfoldable pub hash_from : ℕ → Delta → Checksum
-hash_from at Delta.end = Checksum.None
-hash_from at Delta.damaged = Checksum.None
+unfoldable pub hash_from : ℕ → Delta → Option Span
+hash_from at Delta.end = None
+hash_from at Delta.damaged = None
 hash_from at (Delta.next (Op.block i) d) = hash_from (at + length (laid (Op.block i))) d
 hash_from at (Delta.next (Op.bytes bs) d) = hash_from (at + length (laid (Op.bytes bs))) d
-hash_from at (Delta.next (Op.hash bs) d) = Checksum.At (at + 3) (length bs)
+hash_from at (Delta.next (Op.hash bs) d) = Some (span (at + 3) (length bs))
 hash_from at (Delta.next (Op.blocks i n) d) = hash_from (at + length (laid (Op.blocks i n))) d
 
-pub data Result : Type 0 where
-  damaged : Result
-  made : List ℕ → Checksum → Result
+-- the new file and its hash, or damage: named as in `Read`
+pub data NewFile : Type 0 where
+  damaged : NewFile
+  made : List ℕ → Option Span → NewFile
 
 -- "a second hash operation .. is refused"
-abbrev pub result_in : ℕ → List ℕ → Delta → Result
+abbrev pub result_in : ℕ → List ℕ → Delta → NewFile
 result_in size old d =
-    cond (sound size old d && leb (hashes d) 1) (Result.made (joined size old d) (hash_from 0 d)) Result.damaged
+    cond (sound size old d && leb (hashes d) 1) (NewFile.made (joined size old d) (hash_from 0 d)) NewFile.damaged
 
-unfoldable pub result_of : ℕ → List ℕ → List ℕ → Result
+unfoldable pub result_of : ℕ → List ℕ → List ℕ → NewFile
 result_of size old d = result_in size old (delta_of d)

@@ -1,19 +1,27 @@
 -- What a signature and a delta say.
 use Rattle.std.specs.Prelude.{ℕ, zero, suc, ◌+◌, ◌-◌, ◌*◌, ◌/◌, ◌%◌, Bool, cond, ◌&&◌, leb, ltb, eqb}
-use Rattle.std.specs.Prelude.{List, [], ◌∷◌, length, take, drop, get_or}
+use Rattle.std.specs.Prelude.{List, [], ◌∷◌, length, take, drop, get_or, Option, Some, None, Result, Ok, Err}
 use Rattle.octets.specs.Little.{number}
 use Rattle.delta.specs.Layout.{Op}
 use Rattle.delta.specs.declared.Refusal.{Refusal}
+use Rattle.delta.specs.declared.Signature.{Signature}
 use Rattle.delta.specs.declared.Entry.{Entry}
-use Rattle.delta.specs.declared.Signed.{Signed}
-use Rattle.delta.specs.declared.Found.{Found}
+use Rattle.delta.specs.declared.Span.{Span}
 use Rattle.delta.specs.declared.Operation.{Operation}
 use Rattle.delta.specs.declared.Step.{Step}
-use Rattle.delta.specs.declared.operations.Payload.{Payload}
+use Rattle.delta.specs.declared.Measured.{Measured}
 
 -- "An input over 65,536 bytes gets 17"
 abbrev pub limit : ℕ
 limit = 65536
+
+-- n bytes from a place on
+abbrev pub span : ℕ → ℕ → Span
+span start n = record { start = start; len = n }
+
+-- the new file's length and its hash
+abbrev pub measured : ℕ → Option Span → Measured
+measured n h = record { length = n; checksum = h }
 
 -- the number in the n bytes from a place on
 abbrev pub field_in : List ℕ → ℕ → ℕ → ℕ
@@ -28,27 +36,27 @@ plain_in s = ((eqb (field_in s 0 2) 0 && eqb (field_in s 2 2) 0) && eqb (field_i
 abbrev pub is_signature : List ℕ → Bool
 is_signature s = leb 12 (length s) && (eqb ((length s - 12) % 20) 0 && (plain_in s && ltb 0 (field_in s 8 4)))
 
-unfoldable pub signature_of : List ℕ → Signed
+unfoldable pub signature_of : List ℕ → Result Signature Refusal
 signature_of s =
-    cond (ltb limit (length s)) (Signed.Refused Refusal.TooLong)
-    (cond (is_signature s) (Signed.Read (record { block_size = field_in s 8 4; blocks = (length s - 12) / 20 }))
-    (Signed.Refused Refusal.Damaged))
+    cond (ltb limit (length s)) (Err Refusal.TooLong)
+    (cond (is_signature s) (Ok (record { block_size = field_in s 8 4; blocks = (length s - 12) / 20 }))
+    (Err Refusal.Damaged))
 
 abbrev pub entry_from : List ℕ → ℕ → Entry
 entry_from s at = record { index = field_in s at 8; weak = field_in s (at + 8) 4; strong = field_in s (at + 12) 8 }
 
-unfoldable pub entry_in : ℕ → List ℕ → ℕ → Found
-entry_in blocks s i = cond (ltb i blocks) (Found.Block (entry_from s (12 + 20 * i))) Found.Nothing
+unfoldable pub entry_in : ℕ → List ℕ → ℕ → Option Entry
+entry_in blocks s i = cond (ltb i blocks) (Some (entry_from s (12 + 20 * i))) None
 
-abbrev pub entry_by : Signed → List ℕ → ℕ → Found
-entry_by (Signed.Read g) s i = entry_in g.blocks s i
-entry_by (Signed.Refused why) s i = Found.Refused why
+abbrev pub entry_by : Result Signature Refusal → List ℕ → ℕ → Result (Option Entry) Refusal
+entry_by (Ok g) s i = Ok (entry_in g.blocks s i)
+entry_by (Err why) s i = Err why
 
-unfoldable pub entry_of : List ℕ → ℕ → Found
+unfoldable pub entry_of : List ℕ → ℕ → Result (Option Entry) Refusal
 entry_of s i = entry_by (signature_of s) s i
 
 -- ---- an operation, from its type and the bytes after it
--- the operation, and how many bytes its operands are
+-- the operation, and how many bytes its operands are. A type with names, and no Option of a pair, so that theorems speak of damage
 pub data Read : Type 0 where
   damaged : Read
   one : Op → ℕ → Read
@@ -97,30 +105,25 @@ abbrev pub step : Operation → ℕ → Step
 step o n = record { operation = o; next = n }
 
 -- the operation whose type byte is at a place: a payload by where it stands
-unfoldable pub placed : ℕ → Read → Step
-placed at Read.damaged = step (Operation.Refused Refusal.Damaged) at
-placed at (Read.one (Op.block i) k) = step (Operation.Block i) (at + 1 + k)
-placed at (Read.one (Op.bytes bs) k) = step (Operation.Data (at + 5) (length bs)) (at + 1 + k)
-placed at (Read.one (Op.hash bs) k) = step (Operation.Hash (at + 3) (length bs)) (at + 1 + k)
-placed at (Read.one (Op.blocks i n) k) = step (Operation.Blocks i n) (at + 1 + k)
+unfoldable pub placed : ℕ → Read → Result Step Refusal
+placed at Read.damaged = Err Refusal.Damaged
+placed at (Read.one (Op.block i) k) = Ok (step (Operation.Block i) (at + 1 + k))
+placed at (Read.one (Op.bytes bs) k) = Ok (step (Operation.Data (span (at + 5) (length bs))) (at + 1 + k))
+placed at (Read.one (Op.hash bs) k) = Ok (step (Operation.Hash (span (at + 3) (length bs))) (at + 1 + k))
+placed at (Read.one (Op.blocks i n) k) = Ok (step (Operation.Blocks i n) (at + 1 + k))
 
-unfoldable pub step_of : List ℕ → ℕ → Step
+unfoldable pub step_of : List ℕ → ℕ → Result Step Refusal
 step_of d at =
-    cond (ltb limit (length d)) (step (Operation.Refused Refusal.TooLong) at)
-    (cond (ltb at (length d)) (placed at (operation_of (get_or d at 0) (drop (at + 1) d))) (step Operation.End at))
+    cond (ltb limit (length d)) (Err Refusal.TooLong)
+    (cond (ltb at (length d)) (placed at (operation_of (get_or d at 0) (drop (at + 1) d))) (Ok (step Operation.End at)))
 
--- what the functions for a payload answer
-unfoldable pub payload_at : ℕ → ℕ → List ℕ → Payload
+-- ---- what the functions under them answer
+-- the place after n bytes of operands
+abbrev pub past_of : ℕ → ℕ → List ℕ → Result ℕ Refusal
+past_of at n r = cond (leb n (length r)) (Ok (at + 1 + n)) (Err Refusal.Damaged)
+
+-- where a payload stands
+unfoldable pub payload_at : ℕ → ℕ → List ℕ → Result Span Refusal
 payload_at at k r =
     let n = field_in r 0 k in
-    cond (leb (k + n) (length r)) (Payload.Of (at + 1 + k) n (at + 1 + k + n)) Payload.CutOff
-
-abbrev pub payload_step : (ℕ → ℕ → Operation) → ℕ → Payload → Step
-payload_step o at (Payload.Of start n to) = step (o start n) to
-payload_step o at Payload.CutOff = step (Operation.Refused Refusal.Damaged) at
-
-abbrev pub data_at : ℕ → Payload → Step
-data_at = payload_step (λ start n. Operation.Data start n)
-
-abbrev pub hash_at : ℕ → Payload → Step
-hash_at = payload_step (λ start n. Operation.Hash start n)
+    cond (leb (k + n) (length r)) (Ok (span (at + 1 + k) n)) (Err Refusal.Damaged)

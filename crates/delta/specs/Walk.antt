@@ -1,58 +1,54 @@
 -- What the functions under `measure` and `apply` answer.
-use Rattle.std.specs.Prelude.{ℕ, ◌+◌, ◌-◌, ◌*◌, ◌≤◌, min, ◌≡◌, cond, List, length, ltb}
+use Rattle.std.specs.Prelude.{ℕ, ◌+◌, ◌-◌, ◌*◌, ◌≤◌, min, ◌≡◌, cond, List, length, ltb, Option, Some, None, Result, Ok, Err}
 use Rattle.std.proofs.lemmas.List.Edits.{sets}
 use Rattle.octets.specs.Outcome.{Outcome, outcome}
 use Rattle.octets.specs.Slices.{part_of, copy_at}
-use Rattle.delta.specs.Read.{limit}
-use Rattle.delta.specs.Patch.{Result}
-use Rattle.delta.specs.declared.Refusal.TheVariants as Refusal
-use Rattle.delta.specs.declared.Checksum.{Checksum}
+use Rattle.delta.specs.Read.{limit, span, measured}
+use Rattle.delta.specs.Patch.{NewFile}
+use Rattle.delta.specs.declared.Refusal.{Refusal}
+use Rattle.delta.specs.declared.Span.{Span}
 use Rattle.delta.specs.declared.Measured.{Measured}
 use Rattle.delta.specs.declared.Operation.{Operation}
-use Rattle.delta.specs.declared.spans.Span.{Span}
 use Rattle.delta.specs.declared.walk.Tally.{Tally}
-use Rattle.delta.specs.declared.walk.Turn.{Turn}
-use Rattle.delta.specs.declared.walk.Walked.{Walked}
 
 -- ---- blocks
 -- a block and the `more` ones after it, in an old file of n bytes
-unfoldable pub span_of : ℕ → ℕ → ℕ → ℕ → Span
+unfoldable pub span_of : ℕ → ℕ → ℕ → ℕ → Option Span
 span_of size n first more =
-    cond (ltb ((first + more) * size) n) (Span.Of (first * size) (min ((more + 1) * size) (n - first * size))) Span.Outside
+    cond (ltb ((first + more) * size) n) (Some (span (first * size) (min ((more + 1) * size) (n - first * size)))) None
 
 -- ---- one turn
-abbrev pub tally : ℕ → ℕ → Checksum → Tally
+abbrev pub tally : ℕ → ℕ → Option Span → Tally
 tally at total h = record { at = at; total = total; checksum = h }
 
-unfoldable pub put_of : List ℕ → ℕ → Tally → List ℕ → Outcome Turn
+unfoldable pub put_of : List ℕ → ℕ → Tally → List ℕ → Outcome (Result Tally Refusal)
 put_of piece next t out =
-    outcome (Turn.On (tally next (t.total + length piece) t.checksum)) (copy_at piece out t.total).buffer
+    outcome (Ok (tally next (t.total + length piece) t.checksum)) (copy_at piece out t.total).buffer
 
-unfoldable pub copied_of : Span → ℕ → Tally → List ℕ → List ℕ → Outcome Turn
-copied_of (Span.Of start n) next t old out = put_of (part_of old start n) next t out
-copied_of Span.Outside next t old out = outcome Turn.Damaged out
+unfoldable pub copied_of : Option Span → ℕ → Tally → List ℕ → List ℕ → Outcome (Result Tally Refusal)
+copied_of (Some p) next t old out = put_of (part_of old p.start p.len) next t out
+copied_of None next t old out = outcome (Err Refusal.Damaged) out
 
-abbrev pub hashed_of : Checksum → Tally → ℕ → ℕ → ℕ → Turn
-hashed_of Checksum.None t start n next = Turn.On (tally next t.total (Checksum.At start n))
-hashed_of (Checksum.At p l) t start n next = Turn.Damaged
+abbrev pub hashed_of : Option Span → Tally → Span → ℕ → Result Tally Refusal
+hashed_of None t p next = Ok (tally next t.total (Some p))
+hashed_of (Some first) t p next = Err Refusal.Damaged
 
-unfoldable pub turn_of : Operation → ℕ → Tally → ℕ → List ℕ → List ℕ → List ℕ → Outcome Turn
-turn_of Operation.End next t size old d out = outcome Turn.Damaged out
+unfoldable pub turn_of : Operation → ℕ → Tally → ℕ → List ℕ → List ℕ → List ℕ → Outcome (Result Tally Refusal)
+turn_of Operation.End next t size old d out = outcome (Err Refusal.Damaged) out
 turn_of (Operation.Block i) next t size old d out = copied_of (span_of size (length old) i 0) next t old out
-turn_of (Operation.Data start n) next t size old d out = put_of (part_of d start n) next t out
-turn_of (Operation.Hash start n) next t size old d out = outcome (hashed_of t.checksum t start n next) out
+turn_of (Operation.Data p) next t size old d out = put_of (part_of d p.start p.len) next t out
+turn_of (Operation.Hash p) next t size old d out = outcome (hashed_of t.checksum t p next) out
 turn_of (Operation.Blocks i n) next t size old d out = copied_of (span_of size (length old) i n) next t old out
-turn_of (Operation.Refused why) next t size old d out = outcome Turn.Damaged out
 
 -- ---- the whole walk
 -- what is told is right in any case; an output with room holds the new file
-abbrev pub Makes : Result → List ℕ → Walked → List ℕ → Type 0
-Makes Result.damaged before w out = w ≡ Walked.Damaged
-Makes (Result.made bs h) before w out = (w ≡ Walked.Done (length bs) h) × (length bs ≤ length before → out ≡ sets before 0 bs)
+abbrev pub Makes : NewFile → List ℕ → Result Measured Refusal → List ℕ → Type 0
+Makes NewFile.damaged before w out = w ≡ Err Refusal.Damaged
+Makes (NewFile.made bs h) before w out = (w ≡ Ok (measured (length bs) h)) × (length bs ≤ length before → out ≡ sets before 0 bs)
 
-unfoldable pub limited_to : ℕ → Checksum → Measured
-limited_to n h = cond (ltb limit n) (Measured.Refused Refusal.NoRoom) (Measured.Length n h)
+unfoldable pub limited_to : Measured → Result Measured Refusal
+limited_to m = cond (ltb limit m.length) (Err Refusal.NoRoom) (Ok m)
 
-abbrev pub answer_of : Walked → Measured
-answer_of (Walked.Done n h) = limited_to n h
-answer_of Walked.Damaged = Measured.Refused Refusal.Damaged
+abbrev pub answer_of : Result Measured Refusal → Result Measured Refusal
+answer_of (Ok m) = limited_to m
+answer_of (Err why) = Err why

@@ -1,15 +1,13 @@
 -- Wrong readers, patchers and sums, each with one error. A law that held of one of them would be worth nothing; `DeltaTeeth` says that
 -- the laws are false of them.
-use Rattle.std.specs.Prelude.{ℕ, ◌+◌, ◌-◌, ◌*◌, ◌/◌, ◌%◌, cond, List, [], ◌∷◌, length, ltb}
+use Rattle.std.specs.Prelude.{ℕ, ◌+◌, ◌-◌, ◌*◌, ◌/◌, ◌%◌, cond, List, [], ◌∷◌, length, ltb, None, Result, Ok, Err}
 use Rattle.std.proofs.lemmas.List.Edits.{sets}
 use Rattle.octets.specs.Outcome.{Outcome, outcome}
-use Rattle.delta.specs.Read.{Delta, delta_of, entry_of, step, step_of}
+use Rattle.delta.specs.Read.{measured, Delta, delta_of, entry_of, step, step_of}
 use Rattle.delta.specs.Calls.{apply_of}
 use Rattle.delta.specs.Weak.{sum_of, both_of, weak_of, rolled_low, rolled_of}
 use Rattle.delta.specs.Laws as Laws
-use Rattle.delta.specs.declared.Refusal.TheVariants as Refusal
-use Rattle.delta.specs.declared.Checksum.TheVariants as Checksum
-use Rattle.delta.specs.declared.Signed.TheVariants as Signed
+use Rattle.delta.specs.declared.Refusal.{Refusal}
 use Rattle.delta.specs.declared.Operation.{Operation}
 use Rattle.delta.specs.declared.Step.{Step}
 use Rattle.delta.specs.declared.Measured.{Measured}
@@ -35,55 +33,58 @@ impatient d = go (delta_of d)
 
 -- an operation of data ends where its bytes would, were they the first
 abbrev pub short_step : Laws.Stepper
-short_step d at = go (step_of d at).operation
+short_step d at = go (step_of d at)
   where
-    go : Operation → Step
-    go Operation.End = step_of d at
-    go (Operation.Block i) = step_of d at
-    go (Operation.Data start n) = step (Operation.Data start n) (at + n)
-    go (Operation.Hash start n) = step_of d at
-    go (Operation.Blocks i n) = step_of d at
-    go (Operation.Refused why) = step_of d at
+    shorter : Operation → Step → Step
+    shorter Operation.End p = p
+    shorter (Operation.Block i) p = p
+    shorter (Operation.Data s) p = step (Operation.Data s) (at + s.len)
+    shorter (Operation.Hash s) p = p
+    shorter (Operation.Blocks i n) p = p
+
+    go : Result Step Refusal → Result Step Refusal
+    go (Ok p) = Ok (shorter p.operation p)
+    go (Err why) = Err why
 
 -- every header is taken, and none
 abbrev pub credulous : Laws.SignatureReader
-credulous = record { header = λ s. Signed.Read (Laws.signature 1 0); entry = entry_of }
+credulous = record { header = λ s. Ok (Laws.signature 1 0); entry = entry_of }
 
 abbrev pub unreading : Laws.SignatureReader
-unreading = record { header = λ s. Signed.Refused Refusal.Damaged; entry = entry_of }
+unreading = record { header = λ s. Err Refusal.Damaged; entry = entry_of }
 
 -- ---- patchers
 abbrev pub refusing : Laws.Patcher
-refusing s old d out = outcome (Measured.Refused Refusal.Damaged) out
+refusing s old d out = outcome (Err Refusal.Damaged) out
 
 abbrev pub alarmed : Laws.Patcher
-alarmed s old d out = outcome (Measured.Refused Refusal.TooLong) out
+alarmed s old d out = outcome (Err Refusal.TooLong) out
 
 abbrev pub trusting : Laws.Patcher
-trusting s old d out = outcome (Measured.Length 0 Checksum.None) out
+trusting s old d out = outcome (Ok (measured 0 None)) out
 
 -- room is asked for before the delta is checked
 abbrev pub room_first : Laws.Patcher
-room_first s old d out = cond (ltb (length out) 1) (outcome (Measured.Refused Refusal.NoRoom) out) (apply_of s old d out)
+room_first s old d out = cond (ltb (length out) 1) (outcome (Err Refusal.NoRoom) out) (apply_of s old d out)
 
 -- the hash is not told
 abbrev pub silent : Laws.Patcher
 silent s old d out = go (apply_of s old d out)
   where
-    tell : Measured → Measured
-    tell (Measured.Length n h) = Measured.Length n Checksum.None
-    tell (Measured.Refused why) = Measured.Refused why
+    tell : Result Measured Refusal → Result Measured Refusal
+    tell (Ok m) = Ok (measured m.length None)
+    tell (Err why) = Err why
 
-    go : Outcome Measured → Outcome Measured
+    go : Outcome (Result Measured Refusal) → Outcome (Result Measured Refusal)
     go o = outcome (tell o.answer) o.buffer
 
 -- the output is written though something is refused
 abbrev pub hasty : Laws.Patcher
 hasty s old d out = go (apply_of s old d out).answer
   where
-    go : Measured → Outcome Measured
-    go (Measured.Length n h) = apply_of s old d out
-    go (Measured.Refused why) = outcome (Measured.Refused why) (sets out 0 (0 ∷ []))
+    go : Result Measured Refusal → Outcome (Result Measured Refusal)
+    go (Ok m) = apply_of s old d out
+    go (Err why) = outcome (Err why) (sets out 0 (0 ∷ []))
 
 -- ---- sums
 -- weights from n - 1
@@ -116,7 +117,7 @@ pub record DeltaTeeth : Type 0 where
   pub room_asked_first : Laws.NoRoomLast room_first → ⊥
   pub hash_not_told : Laws.Applies silent → ⊥
   pub written_anyway : Laws.KeepsOutput hasty → ⊥
-  pub nothing_measured : Laws.Measures apply_of (λ s old d. Measured.Length 0 Checksum.None) → ⊥
+  pub nothing_measured : Laws.Measures apply_of (λ s old d. Ok (measured 0 None)) → ⊥
   pub light_weights : Laws.Rolls light rolled_of → ⊥
   pub one_less : Laws.Rolls weak_of short_roll → ⊥
   pub stale_low : Laws.Rolls weak_of stale_roll → ⊥

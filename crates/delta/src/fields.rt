@@ -3,6 +3,7 @@ ghost use Rattle.std.specs.Prelude.{◌≡◌, ◌+◌, ◌^◌, ◌≤◌, ◌<
 ghost use Rattle.octets.specs.Little.{number};
 
 // The number in the n bytes from a place on.
+#[tactic(auto, using(crate::proofs::FieldLaws::in_part))]
 pub(crate) fn field(s: &[u8], at: usize, n: usize) -> u64
     requires { (n ≤ 8) × (at + n ≤ length s.now) }
     ensures { (result ≡ number (take n (drop at s.now))) × (result < 256 ^ n) }
@@ -15,17 +16,9 @@ fn little(bytes: &[u8]) -> u64
     requires { length bytes.now ≤ 8 }
     ensures { (result ≡ number bytes.now) × (result < 256 ^ length bytes.now) }
 {
-    let mut n: u64 = 0;
-    let mut i = bytes.len();
-    while i > 0 {
-        i -= 1;
-        n = n * 256 + wide(bytes[i]);
+    let mut n = 0u64;
+    for byte in bytes.iter().rev() {
+        n = n * 256 + u64::from(*byte);
     }
     n
-}
-
-fn wide(b: u8) -> u64
-    ensures { result ≡ b }
-{
-    b as u64
 }

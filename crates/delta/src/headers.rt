@@ -3,40 +3,36 @@ ghost use Rattle.std.specs.Prelude.{◌≡◌, ◌+◌, ◌*◌, ◌≤◌, leng
 ghost use Rattle.delta.specs.Read as Read;
 
 use crate::fields::field;
-use crate::{Entry, Found, Measured, Refusal, Signature, Signed};
+use crate::{Entry, Measured, Refusal, Signature};
 
 const HEADER: usize = 12;
 
 const ENTRY: usize = 20;
 
 // Reads a signature's header, and counts its blocks.
-pub fn read_signature(signature: &[u8]) -> Signed
+#[tactic(auto, unfolding(crate::specs::Read::signature_of))]
+pub fn read_signature(signature: &[u8]) -> Result<Signature, Refusal>
     ensures { result ≡ Read.signature_of signature.now }
 {
     let len = signature.len();
     if len > Measured::LIMIT {
-        return Signed::Refused(Refusal::TooLong);
+        return Err(Refusal::TooLong);
     }
-    if len < HEADER {
-        return Signed::Refused(Refusal::Damaged);
-    }
-    if (len - HEADER) % ENTRY != 0 {
-        return Signed::Refused(Refusal::Damaged);
-    }
-    if !plain(signature) {
-        return Signed::Refused(Refusal::Damaged);
+    if len < HEADER || (len - HEADER) % ENTRY != 0 || !plain(signature) {
+        return Err(Refusal::Damaged);
     }
     let size = field(signature, 8, 4);
     if size == 0 {
-        return Signed::Refused(Refusal::Damaged);
+        return Err(Refusal::Damaged);
     }
-    Signed::Read(Signature {
+    Ok(Signature {
         block_size: size as u32,
         blocks: (len - HEADER) / ENTRY,
     })
 }
 
 // Whether the four fields before the block size are zero.
+#[tactic(auto, unfolding(crate::specs::Read::plain_in))]
 fn plain(signature: &[u8]) -> bool
     requires { 12 ≤ length signature.now }
     ensures { result ≡ Read.plain_in signature.now }
@@ -45,34 +41,33 @@ fn plain(signature: &[u8]) -> bool
     let checksum = field(signature, 2, 2) == 0;
     let strong = field(signature, 4, 2) == 0;
     let weak = field(signature, 6, 2) == 0;
-    version & checksum & strong & weak
+    version && checksum && strong && weak
 }
 
 // What a signature says of its block number i, counted as it lists them.
-pub fn entry_at(signature: &[u8], i: usize) -> Found
+#[tactic(auto, using(crate::proofs::HeaderLaws::reading), unfolding(crate::specs::Read::entry_of))]
+pub fn entry_at(signature: &[u8], i: usize) -> Result<Option<Entry>, Refusal>
     ensures { result ≡ Read.entry_of signature.now i }
 {
-    let signed = read_signature(signature);
-    match signed {
-        Signed::Read(s) => entry(signature, s.blocks, i),
-        Signed::Refused(why) => Found::Refused(why),
-    }
+    let blocks = read_signature(signature)?.blocks;
+    Ok(entry(signature, blocks, i))
 }
 
-fn entry(signature: &[u8], blocks: usize, i: usize) -> Found
+#[tactic(auto, unfolding(crate::specs::Read::entry_in))]
+fn entry(signature: &[u8], blocks: usize, i: usize) -> Option<Entry>
     requires { (12 + 20 * blocks ≤ length signature.now) × (length signature.now ≤ Read.limit) }
     ensures { result ≡ Read.entry_in blocks signature.now i }
 {
     if i >= blocks {
-        return Found::Nothing;
+        return None;
     }
     let at = HEADER + ENTRY * i;
     let index = field(signature, at, 8);
-    let weak = field(signature, at + 8, 4);
+    let weak = field(signature, at + 8, 4) as u32;
     let strong = field(signature, at + 12, 8);
-    Found::Block(Entry {
-        index: index,
-        weak: weak as u32,
-        strong: strong,
+    Some(Entry {
+        index,
+        weak,
+        strong,
     })
 }

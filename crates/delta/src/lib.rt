@@ -11,21 +11,21 @@ mod spans;
 mod walk;
 mod weak;
 
-ghost use Rattle.std.specs.Prelude.{◌≡◌, ◌<◌, ◌≤◌, length};
+ghost use Rattle.std.specs.Prelude.{◌≡◌};
 ghost use Rattle.octets.specs.Outcome.{outcome};
 ghost use Rattle.delta.specs.Calls as Calls;
-ghost use Rattle.delta.specs.Read.{limit};
 ghost use Rattle.delta.specs.Laws.{DeltaLaws};
 ghost use Rattle.delta.specs.WrongPatchers.{DeltaTeeth};
 ghost use Rattle.delta.specs.Examples.{DeltaExamples};
 
 pub use headers::{entry_at, read_signature};
 pub use operations::operation_at;
+use walk::Patch;
 pub use weak::{roll, weak_sum};
 
 // Why a call is refused: an input over the limit; bytes that are no signature or no delta of the old file;
 // too little room.
-#[derive(Clone, Copy)]
+#[derive(Clone, Copy, PartialEq, Eq, Debug)]
 pub enum Refusal {
     TooLong,
     Damaged,
@@ -51,12 +51,6 @@ pub struct Signature {
     pub blocks: usize,
 }
 
-#[derive(Clone, Copy)]
-pub enum Signed {
-    Read(Signature),
-    Refused(Refusal),
-}
-
 // What a signature says of a block.
 #[derive(Clone, Copy)]
 pub struct Entry {
@@ -65,44 +59,36 @@ pub struct Entry {
     pub strong: u64,
 }
 
+// Where bytes start in a delta or a file, and how many they are.
 #[derive(Clone, Copy)]
-pub enum Found {
-    Block(Entry),
-    Nothing,
-    Refused(Refusal),
+pub struct Span {
+    pub start: usize,
+    pub len: usize,
 }
 
-// An operation of a delta: a block's index; where the bytes of data or of a hash stand in the delta, and
-// how many they are; the index of the first block of a range, and how many more it has.
+// An operation of a delta: a block's index; where the bytes of data or of a hash stand in the delta; the
+// index of the first block of a range, and how many more it has.
 #[derive(Clone, Copy)]
 pub enum Operation {
     End,
     Block(u64),
-    Data(usize, usize),
-    Hash(usize, usize),
+    Data(Span),
+    Hash(Span),
     Blocks(u64, u32),
-    Refused(Refusal),
 }
 
-// An operation, and the place after it; at the end, and where it is refused, its own place.
+// An operation, and the place after it; at the end its own place.
 #[derive(Clone, Copy)]
 pub struct Step {
     pub operation: Operation,
     pub next: usize,
 }
 
-// Where a delta's hash stands in it, and how many bytes it is.
+// How many bytes the new file has, and where the delta's hash of it stands, if it has one.
 #[derive(Clone, Copy)]
-pub enum Checksum {
-    None,
-    At(usize, usize),
-}
-
-// How many bytes the new file has, and the hash.
-#[derive(Clone, Copy)]
-pub enum Measured {
-    Length(usize, Checksum),
-    Refused(Refusal),
+pub struct Measured {
+    pub length: usize,
+    pub checksum: Option<Span>,
 }
 
 impl Measured {
@@ -111,65 +97,38 @@ impl Measured {
 }
 
 // How long the new file is that a delta makes of an old one. The signature says how long a block is; of one
-// that was not kept whole its header is enough.
-pub fn measure<'a>(signature: &'a [u8], old: &'a [u8], delta: &'a [u8]) -> Measured
+// that was not kept whole its header is enough. A caller has three slices, and no use for a struct of them.
+#[tactic(auto, using(crate::proofs::CallLaws::inputs_read), unfolding(crate::specs::Calls::measure_of, crate::specs::Calls::patch_of))]
+pub fn measure<'a>(signature: &'a [u8], old: &'a [u8], delta: &'a [u8]) -> Result<Measured, Refusal>
     ensures { result ≡ Calls.measure_of signature.now old.now delta.now }
 {
-    let signed = inputs(signature, old, delta);
-    match signed {
-        Signed::Read(s) => counted(s.block_size, old, delta),
-        Signed::Refused(why) => Measured::Refused(why),
-    }
+    let size = inputs(signature, old, delta)?.block_size;
+    Patch { size, old, delta }.measured()
 }
 
 // Makes the new file at the start of the output. Nothing is written where something is refused.
-pub fn apply<'a>(signature: &'a [u8], old: &'a [u8], delta: &'a [u8], out: &mut [u8]) -> Measured
+#[tactic(auto, using(crate::proofs::CallLaws::inputs_read), unfolding(crate::specs::Calls::apply_of, crate::specs::Calls::patch_of))]
+pub fn apply<'a>(
+    signature: &'a [u8],
+    old: &'a [u8],
+    delta: &'a [u8],
+    out: &mut [u8],
+) -> Result<Measured, Refusal>
     ensures out_after { outcome result out.new
         ≡ Calls.apply_of signature.now old.now delta.now out.old }
     ensures delta_laws { DeltaLaws × DeltaTeeth × DeltaExamples }
 {
-    let signed = inputs(signature, old, delta);
-    match signed {
-        Signed::Read(s) => made(s.block_size, old, delta, out),
-        Signed::Refused(why) => Measured::Refused(why),
-    }
+    let size = inputs(signature, old, delta)?.block_size;
+    Patch { size, old, delta }.made(out)
 }
 
 // The signature, where no input is over the limit.
-fn inputs<'a>(signature: &'a [u8], old: &'a [u8], delta: &'a [u8]) -> Signed
+#[tactic(auto, unfolding(crate::specs::Calls::inputs_of))]
+fn inputs<'a>(signature: &'a [u8], old: &'a [u8], delta: &'a [u8]) -> Result<Signature, Refusal>
     ensures { result ≡ Calls.inputs_of signature.now old.now delta.now }
 {
-    if old.len() > Measured::LIMIT {
-        return Signed::Refused(Refusal::TooLong);
-    }
-    if delta.len() > Measured::LIMIT {
-        return Signed::Refused(Refusal::TooLong);
+    if old.len() > Measured::LIMIT || delta.len() > Measured::LIMIT {
+        return Err(Refusal::TooLong);
     }
     read_signature(signature)
-}
-
-// Measured by a walk with no room.
-fn counted<'a>(size: u32, old: &'a [u8], delta: &'a [u8]) -> Measured
-    requires { (0 < size) × (length old.now ≤ limit) × (length delta.now ≤ limit) }
-    ensures { result ≡ Calls.measured_in (Calls.patched_of size old.now delta.now) }
-{
-    let walked = walk::over(size, old, delta, &mut []);
-    walked.answer()
-}
-
-// Measured first, so that nothing is written where something is refused.
-fn made<'a>(size: u32, old: &'a [u8], delta: &'a [u8], out: &mut [u8]) -> Measured
-    requires { (0 < size) × (length old.now ≤ limit) × (length delta.now ≤ limit) }
-    ensures { outcome result out.new
-        ≡ Calls.stored_in (Calls.patched_of size old.now delta.now) out.old }
-{
-    let m = counted(size, old, delta);
-    let Measured::Length(n, _) = m else {
-        return m;
-    };
-    if n > out.len() {
-        return Measured::Refused(Refusal::NoRoom);
-    }
-    walk::over(size, old, delta, out);
-    m
 }

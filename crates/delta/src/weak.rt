@@ -4,38 +4,32 @@ ghost use Rattle.delta.specs.Weak.{weak_of, rolled_of};
 ghost use Rattle.delta.specs.Laws.{Rolls};
 
 // The report's M.
-const M: usize = 65536;
+const M: u32 = 65536;
 
 // The weak sum of a window.
+#[tactic(auto, unfolding(crate::specs::Weak::sum_of, crate::specs::Weak::weighed_of, crate::specs::Weak::weak_of))]
 pub fn weak_sum(window: &[u8]) -> u32
     ensures { result ≡ weak_of window.now }
 {
-    let mut a: usize = 0;
-    let mut b: usize = 0;
-    let mut i = 0;
-    while i < window.len() {
-        a = (a + wide(window[i])) % M;
+    let mut a = 0u32;
+    let mut b = 0u32;
+    for byte in window {
+        a = (a + u32::from(*byte)) % M;
         b = (b + a) % M;
-        i += 1;
     }
-    (a + M * b) as u32
+    a + M * b
 }
 
 // The sum of a window of `len` bytes, moved one byte on: `first` leaves it and `next` enters. Of a window
 // that is not empty that is the sum of the next one, worked out afresh.
+#[tactic(auto, using(crate::proofs::WeakLaws::rolls), unfolding(crate::specs::Weak::rolled_of))]
 pub fn roll(sum: u32, len: usize, first: u8, next: u8) -> u32
     ensures value { result ≡ rolled_of sum len first next }
     ensures rolls { Rolls weak_of rolled_of }
 {
-    let s = sum as usize;
-    let x = wide(first);
-    let a = (s % M + M - x + wide(next)) % M;
-    let b = (s / M + M - len % M * x % M + a) % M;
-    (a + M * b) as u32
-}
-
-fn wide(b: u8) -> usize
-    ensures { result ≡ b }
-{
-    b as usize
+    let x = u32::from(first);
+    let n = (len % M as usize) as u32;
+    let a = (sum % M + M - x + u32::from(next)) % M;
+    let b = (sum / M + M - n * x % M + a) % M;
+    a + M * b
 }

@@ -1,29 +1,29 @@
 // The lines that are printed.
-use delta::{Checksum, Entry, Found, Measured, Operation, Refusal, Signed};
+use delta::{Entry, Measured, Operation, Refusal, Signature, Span, Step};
 use script_parts::sum;
 use streams::Run;
 
 // The refusal's number, or 0, the block size and the number of blocks.
-pub(crate) fn header(run: Run, signed: Signed) -> Run {
+pub(crate) fn header(run: Run, signed: Result<Signature, Refusal>) -> Run {
     let begun = run.text(b"h ");
     match signed {
-        Signed::Read(s) => begun
+        Ok(s) => begun
             .text(b"0 ")
             .number(s.block_size as usize)
             .text(b" ")
             .number(s.blocks)
             .text(b"\n"),
-        Signed::Refused(why) => refusal(begun, why).text(b" 0 0\n"),
+        Err(why) => refusal(begun, why).text(b" 0 0\n"),
     }
 }
 
 // The refusal's number, or 0, and an entry.
-pub(crate) fn block(run: Run, found: Found) -> Run {
+pub(crate) fn block(run: Run, found: Result<Option<Entry>, Refusal>) -> Run {
     let begun = run.text(b"b ");
     match found {
-        Found::Block(e) => entry(begun.text(b"0 "), e),
-        Found::Nothing => begun.text(b"0 none\n"),
-        Found::Refused(why) => refusal(begun, why).text(b" none\n"),
+        Ok(Some(e)) => entry(begun.text(b"0 "), e),
+        Ok(None) => begun.text(b"0 none\n"),
+        Err(why) => refusal(begun, why).text(b" none\n"),
     }
 }
 
@@ -35,14 +35,21 @@ fn entry(run: Run, e: Entry) -> Run {
     two.text(b" ").number(e.strong as usize).text(b"\n")
 }
 
-pub(crate) fn operation(run: Run, operation: Operation) -> Run {
+// An operation, 0 at the end, or the refusal's number.
+pub(crate) fn step(run: Run, step: Result<Step, Refusal>) -> Run {
+    match step {
+        Ok(s) => operation(run, s.operation),
+        Err(why) => refusal(run, why),
+    }
+}
+
+fn operation(run: Run, operation: Operation) -> Run {
     match operation {
         Operation::End => run.text(b"0"),
         Operation::Block(i) => run.text(b"block ").number(i as usize),
-        Operation::Data(start, n) => pair(run.text(b"data "), start, n),
-        Operation::Hash(start, n) => pair(run.text(b"hash "), start, n),
+        Operation::Data(span) => pair(run.text(b"data "), span.start, span.len),
+        Operation::Hash(span) => pair(run.text(b"hash "), span.start, span.len),
         Operation::Blocks(i, n) => pair(run.text(b"blocks "), i as usize, n as usize),
-        Operation::Refused(why) => refusal(run, why),
     }
 }
 
@@ -51,26 +58,26 @@ fn pair(run: Run, a: usize, b: usize) -> Run {
 }
 
 fn refusal(run: Run, why: Refusal) -> Run {
-    run.number(why.number() as usize)
+    run.number(usize::from(why.number()))
 }
 
 // The refusal's number, or 0, the length and the hash.
-pub(crate) fn measured(run: Run, measured: Measured) -> Run {
+pub(crate) fn measured(run: Run, measured: Result<Measured, Refusal>) -> Run {
     match measured {
-        Measured::Length(n, h) => hash(run.text(b"0 ").number(n).text(b" "), h),
-        Measured::Refused(why) => refusal(run, why).text(b" 0 -"),
+        Ok(m) => hash(run.text(b"0 ").number(m.length).text(b" "), m.checksum),
+        Err(why) => refusal(run, why).text(b" 0 -"),
     }
 }
 
-fn hash(run: Run, h: Checksum) -> Run {
-    match h {
-        Checksum::None => run.text(b"-"),
-        Checksum::At(start, n) => run.number(start).text(b":").number(n),
+fn hash(run: Run, hash: Option<Span>) -> Run {
+    match hash {
+        Some(span) => run.number(span.start).text(b":").number(span.len),
+        None => run.text(b"-"),
     }
 }
 
 // The same, and the sum of the whole output.
-pub(crate) fn applied(run: Run, m: Measured, out: &[u8]) -> Run {
+pub(crate) fn applied(run: Run, m: Result<Measured, Refusal>, out: &[u8]) -> Run {
     measured(run.text(b"a "), m)
         .text(b" ")
         .number(sum(out))
@@ -80,7 +87,7 @@ pub(crate) fn applied(run: Run, m: Measured, out: &[u8]) -> Run {
 // Bytes in lower-case hex, `-` for none.
 pub(crate) fn made(run: Run, bytes: &[u8]) -> Run {
     let begun = run.text(b"x ");
-    if bytes.len() == 0 {
+    if bytes.is_empty() {
         begun.text(b"-\n")
     } else {
         begun.hex(bytes).text(b"\n")
@@ -91,10 +98,9 @@ pub(crate) fn window(run: Run, sum: u32) -> Run {
     run.text(b"w ").number(sum as usize).text(b"\n")
 }
 
-pub(crate) fn rolled(run: Run, sum: u32) -> Run {
-    run.text(b"l ").number(sum as usize).text(b"\n")
-}
-
-pub(crate) fn no_window(run: Run) -> Run {
-    run.text(b"l none\n")
+pub(crate) fn rolled(run: Run, sum: Option<u32>) -> Run {
+    match sum {
+        Some(sum) => run.text(b"l ").number(sum as usize).text(b"\n"),
+        None => run.text(b"l none\n"),
+    }
 }

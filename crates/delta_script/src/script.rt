@@ -1,31 +1,16 @@
-// A script: operations one after another, each a letter and its operands.
-ghost use Rattle.std.specs.Prelude.{◌-◌, ◌≤◌, length};
+// The operations of a script, each a letter and its operands.
+use script_parts::{byte, two_bytes};
 
-use script_parts::{byte, rest, two_bytes};
-
-// The length of the operation at a place, with its operands, and 0 where there is none.
-pub(crate) fn operation_length(bytes: &[u8], at: usize) -> usize
-    ensures { result ≤ length bytes.now - at }
-{
-    let n = claimed_length(bytes, at);
-    if octets::fits(at, n, bytes.len()) {
-        n
-    } else {
-        0
-    }
-}
-
-// How long an operation is by its letter and its own operands.
-fn claimed_length(bytes: &[u8], at: usize) -> usize {
-    let operation = rest(bytes, at);
+// How long an operation is by its letter and its own operands; none for a letter that begins none.
+pub(crate) fn claimed_length(operation: &[u8]) -> Option<usize> {
     match byte(operation, 0) {
-        b's' | b'o' | b'd' => 3 + two_bytes(operation, 1),
-        b'S' | b'O' | b'D' => 6,
-        b'n' | b'h' | b'i' | b'm' | b'a' | b'x' => 1,
-        b'r' => 5,
-        b'b' => 3,
-        b'w' => 9,
-        b'l' => 13,
-        _ => 0,
+        b's' | b'o' | b'd' => Some(3 + two_bytes(operation, 1)),
+        b'S' | b'O' | b'D' => Some(6),
+        b'n' | b'h' | b'i' | b'm' | b'a' | b'x' => Some(1),
+        b'r' => Some(5),
+        b'b' => Some(3),
+        b'w' => Some(9),
+        b'l' => Some(13),
+        _ => None,
     }
 }

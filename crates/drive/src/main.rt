@@ -1,8 +1,8 @@
 // The scripted console, its calls by value.
 #![tactic(auto)]
 
-use scripts::Calls;
+use scripts::ByValue;
 
 fn main(rt: HostRuntime) {
-    scripts::run(&rt, Calls::ByValue).end(rt.stderr(), b"drive");
+    scripts::run::<ByValue>(&rt, b"drive");
 }

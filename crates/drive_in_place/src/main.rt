@@ -2,8 +2,8 @@
 // those of `drive`, byte for byte.
 #![tactic(auto)]
 
-use scripts::Calls;
+use scripts::InPlace;
 
 fn main(rt: HostRuntime) {
-    scripts::run(&rt, Calls::InPlace).end(rt.stderr(), b"drive_in_place");
+    scripts::run::<InPlace>(&rt, b"drive_in_place");
 }

@@ -1,17 +1,18 @@
 // The lines that are printed.
+use crate::office::Buffers;
 use command::Place;
 use decimal::Number;
 use script_parts::sum;
-use sending::{FileStage, News, SentFile, Stage, Transfer, Writing};
+use sending::{FileStage, News, SentFile, Stage, Transfer};
 use streams::Run;
 
 // A call that writes: the letter, the refusal's number, nothing consumed, nothing told, and the frame at
 // the start of out.
-pub(crate) fn wrote(run: Run, letter: u8, writing: Writing, out: &[u8]) -> Run {
+pub(crate) fn wrote(run: Run, letter: u8, writing: Result<usize, u8>, out: &[u8]) -> Run {
     let begun = run.text(&[letter]).text(b" ");
     match writing {
-        Writing::Refused(n) => begun.number(n as usize).text(b" 0 none -"),
-        Writing::Written(n) => hex(begun.text(b"0 0 none "), octets::part(out, 0, n)),
+        Ok(n) => hex(begun.text(b"0 0 none "), octets::part(out, 0, n)),
+        Err(number) => begun.number(usize::from(number)).text(b" 0 none -"),
     }
 }
 
@@ -23,21 +24,14 @@ pub(crate) fn heard(run: Run, consumed: usize, news: News) -> Run {
 
 fn refusal(news: News) -> usize {
     match news {
-        News::Refused(n) => n as usize,
-        News::Nothing => 0,
-        News::Ignored => 0,
-        News::Noted => 0,
-        News::Allowed => 0,
-        News::Differs(_, _) => 0,
-        News::FileStopped(_, _) => 0,
-        News::SessionStopped(_) => 0,
+        News::Refused(n) => usize::from(n),
+        _ => 0,
     }
 }
 
 fn tell(run: Run, news: News) -> Run {
     match news {
-        News::Nothing => run.text(b"none"),
-        News::Refused(_) => run.text(b"none"),
+        News::Nothing | News::Refused(_) => run.text(b"none"),
         News::Ignored => run.text(b"ignored"),
         News::Noted => run.text(b"noted"),
         News::Allowed => run.text(b"allowed"),
@@ -59,33 +53,21 @@ fn place(run: Run, status: Place) -> Run {
 }
 
 // What ends the line of a call: the sums of the whole buffers, and the session.
-pub(crate) fn end<'a>(
-    run: Run,
-    transfer: Transfer,
-    out: &'a [u8],
-    carry: &'a [u8],
-    scratch: &'a [u8],
-) -> Run {
-    let stage = transfer.stage;
-    let list = transfer.files;
+pub(crate) fn end(run: Run, transfer: Transfer, buffers: &Buffers) -> Run {
     let two = run
         .text(b" ")
-        .number(sum(out))
+        .number(sum(&buffers.out))
         .text(b" ")
-        .number(sum(carry));
-    let summed = two.text(b" ").number(sum(scratch)).text(b" ");
-    files(stage_state(summed, stage), list).text(b"\n")
+        .number(sum(&buffers.carry));
+    let summed = two.text(b" ").number(sum(&buffers.scratch)).text(b" ");
+    files(stage_state(summed, transfer.stage), transfer.files).text(b"\n")
 }
 
 // Each file's stage, with the bytes sent.
 fn files(run: Run, list: [SentFile; Transfer::FILES]) -> Run {
     let mut all = run;
-    let mut j = 0;
-    while j < Transfer::FILES {
-        let file = list[j];
-        let stage = file.stage;
-        all = file_state(all, stage, file.sent);
-        j += 1;
+    for file in &list {
+        all = file_state(all, file.stage, file.sent);
     }
     all
 }
@@ -118,7 +100,7 @@ pub(crate) fn text(run: Run, text: &[u8]) -> Run {
 
 // Bytes in lower-case hex, `-` for none.
 fn hex(run: Run, s: &[u8]) -> Run {
-    if s.len() == 0 {
+    if s.is_empty() {
         run.text(b"-")
     } else {
         run.hex(s)

@@ -7,41 +7,13 @@ mod office;
 mod script;
 
 use office::Office;
-use script_parts::{SCRIPT_LIMIT, bad_script};
-use std::io::Stdout;
-use streams::{Got, Run};
+use streams::Run;
 
-// One byte more is read, so that a longer script is seen.
 fn main(rt: HostRuntime) {
-    let mut bytes = [0u8; SCRIPT_LIMIT + 1];
-    let run = match streams::read_all(rt.stdin(), &mut bytes) {
-        Got::Bytes(n) => play(rt.stdout(), &bytes[..n]),
-        Got::Failed => Run::NotRead,
-    };
-    run.end(rt.stderr(), b"drive_sender");
+    script_parts::run(&rt, b"drive_sender", play);
 }
 
-// Makes the script's calls one after another, until something fails.
-fn play(stdout: Stdout, bytes: &[u8]) -> Run {
-    if bytes.len() > SCRIPT_LIMIT {
-        return bad_script(Run::Well(stdout));
-    }
-    let mut out = [0xA5u8; Office::OUT];
-    let mut carry = [0xA5u8; Office::CARRY];
-    let mut scratch = [0xA5u8; Office::SCRATCH];
-    let mut state = office::fresh(Run::Well(stdout));
-    let mut at = 0;
-    while at < bytes.len() {
-        let run = state.run;
-        if !run.is_well() {
-            break;
-        }
-        let n = script::operation_length(bytes, at);
-        if n == 0 {
-            return bad_script(run);
-        }
-        state = office::perform(state, bytes, at, n, &mut out, &mut carry, &mut scratch);
-        at += n;
-    }
-    state.run
+// Makes the script's calls on one sender.
+fn play(run: Run, script: &[u8]) -> Run {
+    script_parts::play(run, script, Office::fresh(run))
 }

@@ -1,21 +1,28 @@
 // The office's state between the operations of a script, and each operation.
 use crate::line;
-use crate::script::{eight_bytes, id_length};
+use crate::script::{claimed_length, id_length};
 use command::Command;
 use command_writer::framed::FRAME_ROOM;
 use frames::{Framing, Report};
-use octets::size::least;
-use script_parts::{byte, rest, two_bytes};
-use sending::{Listened, Sender, Wrote};
+use script_parts::{Player, byte, eight_bytes, rest, two_bytes};
+use sending::{Sender, Wrote};
 use streams::Run;
 
-// How the run stands, the sender, how much of each buffer is lent, and the latest hear.
-#[derive(Clone, Copy)]
-pub struct Office {
+// How the run stands, the sender, the buffers with how much of each is lent, and the latest hear.
+#[derive(Drop)]
+pub struct Office<'a> {
     pub run: Run,
     pub sender: Sender,
+    pub buffers: Buffers,
     pub rooms: Rooms,
-    pub heard: Heard,
+    pub heard: Heard<'a>,
+}
+
+#[derive(Clone, Copy)]
+pub struct Buffers {
+    pub out: [u8; Buffers::OUT],
+    pub carry: [u8; Buffers::CARRY],
+    pub scratch: [u8; Buffers::SCRATCH],
 }
 
 // How many bytes of each buffer are lent at most.
@@ -26,177 +33,118 @@ pub struct Rooms {
     pub scratch: usize,
 }
 
-// A hear: its operation's place in the script, and its report.
+// A hear: its piece, and its report.
 #[derive(Clone, Copy)]
-pub struct Heard {
-    pub at: usize,
-    pub len: usize,
+pub struct Heard<'a> {
+    pub piece: &'a [u8],
     pub report: Report,
 }
 
-impl Office {
+impl Buffers {
     // Each buffer is longer than a call needs.
-    pub const OUT: usize = FRAME_ROOM + 64;
+    const OUT: usize = FRAME_ROOM + 64;
 
-    pub const CARRY: usize = Framing::TEXT_LIMIT + 64;
+    const CARRY: usize = Framing::TEXT_LIMIT + 64;
 
-    pub const SCRATCH: usize = Command::SCRATCH_ROOM + 64;
+    const SCRATCH: usize = Command::SCRATCH_ROOM + 64;
 }
 
-// A fresh sender, every buffer lent whole, no hear made yet.
-pub(crate) fn fresh(run: Run) -> Office {
-    Office {
-        run: run,
-        sender: Sender::fresh(),
-        rooms: Rooms {
-            out: Office::OUT,
-            carry: Office::CARRY,
-            scratch: Office::SCRATCH,
-        },
-        heard: Heard {
-            at: 0,
-            len: 0,
-            report: Report::Nothing,
-        },
+impl<'a> Player<'a> for Office<'a> {
+    fn claimed_length(operation: &[u8]) -> Option<usize> {
+        claimed_length(operation)
+    }
+
+    fn perform(&mut self, operation: &'a [u8]) -> Option<Run> {
+        match byte(operation, 0) {
+            b'h' => self.hear(rest(operation, 3)),
+            b't' => self.text(),
+            b'n' => *self = Office::fresh(self.run),
+            // From now on only the first so many bytes of a buffer are lent.
+            b'b' => self.rooms.out = two_bytes(operation, 1),
+            b'c' => self.rooms.carry = two_bytes(operation, 1),
+            b'w' => self.rooms.scratch = two_bytes(operation, 1),
+            _ => self.call(operation),
+        }
+        Some(self.run)
     }
 }
 
-// The operation of n bytes at a place of the script.
-pub(crate) fn perform(
-    office: Office,
-    bytes: &[u8],
-    at: usize,
-    n: usize,
-    out: &mut [u8],
-    carry: &mut [u8],
-    scratch: &mut [u8],
-) -> Office {
-    let operation = octets::part(bytes, at, n);
-    let letter = byte(operation, 0);
-    let run = office.run;
-    let rooms = office.rooms;
-    let heard = office.heard;
-    match letter {
-        b'h' => hear(office, operation, at, out, carry, scratch),
-        b't' => Office {
-            run: text(run, heard, bytes, carry, rooms.carry),
-            ..office
-        },
-        b'n' => anew(run, out, carry, scratch),
-        b'b' | b'c' | b'w' => Office {
-            rooms: lend(rooms, letter, two_bytes(operation, 1)),
-            ..office
-        },
-        _ => call(office, operation, out, carry, scratch),
+impl<'a> Office<'a> {
+    // A fresh sender, the buffers as at first, every one lent whole, no hear made yet.
+    pub(crate) fn fresh(run: Run) -> Office<'a> {
+        Office {
+            run,
+            sender: Sender::fresh(),
+            buffers: Buffers {
+                out: [0xA5; Buffers::OUT],
+                carry: [0xA5; Buffers::CARRY],
+                scratch: [0xA5; Buffers::SCRATCH],
+            },
+            rooms: Rooms {
+                out: Buffers::OUT,
+                carry: Buffers::CARRY,
+                scratch: Buffers::SCRATCH,
+            },
+            heard: Heard {
+                piece: b"",
+                report: Report::Nothing,
+            },
+        }
     }
-}
 
-// ---- What prints nothing.
-// Starts anew: a fresh sender, and the buffers as at first.
-fn anew(run: Run, out: &mut [u8], carry: &mut [u8], scratch: &mut [u8]) -> Office {
-    fill(out);
-    fill(carry);
-    fill(scratch);
-    fresh(run)
-}
-
-fn fill(buffer: &mut [u8]) {
-    let mut i = 0;
-    while i < buffer.len() {
-        buffer[i] = 0xA5;
-        i += 1;
+    // One hear of the piece, once, that is lent the first bytes of each buffer.
+    fn hear(&mut self, piece: &'a [u8]) {
+        let carry = self.rooms.carry.min(Buffers::CARRY);
+        let scratch = self.rooms.scratch.min(Buffers::SCRATCH);
+        // Two fields lent at once are those of a variable: the check does not cover them behind a reference.
+        let mut buffers = self.buffers;
+        let listened = sender::hear(
+            self.sender,
+            piece,
+            &mut buffers.carry[..carry],
+            &mut buffers.scratch[..scratch],
+        );
+        self.buffers = buffers;
+        self.sender = listened.sender;
+        self.heard = Heard {
+            piece,
+            report: listened.report,
+        };
+        let told = line::heard(self.run, listened.consumed, listened.news);
+        self.end(told);
     }
-}
 
-// From now on only the first n bytes of a buffer are lent.
-fn lend(rooms: Rooms, letter: u8, n: usize) -> Rooms {
-    match letter {
-        b'b' => Rooms { out: n, ..rooms },
-        b'c' => Rooms { carry: n, ..rooms },
-        _ => Rooms {
-            scratch: n,
-            ..rooms
-        },
+    // The text of the latest hear's report, given that hear's piece and so many bytes of the carry as it is now.
+    fn text(&mut self) {
+        let lent = &self.buffers.carry[..self.rooms.carry.min(Buffers::CARRY)];
+        self.run = line::text(
+            self.run,
+            frames::text(self.heard.piece, lent, self.heard.report),
+        );
     }
-}
 
-// ---- Hears.
-// One hear of the operation's piece, once.
-fn hear(
-    office: Office,
-    operation: &[u8],
-    at: usize,
-    out: &mut [u8],
-    carry: &mut [u8],
-    scratch: &mut [u8],
-) -> Office {
-    let sender = office.sender;
-    let rooms = office.rooms;
-    let run = office.run;
-    let listened = hear_lent(sender, rest(operation, 3), rooms, carry, scratch);
-    let news = listened.news;
-    let next = listened.sender;
-    let report = listened.report;
-    let told = line::heard(run, listened.consumed, news);
-    let transfer = next.transfer;
-    Office {
-        run: line::end(told, transfer, out, carry, scratch),
-        sender: next,
-        heard: Heard {
-            at: at,
-            len: operation.len(),
-            report: report,
-        },
-        ..office
+    // A call that writes.
+    fn call(&mut self, operation: &[u8]) {
+        let out = self.rooms.out.min(Buffers::OUT);
+        let wrote = call(self.sender, operation, &mut self.buffers.out[..out]);
+        self.sender = wrote.sender;
+        let told = line::wrote(
+            self.run,
+            byte(operation, 0),
+            wrote.writing,
+            &self.buffers.out,
+        );
+        self.end(told);
     }
-}
 
-// A hear that is lent the first bytes of each buffer.
-fn hear_lent(
-    sender: Sender,
-    piece: &[u8],
-    rooms: Rooms,
-    carry: &mut [u8],
-    scratch: &mut [u8],
-) -> Listened {
-    let c = least(rooms.carry, carry.len());
-    let s = least(rooms.scratch, scratch.len());
-    sender::hear(sender, piece, &mut carry[..c], &mut scratch[..s])
-}
-
-// The text of a hear's report, given that hear's piece and so many bytes of the carry as it is now.
-fn text<'a>(run: Run, heard: Heard, bytes: &'a [u8], carry: &'a [u8], room: usize) -> Run {
-    let report = heard.report;
-    let piece = rest(octets::part(bytes, heard.at, heard.len), 3);
-    let lent = octets::part(carry, 0, least(room, carry.len()));
-    line::text(run, frames::text(piece, lent, report))
+    // What ends the line of a call.
+    fn end(&mut self, told: Run) {
+        self.run = line::end(told, self.sender.transfer, &self.buffers);
+    }
 }
 
 // ---- Calls that write.
-fn call<'a>(
-    office: Office,
-    operation: &[u8],
-    out: &mut [u8],
-    carry: &'a [u8],
-    scratch: &'a [u8],
-) -> Office {
-    let sender = office.sender;
-    let rooms = office.rooms;
-    let run = office.run;
-    let b = least(rooms.out, out.len());
-    let wrote = call_lent(sender, operation, &mut out[..b]);
-    let writing = wrote.writing;
-    let next = wrote.sender;
-    let told = line::wrote(run, byte(operation, 0), writing, out);
-    let transfer = next.transfer;
-    Office {
-        run: line::end(told, transfer, out, carry, scratch),
-        sender: next,
-        ..office
-    }
-}
-
-fn call_lent(sender: Sender, operation: &[u8], out: &mut [u8]) -> Wrote {
+fn call(sender: Sender, operation: &[u8], out: &mut [u8]) -> Wrote {
     match byte(operation, 0) {
         b's' => sender::send(sender, rest(operation, 2), out),
         b'f' => file(sender, operation, out),

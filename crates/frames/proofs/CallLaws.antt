@@ -4,15 +4,18 @@ use mathlib.Core.Path.{◌≡◌, refl, sym, ◌∙◌}
 use mathlib.Core.List.{List, [], ◌∷◌}
 use native.Mathlib.Nat.{add-zero, zero-add}
 use native.Mathlib.Omega.{arith}
-use lib.ListN.{length, take}
+use lib.ListN.{length, take, drop, length-append, length-drop}
+use Rattle.std.specs.Prelude.{Option, Some, None}
 use lib.Dec.{ltb, leb}
 use borrow.Author.Tests.{lt-ltb, le-ltb, ltb-false}
 use Rattle.octets.specs.Outcome.{Outcome, outcome}
 use Rattle.frames.specs.Stream.{text_limit}
+use Rattle.frames.specs.Carry.{text_at, carry_of, left_of}
 use Rattle.frames.specs.Framings.{capped_of}
 use Rattle.frames.specs.Steps.{step_of, after, walk_from}
 use Rattle.frames.specs.Calls.{refusal_number, report_of, taken_of, scan_of}
 use Rattle.frames.specs.Claims.{Consumes, RefusesShort}
+use Rattle.frames.specs.declared.carry.Held.{Held}
 use Rattle.frames.specs.declared.Framing.{Framing}
 use Rattle.frames.specs.declared.step.Event.{Event}
 use Rattle.frames.specs.declared.step.Event.TheVariants.{On, Closed, Abandoned}
@@ -37,12 +40,12 @@ by-closed P n u piece carry long =
 -- and these report no refusal with 9
 report-taken : (e : Event) (u : ℕ) → report_of e u ≡ Report.ShortCarry → ⊥
 unfolding report_of
-report-taken (On g) u q = let z : ◌≡◌ {A = ℕ} 0 1 = cc in omega arith
+report-taken (On g) u q = cc
 report-taken (Closed n) u q =
     by-closed (λ r. r ≡ Report.ShortCarry → ⊥) n u
-    (λ start e. let z : ◌≡◌ {A = ℕ} 0 1 = cc in omega arith) (λ e. let z : ◌≡◌ {A = ℕ} 0 1 = cc in omega arith)
-    (λ e. let z : ◌≡◌ {A = ℕ} 0 1 = cc in omega arith) q
-report-taken (Abandoned n g) u q = let z : ◌≡◌ {A = ℕ} 0 1 = cc in omega arith
+    (λ start e. cc) (λ e. cc)
+    (λ e. cc) q
+report-taken (Abandoned n g) u q = cc
 
 pub call-report : (f : Framing) (xs c : List ℕ) → text_limit ≤ length c → (scan_of f xs c).answer.report ≡ Report.ShortCarry → ⊥
 call-report f xs c h e = report-taken _ _ (rw (call-taken f xs c h) at e)
@@ -71,6 +74,17 @@ pub by_call : (P : Outcome Scanned → Type 0) (f : Framing) (xs c : List ℕ)
 unfolding scan_of
 by_call P f xs c p q = by_cond P (ltb (length c) text_limit) (λ _. p) (λ e. q (ltb-false (length c) text_limit e))
 
+-- ---- a carry with room keeps it
+left-room : (c xs : List ℕ) (o : Option Held) → text_limit ≤ length c → text_limit ≤ length (left_of c xs o)
+unfolding carry_of
+left-room c xs None h = h
+left-room c xs (Some p) h =
+    let t : List ℕ = take text_limit (text_at c xs p.end p.count) in
+    omega (arith, length-append t (drop (length t) c), length-drop (length t) c)
+
+pub scan-room : (f : Framing) (xs c : List ℕ) → text_limit ≤ length c → text_limit ≤ length (scan_of f xs c).buffer
+scan-room f xs c h = by_call (λ (o : Outcome Scanned). text_limit ≤ length o.buffer) f xs c h (λ _. left-room c xs _ h)
+
 -- ---- how much is consumed
 pub consumed_le : (f : Framing) (xs c : List ℕ) → (scan_of f xs c).answer.consumed ≤ length xs
 consumed_le f xs c = by_call (λ o. o.answer.consumed ≤ length xs) f xs c (omega arith) (λ _. omega (arith, used_le (capped_of f) 0 xs))
@@ -91,8 +105,8 @@ used-some f i (b ∷ xs) = by (step_of f b) (λ g. used-some g (i + 1) xs)
 report-some : (n u : ℕ) → report_of (Closed n) u ≡ Report.Nothing → ⊥
 report-some n u =
     by-closed (λ r. r ≡ Report.Nothing → ⊥) n u
-    (λ start e. let z : ◌≡◌ {A = ℕ} 0 1 = cc in omega arith) (λ e. let z : ◌≡◌ {A = ℕ} 0 1 = cc in omega arith)
-    (λ e. let z : ◌≡◌ {A = ℕ} 0 1 = cc in omega arith)
+    (λ start e. cc) (λ e. cc)
+    (λ e. cc)
 
 abbrev silent : Walked → Type 0
 silent w = report_of w.event w.used ≡ Report.Nothing
@@ -107,7 +121,7 @@ used_all f i (b ∷ xs) e = by (step_of f b) (λ g. used_all g (i + 1) xs) e
         → (after r (i + 1) (λ (g : Framing). walk_from g (i + 1) xs)).used ≡ i + suc (length xs)
     by (On g) h q = omega (arith, h g q)
     by (Closed n) h q = absurd (report-some n (i + 1) q)
-    by (Abandoned n g) h q = let z : ◌≡◌ {A = ℕ} 0 1 = cc in absurd (omega arith)
+    by (Abandoned n g) h q = cc
 
 -- fewer bytes report nothing
 used-first : (f : Framing) (i k u : ℕ) (xs : List ℕ) → i + k < (walk_from f i xs).used

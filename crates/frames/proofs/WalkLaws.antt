@@ -1,6 +1,6 @@
 -- The walk of a piece: a turn of it, the bounds of its count, and what it uses.
 use Prim.Native.Nat.{ℕ, suc, ◌+◌, ◌-◌, ◌<◌, ◌≤◌}
-use mathlib.Core.Path.{◌≡◌, sym, ◌∙◌}
+use mathlib.Core.Path.{◌≡◌, refl, sym, ◌∙◌}
 use mathlib.Core.List.{List, [], ◌∷◌}
 use native.Mathlib.Nat.{le_trans}
 use native.Mathlib.Omega.{arith}
@@ -23,6 +23,7 @@ use Rattle.frames.specs.declared.step.Event.{Event}
 use Rattle.frames.specs.declared.step.Event.TheVariants.{On, Closed, Abandoned}
 use Rattle.frames.specs.declared.walk.Walked.{Walked}
 use Rattle.frames.specs.declared.carry.Held.{Held}
+use Rattle.std.specs.Prelude.{Option, Some, IfSome}
 use Rattle.frames.proofs.Choices.{by_cond}
 
 -- the walk from i on is what the event at i makes of the walk from i + 1 on
@@ -30,6 +31,12 @@ pub turn : (f : Framing) (i : ℕ) (xs : List ℕ) (r : Event) → i < length xs
     → walk_from f i (drop i xs) ≡ after r (i + 1) (λ (g : Framing). walk_from g (i + 1) (drop (i + 1) xs))
 unfolding walk_from
 turn f i xs r h e = rw (drop_at xs i h, e)
+
+-- a text that closes or is abandoned ends a walk
+pub after-end : (r : Event) (i : ℕ) (k : Framing → Walked) → ((g : Framing) → r ≡ On g → ⊥) → after r i k ≡ record { used = i; event = r }
+after-end (On g) i k n = absurd (n g refl)
+after-end (Closed m) i k n = refl
+after-end (Abandoned m g) i k n = refl
 
 -- ---- the count
 -- the byte after a 1B leads to one of three framings
@@ -92,19 +99,24 @@ used_le f i (b ∷ xs) =
     after-used (step_of f b) (i + 1) (i + suc (length xs)) _ (omega arith) (λ g. le_trans (used_le g (i + 1) xs) (omega arith))
 
 -- what is held ends within them
-reported-end : (u n : ℕ) → (reported_at u n).end ≤ u
-reported-end u n = by_cond (λ (h : Held). h.end ≤ u) (leb n (u - 2)) (λ _. omega arith) (λ _. omega arith)
+abbrev EndsWithin : ℕ → Option Held → Type 0
+EndsWithin u o = IfSome o (λ h. h.end ≤ u)
 
-held-end : (e : Event) (u : ℕ) → (held_of e u).end ≤ u
+reported-end : (u n : ℕ) → EndsWithin u (reported_at u n)
+reported-end u n = by_cond (EndsWithin u) (leb n (u - 2)) (λ _. tt) (λ _. omega arith)
+
+held-end : (e : Event) (u : ℕ) → EndsWithin u (held_of e u)
 unfolding held_of
-held-end (On Plain) u = omega arith
-held-end (On Escape) u = omega arith
+held-end (On Plain) u = tt
+held-end (On Escape) u = tt
 held-end (On (Text k n)) u = omega arith
 held-end (On (TextEscape n)) u = omega arith
 held-end (Closed n) u = reported-end u n
 held-end (Abandoned n g) u = reported-end u n
 
-pub held-within : (w : Walked) (f : Framing) (xs : List ℕ) → w ≡ walk_from f 0 xs → (held_of w.event w.used).end ≤ length xs
-held-within w f xs e =
+pub held-within : (w : Walked) (f : Framing) (xs : List ℕ) (h : Held) → w ≡ walk_from f 0 xs → Some h ≡ held_of w.event w.used
+    → h.end ≤ length xs
+held-within w f xs h e q =
     let u : w.used ≤ length xs = rw e (le_trans (used_le f 0 xs) (omega arith)) in
-    le_trans (held-end w.event w.used) u
+    let k : h.end ≤ w.used = rw (← q) at (held-end w.event w.used) in
+    le_trans k u

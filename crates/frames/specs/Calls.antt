@@ -5,7 +5,7 @@ use Rattle.octets.specs.Slices.{part_of}
 use Rattle.frames.specs.Stream.{text_limit}
 use Rattle.frames.specs.Framings.{capped_of}
 use Rattle.frames.specs.Steps.{framing_after, end_of, walk_from}
-use Rattle.frames.specs.Carry.{held_of, carry_of}
+use Rattle.frames.specs.Carry.{held_of, left_of}
 use Rattle.frames.specs.declared.Framing.{Framing}
 use Rattle.frames.specs.declared.step.Event.{Event}
 use Rattle.frames.specs.declared.step.Event.TheVariants.{On, Closed, Abandoned}
@@ -39,9 +39,7 @@ scanned_of w = record { consumed = w.used; framing = capped_of (framing_after w.
 
 -- a call that is not refused, given its walk
 abbrev pub walked_call : Walked → List ℕ → List ℕ → Outcome Scanned
-walked_call w xs c =
-    let h = held_of w.event w.used in
-    outcome (scanned_of w) (carry_of c xs h.end h.count)
+walked_call w xs c = outcome (scanned_of w) (left_of c xs (held_of w.event w.used))
 
 abbrev pub taken_of : Framing → List ℕ → List ℕ → Outcome Scanned
 taken_of f xs c = walked_call (walk_from (capped_of f) 0 xs) xs c

@@ -14,14 +14,14 @@ mod walk;
 ghost use Rattle.std.specs.Prelude.{◌≡◌, ◌≤◌, length};
 ghost use Rattle.octets.specs.Outcome.{outcome};
 ghost use Rattle.frames.specs.Stream.{text_limit};
+ghost use Rattle.frames.specs.Framings.{mark_of};
 ghost use Rattle.frames.specs.Calls.{place_of, report_of, taken_of, scan_of, text_of};
 ghost use Rattle.frames.specs.Claims.{TellsTheStream, SameHoweverCut, Consumes, RefusesShort, FramedTells};
 ghost use Rattle.frames.specs.DragDrop.{DraggedTells, MarkExamples};
 
 use carry::{held_of, keep};
-use octets::size::less;
 use step::{Event, capped, framing_after};
-use walk::walk_piece;
+use walk::{Walked, walk_piece};
 
 // What is known of the bytes before a piece: whether they end in a text that may be reported, with its
 // mark and the count of its bytes, and whether they end in a 1B. A text known to start with no mark
@@ -41,6 +41,17 @@ pub enum Framing {
 pub enum Mark {
     Transfer,
     DragDrop,
+}
+
+impl Mark {
+    pub(crate) fn word(self) -> &'static [u8]
+        ensures { result.now ≡ mark_of self }
+    {
+        match self {
+            Mark::Transfer => b"5113;",
+            Mark::DragDrop => b"72;",
+        }
+    }
 }
 
 impl Framing {
@@ -83,7 +94,7 @@ pub fn scan(framing: Framing, piece: &[u8], carry: &mut [u8]) -> Scanned
     if carry.len() < Framing::TEXT_LIMIT {
         return Scanned {
             consumed: 0,
-            framing: framing,
+            framing,
             report: Report::ShortCarry,
         };
     }
@@ -95,11 +106,10 @@ fn taken(framing: Framing, piece: &[u8], carry: &mut [u8]) -> Scanned
     requires { text_limit ≤ length carry.old }
     ensures { outcome result carry.new ≡ taken_of framing piece.now carry.old }
 {
-    let w = walk_piece(framing, piece);
-    let used = w.used;
-    let event = w.event;
-    let h = held_of(event, used);
-    keep(piece, carry, h.end, h.count);
+    let Walked { used, event } = walk_piece(framing, piece);
+    if let Some(held) = held_of(event, used) {
+        keep(piece, carry, held);
+    }
     Scanned {
         consumed: used,
         framing: capped(framing_after(event)),
@@ -109,30 +119,26 @@ fn taken(framing: Framing, piece: &[u8], carry: &mut [u8]) -> Scanned
 
 // The text of a report, given the piece and the carry of its call: empty where it has none, or
 // where its place passes the end of that buffer.
+#[tactic(auto, unfolding(crate::specs::Calls::text_of))]
 pub fn text<'a>(piece: &'a [u8], carry: &'a [u8], report: Report) -> &'a [u8]
     ensures { result.now ≡ text_of piece.now carry.now report }
 {
     match report {
-        Report::Nothing => &piece[..0],
         Report::InPiece(start, n) => octets::part(piece, start, n),
         Report::InCarry(n) => octets::part(carry, 0, n),
-        Report::TooLong => &piece[..0],
-        Report::Abandoned => &piece[..0],
-        Report::ShortCarry => &piece[..0],
+        _ => &piece[..0],
     }
 }
 
+#[tactic(auto, unfolding(crate::specs::Calls::report_of))]
 fn report_of(event: Event, used: usize) -> Report
     ensures { result ≡ report_of event used }
 {
     match event {
         Event::On(_) => Report::Nothing,
-        Event::Closed(n) => if n <= Framing::TEXT_LIMIT {
-            place(used, n)
-        } else {
-            Report::TooLong
-        },
-        Event::Abandoned(_, _) => Report::Abandoned,
+        Event::Closed(n) if n <= Framing::TEXT_LIMIT => place(used, n),
+        Event::Closed(_) => Report::TooLong,
+        Event::Abandoned(..) => Report::Abandoned,
     }
 }
 
@@ -140,7 +146,7 @@ fn report_of(event: Event, used: usize) -> Report
 fn place(used: usize, n: usize) -> Report
     ensures { result ≡ place_of used n }
 {
-    let end = less(used, 2);
+    let end = used.saturating_sub(2);
     if n <= end {
         Report::InPiece(end - n, n)
     } else {

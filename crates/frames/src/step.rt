@@ -5,7 +5,6 @@ ghost use Rattle.frames.specs.Framings.{count, framing_of, capped_of, mark_of};
 ghost use Rattle.frames.specs.Steps.{first_byte, in_mark, in_text, step_of, framing_after};
 
 use crate::{Framing, Mark};
-use octets::size::least;
 
 // The bytes go on, or a text of so many bytes that has its mark ends.
 #[derive(Clone, Copy)]
@@ -15,35 +14,29 @@ pub(crate) enum Event {
     Abandoned(usize, Framing),
 }
 
+#[tactic(auto, unfolding(crate::specs::Steps::step_of))]
 pub(crate) fn step(f: Framing, b: u8) -> Event
     requires { count f + 1 < 2 ^ 64 }
     ensures { result ≡ step_of f b }
 {
     match f {
-        Framing::Plain => if b == 0x1B {
-            Event::On(Framing::Escape)
-        } else {
-            Event::On(Framing::Plain)
-        },
+        Framing::Plain if b == 0x1B => Event::On(Framing::Escape),
+        Framing::Plain => Event::On(Framing::Plain),
         Framing::Escape => Event::On(after_escape(b)),
         Framing::Text(mark, n) => Event::On(in_text(mark, n, b)),
-        Framing::TextEscape(n) => if b == 0x5C {
-            Event::Closed(n)
-        } else {
-            Event::Abandoned(n, after_escape(b))
-        },
+        Framing::TextEscape(n) if b == 0x5C => Event::Closed(n),
+        Framing::TextEscape(n) => Event::Abandoned(n, after_escape(b)),
     }
 }
 
+#[tactic(auto, unfolding(crate::specs::Framings::may_be, octets::specs::Slices::starts_with))]
 fn after_escape(b: u8) -> Framing
     ensures { result ≡ framing_of (after_escape b) }
 {
-    if b == 0x5D {
-        Framing::Text(Mark::Transfer, 0)
-    } else if b == 0x1B {
-        Framing::Escape
-    } else {
-        Framing::Plain
+    match b {
+        0x5D => Framing::Text(Mark::Transfer, 0),
+        0x1B => Framing::Escape,
+        _ => Framing::Plain,
     }
 }
 
@@ -52,11 +45,9 @@ fn in_text(mark: Mark, n: usize, b: u8) -> Framing
     ensures { result ≡ in_text mark n b }
 {
     if n == 0 {
-        return first_byte(b);
-    }
-    match mark {
-        Mark::Transfer => in_mark(Mark::Transfer, b"5113;", n, b),
-        Mark::DragDrop => in_mark(Mark::DragDrop, b"72;", n, b),
+        first_byte(b)
+    } else {
+        in_mark(mark, n, b)
     }
 }
 
@@ -64,36 +55,34 @@ fn in_text(mark: Mark, n: usize, b: u8) -> Framing
 fn first_byte(b: u8) -> Framing
     ensures { result ≡ first_byte b }
 {
-    if b == 0x1B {
-        return Framing::Escape;
+    match b {
+        0x1B => Framing::Escape,
+        b'5' => Framing::Text(Mark::Transfer, 1),
+        b'7' => Framing::Text(Mark::DragDrop, 1),
+        _ => Framing::Plain,
     }
-    if b == 0x35 {
-        return Framing::Text(Mark::Transfer, 1);
-    }
-    if b == 0x37 {
-        return Framing::Text(Mark::DragDrop, 1);
-    }
-    Framing::Plain
 }
 
-// A later byte. `word` is the mark: handed in, so that one function does for both.
-fn in_mark(mark: Mark, word: &[u8], n: usize, b: u8) -> Framing
-    requires { (n + 1 < 2 ^ 64) × (word.now ≡ mark_of mark) }
+// A later byte. Not inlined: few bytes come here, and with it inlined the scan of plain bytes with a 1B
+// every 20 takes 85 ms for 100 MB where it takes 76 (bench/frames.sh).
+#[inline(never)]
+fn in_mark(mark: Mark, n: usize, b: u8) -> Framing
+    requires { n + 1 < 2 ^ 64 }
     ensures { result ≡ in_mark mark n b }
 {
-    if n < word.len() {
-        if b == 0x1B {
-            return Framing::Escape;
-        }
-        if b == word[n] {
-            return Framing::Text(mark, n + 1);
-        }
-        return Framing::Plain;
-    }
+    let word = mark.word();
+    let is_within = n < word.len();
     if b == 0x1B {
-        return Framing::TextEscape(n);
+        if is_within {
+            Framing::Escape
+        } else {
+            Framing::TextEscape(n)
+        }
+    } else if is_within && b != word[n] {
+        Framing::Plain
+    } else {
+        Framing::Text(mark, n + 1)
     }
-    Framing::Text(mark, n + 1)
 }
 
 // The framing with its count at most one more than a reported text may have.
@@ -101,10 +90,9 @@ pub(crate) fn capped(f: Framing) -> Framing
     ensures { result ≡ capped_of f }
 {
     match f {
-        Framing::Plain => Framing::Plain,
-        Framing::Escape => Framing::Escape,
-        Framing::Text(mark, n) => Framing::Text(mark, least(n, Framing::TEXT_LIMIT + 1)),
-        Framing::TextEscape(n) => Framing::TextEscape(least(n, Framing::TEXT_LIMIT + 1)),
+        Framing::Plain | Framing::Escape => f,
+        Framing::Text(mark, n) => Framing::Text(mark, n.min(Framing::TEXT_LIMIT + 1)),
+        Framing::TextEscape(n) => Framing::TextEscape(n.min(Framing::TEXT_LIMIT + 1)),
     }
 }
 
@@ -112,8 +100,7 @@ pub(crate) fn framing_after(event: Event) -> Framing
     ensures { result ≡ framing_after event }
 {
     match event {
-        Event::On(g) => g,
+        Event::On(g) | Event::Abandoned(_, g) => g,
         Event::Closed(_) => Framing::Plain,
-        Event::Abandoned(_, g) => g,
     }
 }

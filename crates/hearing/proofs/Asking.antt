@@ -6,6 +6,7 @@ use mathlib.Core.Bool.{Bool, true, false, cond}
 use mathlib.Core.List.{List}
 use lib.ListN.{get_or, set}
 use lib.Dec.{eqb}
+use Rattle.std.specs.Prelude.{Option, Some, None}
 use Rattle.frames.proofs.Choices.{by_cond}
 use Rattle.decimal.specs.declared.Number.{Number}
 use Rattle.command.specs.Slots.{nowhere}
@@ -24,14 +25,12 @@ use Rattle.protocol.specs.declared.SessionState.{SessionState}
 use Rattle.protocol.specs.declared.Session.{Session}
 use Rattle.protocol.specs.declared.Kind.{Kind}
 use Rattle.protocol.specs.declared.Due.{Due}
-use Rattle.protocol.specs.declared.Owed.{Owed}
 use Rattle.protocol.specs.declared.Table.{Table}
 use Rattle.protocol.specs.declared.Decision.TheVariants as Decision
 use Rattle.protocol.specs.declared.Told.{Told}
 use Rattle.protocol.specs.declared.Reply.{Reply}
 use Rattle.protocol.specs.declared.Change.{Change}
 use Rattle.protocol.specs.declared.Stepped.{Stepped}
-use Rattle.protocol.specs.declared.Found.{Found}
 use Rattle.protocol.proofs.Laws.{no_way, set-any, replicate-each, found_at}
 use Rattle.protocol.proofs.Tellings.{is_plain}
 use Rattle.protocol.proofs.Ways.{Way, nothing, dropped, open_asked, part_failed, write_asked, commit_asked, path_named, last_named}
@@ -56,7 +55,7 @@ abbrev pub Unserved : List Session → Type 0
 Unserved ss = (i : ℕ) → Unserving (get_or ss i no_session)
 
 pub record Rests (t : Table) : Type 0 where
-  pub owed : t.owed ≡ Owed.Nothing
+  pub owed : t.owed ≡ None
   pub unserved : Unserved t.sessions
 
 pub empty-rests : Rests empty_table
@@ -77,9 +76,9 @@ AskedBy c Due.Commit = Unit {0}
 AskedBy c Due.Request = ⊥
 
 pub data Obeys (c : Command) : Stepped → Type 0 where
-  tells : {ss : List Session} {w : Told} {r : Reply} → is_plain w ≡ true → Unserved ss → Obeys c (stepped (idle ss) w r)
-  asks : {ss : List Session} {r : Reply} (i : ℕ) (d : Due) → AskedBy c d → Unserved ss
-      → Obeys c (stepped (table ss (Owed.For i d)) (Told.Ask (ask_of c.payload d)) r)
+  tells : {ss : List Session} {w : Told} {r : Option Reply} → is_plain w ≡ true → Unserved ss → Obeys c (stepped (idle ss) w r)
+  asks : {ss : List Session} {r : Option Reply} (i : ℕ) (d : Due) → AskedBy c d → Unserved ss
+      → Obeys c (stepped (table ss (Some (i, d))) (Told.Ask (ask_of c.payload d)) r)
 
 -- in a session that is present
 module _ (ss : List Session) (h : Unserved ss) (i : ℕ) (c : Command) (q : Request) (acts : q.action ≡ c.action) where
@@ -110,13 +109,13 @@ module _ (ss : List Session) (h : Unserved ss) (c : Command) (text : List ℕ) w
   abbrev made : Session
   made = asked_session c.quiet (id_in c text)
 
-  send-obeys : (f : Found) → Obeys c (send_room (idle ss) made f)
-  send-obeys Found.Nowhere = tells refl h
-  send-obeys (Found.At i) = tells refl (put-unserved ss h i made refl)
+  send-obeys : (f : Option ℕ) → Obeys c (send_room (idle ss) made f)
+  send-obeys None = tells refl h
+  send-obeys (Some i) = tells refl (put-unserved ss h i made refl)
 
-  receive-obeys : (n : Number) (f : Found) → Obeys c (receive_room (idle ss) made n f)
-  receive-obeys n Found.Nowhere = tells refl h
-  receive-obeys n (Found.At i) =
+  receive-obeys : (n : Number) (f : Option ℕ) → Obeys c (receive_room (idle ss) made n f)
+  receive-obeys n None = tells refl h
+  receive-obeys n (Some i) =
       by_cond (Obeys c) (bad_paths n) (λ _. tells refl h)
       (λ _. tells refl (put-unserved ss h i (naming_session made n.magnitude) refl))
 
@@ -141,12 +140,12 @@ module _ (ss : List Session) (h : Unserved ss) (c : Command) (text : List ℕ) w
       q : Request
       q = request_in c text scratch
 
-      go : (f : Found) → find_session (idle ss) (id_in c text) ≡ f → Obeys c (found_result (idle ss) c (id_in c text) q f)
-      go Found.Nowhere e = absent-obeys c.size (kind_of SessionState.Absent c.action)
-      go (Found.At i) e =
+      go : (f : Option ℕ) → find_session (idle ss) (id_in c text) ≡ f → Obeys c (found_result (idle ss) c (id_in c text) q f)
+      go None e = absent-obeys c.size (kind_of SessionState.Absent c.action)
+      go (Some i) e =
           way-obeys ss h i c q refl (way (get_or ss i no_session) q (found_at session_used id_of no_session ss (id_in c text) i e).1)
 
-owed-obeys : (ss : List Session) (o : Owed) → o ≡ Owed.Nothing → Unserved ss → (c : Command) (text scratch : List ℕ)
+owed-obeys : (ss : List Session) (o : Option (ℕ × Due)) → o ≡ None → Unserved ss → (c : Command) (text scratch : List ℕ)
     → Obeys c (obey_of (table ss o) c text scratch)
 owed-obeys ss o e h c text scratch = rw e (idle-obeys ss h c text scratch)
 
@@ -161,10 +160,10 @@ pub record Settles (s : Stepped) : Type 0 where
 
 module _ (ss : List Session) (h : Unserved ss) (i : ℕ) where
   filed-rests : (d : Due) (s : Session) → Unserving s
-      → Rests (record { sessions = set ss i s; owed = cond (eqb i i) Owed.Nothing (Owed.For i d) })
+      → Rests (record { sessions = set ss i s; owed = cond (eqb i i) None (Some (i, d)) })
   filed-rests d s k = record { owed = own-cleared i d; unserved = put-unserved ss h i s k }
 
-  pub done-settles : (c : Command) (d : Due) → AskedBy c d → Settles (settle_done (table ss (Owed.For i d)))
+  pub done-settles : (c : Command) (d : Due) → AskedBy c d → Settles (settle_done (table ss (Some (i, d))))
   unfolding settle_done done_by
   done-settles c (Due.OpenFile j) a = record { rests = filed-rests (Due.OpenFile j) _ (h i); taken = refl }
   done-settles c (Due.OpenDirectory j) a = record { rests = filed-rests (Due.OpenDirectory j) _ (h i); taken = refl }
@@ -187,9 +186,9 @@ pub allow-rests : (t : Table) → Rests t → (id : List ℕ) → Rests (decided
 unfolding decided_of decided_by
 allow-rests t h id = go (find_session t id)
   where
-    go : (f : Found) → Rests (decided_at t Decision.Allow f).table
-    go Found.Nowhere = h
-    go (Found.At i) =
+    go : (f : Option ℕ) → Rests (decided_at t Decision.Allow f).table
+    go None = h
+    go (Some i) =
         let s = get_or t.sessions i no_session in
         by_cond (λ (x : Change). Rests (step_by t i nowhere x).table) (is_asked s.state)
         (λ _. record { owed = h.owed; unserved = put-unserved t.sessions h.unserved i _ (opened-unserving s.state) })

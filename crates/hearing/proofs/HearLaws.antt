@@ -11,7 +11,8 @@ use Rattle.octets.proofs.Lists.{drop-end}
 use Rattle.command.specs.Meaning.{Meaning, meaning_of}
 use Rattle.command.specs.Read.{Answer, answered, scratch_room, read_of, meaning_in}
 use Rattle.command.specs.declared.Command.{Command}
-use Rattle.command.specs.declared.Reading.{Reading}
+use Rattle.command.specs.declared.Refusal.{Refusal}
+use Rattle.std.specs.Prelude.{Result, Ok}
 use Rattle.command.proofs.Simulation.{read-means}
 use Rattle.protocol.specs.Table.{empty_table}
 use Rattle.protocol.specs.Sessions.{id_in, obey_of}
@@ -25,9 +26,8 @@ use Rattle.protocol.proofs.CutsReading.{SameReading, refused, read, same-reading
 use Rattle.protocol.proofs.CutsSteps.{act-same}
 use Rattle.recordings.specs.Pieces.{Piece, cut, outside_first, joined, pieces_after, pieces_of}
 use Rattle.recordings.specs.Mend.{recording_limit}
-use Rattle.recordings.specs.Walk.{meant}
+use Rattle.recordings.specs.Walk.{Seen, meant}
 use Rattle.recordings.specs.Texts.{next_text, text_between, sight_of}
-use Rattle.recordings.specs.declared.sights.Sight.{Sight}
 use Rattle.recordings.specs.declared.texts.TextSight.{TextSight}
 use Rattle.recordings.proofs.SightLaws.{between, Sees}
 use Rattle.recordings.proofs.TextLaws.{text-sees, Whole, next-whole, text-between}
@@ -67,13 +67,13 @@ module _ (xs : List ℕ) where
       let n : length (between xs from to) ≡ to - from = length-take-le (to - from) (drop from xs) (omega (arith, length-drop from xs)) in
       omega (arith, n)
 
-  left-outside : (at to : ℕ) → Sees xs at (Sight.Outside to) → left at ≡ left to
+  left-outside : (at to : ℕ) → Sees xs at (Seen.outside to) → left at ≡ left to
   left-outside at to e =
       ap (sightings_from at) (e.2 [])
       ∙ sightings-joined at (between xs at to) (cut _ (drop to xs))
       ∙ ap (λ (n : ℕ). sightings_from n (pieces_after [] (drop to xs))) (between_ends at to (omega (arith, e.0)) e.1)
 
-  left-refused : (at start end n : ℕ) → Sees xs at (Sight.Refused start end n) → left at ≡ left end
+  left-refused : (at start end n : ℕ) → Sees xs at (Seen.refuses start end n) → left at ≡ left end
   unfolding sightings_from
   left-refused at start end n e =
       ap (sightings_from at) (e.3 [])
@@ -82,7 +82,7 @@ module _ (xs : List ℕ) where
       (between_ends at start e.0 (omega (arith, e.1, e.2)))
       ∙ ap (λ (m : ℕ). sightings_from m (pieces_after [] (drop end xs))) (between_ends start end (omega (arith, e.1)) e.2)
 
-  left-kept : (at start end : ℕ) → start + 4 ≤ end → Sees xs at (Sight.Kept start end)
+  left-kept : (at start end : ℕ) → start + 4 ≤ end → Sees xs at (Seen.keeps start end)
       → left at ≡ record { start = start + 2; text = text_between xs start end } ∷ left end
   unfolding sightings_from
   left-kept at start end l e =
@@ -163,7 +163,7 @@ module _ (xs : List ℕ) (fits : length xs ≤ recording_limit) where
       t-length : start + 2 + length t ≤ end
       t-length = omega (arith, length-take (end - 2 - (start + 2)) (drop (start + 2) xs))
 
-      command-hears : (c : Command) → (read_of t scratch).answer ≡ Answer.read c → Sees xs r.at (Sight.Kept start end)
+      command-hears : (c : Command) → (read_of t scratch).answer ≡ Answer.read c → Sees xs r.at (Seen.keeps start end)
           → Hearing (command_turn r c (start + 2) end t (read_of t scratch).buffer events bytes)
       unfolding command_turn heard_from
       command-hears c e v =
@@ -191,7 +191,7 @@ module _ (xs : List ℕ) (fits : length xs ≤ recording_limit) where
           → Hearing (answer_turn r (start + 2) end t (read_of t scratch).buffer events bytes a)
       answer-hears (Answer.read c) e m v = command-hears c e (rw (← m) at v)
       answer-hears (Answer.refused n) e m v =
-          let u : Sees xs r.at (Sight.Refused start end n) = rw (← m) at v in
+          let u : Sees xs r.at (Seen.refuses start end n) = rw (← m) at v in
           past-hears end (omega (arith, u.0, u.1)) w (left-refused xs r.at start end n u)
 
       text-hears : Sees xs r.at (meant (meaning_of t) start end) → Hearing (text_turn r start end xs scratch events bytes)
@@ -266,8 +266,9 @@ module _ (xs : List ℕ) (fits : length xs ≤ recording_limit) where
       }
 
 -- ---- a command's places are no large numbers
-pub near : (xs scratch after : List ℕ) (start end : ℕ) {r : Reading} {c : Command} → length xs ≤ recording_limit → start + 4 ≤ end
-    → end ≤ length xs → outcome (answered r) after ≡ read_of (text_between xs start end) scratch → r ≡ Reading.Read c → Near (start + 2) c
+pub near : (xs scratch after : List ℕ) (start end : ℕ) {r : Result Command Refusal} {c : Command} → length xs ≤ recording_limit
+    → start + 4 ≤ end → end ≤ length xs → outcome (answered r) after ≡ read_of (text_between xs start end) scratch → r ≡ Ok c
+    → Near (start + 2) c
 near xs scratch after start end {r} {c} fits h w e k =
     let t = text_between xs start end in
     let a : (read_of t scratch).answer ≡ Answer.read c = ap (λ (o : Outcome Answer). o.answer) (sym e) ∙ ap answered k in

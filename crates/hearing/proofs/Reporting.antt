@@ -2,10 +2,10 @@
 use Prim.Native.Nat.{ℕ, ◌≤◌}
 use mathlib.Core.Path.{◌≡◌, refl, sym, ap, ◌∙◌}
 use mathlib.Core.Bool.{Bool, true, false, cond}
-use mathlib.Core.Option.{Option}
 use mathlib.Core.List.{List, [], ◌∷◌, ◌++◌, append-nil, map}
 use lib.ListN.{length}
 use lib.Dec.{eqb, lit≤}
+use Rattle.std.specs.Prelude.{Option, Some, None}
 use Rattle.octets.specs.Outcome.{Outcome, outcome}
 use Rattle.frames.specs.Stream.{Told, is_drag_drop}
 use Rattle.frames.specs.Follows.{told_of}
@@ -48,16 +48,16 @@ abbrev pub happened_told : Telling → Question → List Happening
 happened_told w q = go (hearing w [])
   where
     go : Option History.Heard → List Happening
-    go Option.none = []
-    go (Option.some a) = happened_by q
+    go None = []
+    go (Some a) = happened_by q
 
 -- done is taken where an ask was told
 abbrev pub Takes : Table → Telling → Type 0
 Takes t w = go (hearing w [])
   where
     go : Option History.Heard → Type 0
-    go Option.none = Unit {0}
-    go (Option.some a) = is_refused (settle_done t).told ≡ false
+    go None = Unit {0}
+    go (Some a) = is_refused (settle_done t).told ≡ false
 
 -- from a table and marks, the bytes told ds: it left t' and told w, with an id in the text and a part in the scratch
 pub record Reported (t : Table) (m : List Mark) (ds : List Told) (t' : Table) (w : Telling) (id scratch : List ℕ) : Type 0 where

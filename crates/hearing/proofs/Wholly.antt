@@ -4,23 +4,18 @@ use Prim.Native.Nat.{ℕ, zero, suc, ◌<◌, ◌≤◌}
 use mathlib.Core.Path.{◌≡◌, sym, ap, ◌∙◌}
 use mathlib.Core.List.{List, [], ◌∷◌, ◌++◌, append-nil, append_assoc, map}
 use native.Mathlib.Omega.{arith}
-use lib.ListN.{length, take, drop, replicate, length-append, length-drop, take-append-drop}
+use lib.ListN.{length, take, drop, replicate, length-drop, take-append-drop}
 use lib.Dec.{lit≤}
 use borrow.Author.Tests.{le-ltb}
-use Rattle.octets.specs.Outcome.{Outcome}
+use Rattle.std.specs.Prelude.{None}
 use Rattle.frames.specs.Stream.{text_limit}
-use Rattle.frames.specs.Carry.{text_at, carry_of, overlay}
-use Rattle.frames.specs.Calls.{scan_of}
-use Rattle.frames.specs.declared.Framing.{Framing}
-use Rattle.frames.specs.declared.Scanned.{Scanned}
 use Rattle.frames.proofs.Choices.{by_cond}
-use Rattle.frames.proofs.CallLaws.{by_call, consumes}
+use Rattle.frames.proofs.CallLaws.{scan-room, consumes}
 use Rattle.protocol.specs.Replies.{reply_room}
 use Rattle.protocol.specs.Calls.{is_owed, Feeding, scanned_feed, is_short, feed_of}
 use Rattle.protocol.specs.History.{bytes_of}
 use Rattle.protocol.specs.Machine.{World, is_unfed, start}
 use Rattle.protocol.specs.declared.Receiver.{Receiver}
-use Rattle.protocol.specs.declared.Owed.TheVariants as Owed
 use Rattle.protocol.proofs.CutsRun.{zeros}
 use Rattle.protocol.specs.Replay.{Turn, turned, replayed, Answerable}
 use Rattle.hearing.specs.Hearing.{heard_in}
@@ -31,21 +26,11 @@ use Rattle.hearing.proofs.Replaying.{Good, start-good, turn-good, turn-carry, tu
 abbrev Long : List ℕ → Type 0
 Long c = text_limit ≤ length c
 
-overlay-long : (t c : List ℕ) → Long c → Long (overlay t c)
-overlay-long t c h = omega (arith, length-append t (drop (length t) c), length-drop (length t) c)
-
-carry-long : (c xs : List ℕ) (e n : ℕ) → Long c → Long (carry_of c xs e n)
-unfolding carry_of
-carry-long c xs e n h = overlay-long (take text_limit (text_at c xs e n)) c h
-
-scan-long : (f : Framing) (xs c : List ℕ) → Long c → Long (scan_of f xs c).buffer
-scan-long f xs c h = by_call (λ (o : Outcome Scanned). Long o.buffer) f xs c h (λ _. carry-long c xs _ _ h)
-
 feed-long : (r : Receiver) (piece carry scratch reply : List ℕ) → Long carry → Long (feed_of r piece carry scratch reply).carry
 unfolding feed_of scanned_feed
 feed-long r piece carry scratch reply h =
     by_cond P (is_short carry scratch reply) (λ _. h)
-    (λ _. by_cond P (is_owed r.table.owed) (λ _. h) (λ _. scan-long r.framing piece carry h))
+    (λ _. by_cond P (is_owed r.table.owed) (λ _. h) (λ _. scan-room r.framing piece carry h))
   where
     P : Feeding → Type 0
     P f = Long f.carry
@@ -54,7 +39,7 @@ feed-long r piece carry scratch reply h =
 reply_zeros : List ℕ
 reply_zeros = replicate reply_room 0
 
-feed-on : (r : Receiver) → r.table.owed ≡ Owed.Nothing → (piece carry : List ℕ) → Long carry → 0 < length piece
+feed-on : (r : Receiver) → r.table.owed ≡ None → (piece carry : List ℕ) → Long carry → 0 < length piece
     → 0 < (feed_of r piece carry zeros reply_zeros).fed.consumed
 unfolding feed_of scanned_feed reply_zeros
 feed-on r e piece carry h l =

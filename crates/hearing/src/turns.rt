@@ -6,8 +6,9 @@ ghost use Rattle.protocol.specs.Sessions.{decided_of};
 ghost use Rattle.hearing.specs.Hearing.{answered_by};
 ghost use Rattle.hearing.specs.Steps as Steps;
 
-use crate::{Notes, noting};
-use command::{Command, Reading};
+use crate::sighted::Sighted;
+use crate::{Row, noting};
+use command::Command;
 use protocol::{Decision, Table, Told};
 use recordings::texts::{TextSight, next_text};
 
@@ -35,7 +36,7 @@ pub(crate) fn all(recording: &[u8], events: &mut [usize], bytes: &mut [u8]) -> u
     while reached.at < recording.len() {
         reached = turn(reached, recording, &mut scratch, events, bytes);
     }
-    reached.rows * Notes::ROW
+    reached.rows * Row::LEN
 }
 
 // Past what stands next.
@@ -78,55 +79,45 @@ fn text(
         ≡ Steps.text_turn reached start end recording.now scratch.old events.old bytes.old }
 {
     let from = start + 2;
-    let to = end - 2;
-    match command_reader::read(&recording[from..to], scratch) {
-        Reading::Read(command) => {
-            obeyed(
-                reached,
+    let text = &recording[from..end - 2];
+    match command_reader::read(text, scratch) {
+        Ok(command) => {
+            let sighted = Sighted {
                 command,
                 from,
-                end,
-                &recording[from..to],
+                text,
                 scratch,
-                events,
-                bytes,
-            )
+            };
+            obeyed(reached, sighted, end, events, bytes)
         }
-        Reading::Refused(_) => Reached { at: end, ..reached },
+        Err(_) => Reached { at: end, ..reached },
     }
 }
 
-// A command, whose text starts at a place and whose frame ends at another, is obeyed, and what it tells
-// is noted and answered.
+// A command, whose frame ends at a place, is obeyed, and what it tells is noted and answered.
 #[tactic(auto, unfolding(crate::specs::Steps::command_turn))]
 fn obeyed(
     reached: Reached,
-    command: Command,
-    from: usize,
+    sighted: Sighted,
     end: usize,
-    text: &[u8],
-    scratch: &[u8],
     events: &mut [usize],
     bytes: &mut [u8],
 ) -> Reached
-    requires { (reached.rows ≤ recording_limit) × Steps.Near from command }
+    requires { reached.rows ≤ recording_limit }
     ensures { Steps.course result events.new bytes.new
-        ≡ Steps.command_turn reached command from end text.now scratch.now
-        events.old bytes.old }
+        ≡ Steps.command_turn reached sighted.entry.command sighted.entry.from end sighted.entry.text.now
+        sighted.entry.scratch.now events.old bytes.old }
 {
-    let table = reached.table;
-    let next = sessions::obey(table, command, text, scratch);
+    let command = sighted.command;
+    let next = sessions::obey(reached.table, command, sighted.text, sighted.scratch);
     let told = next.told;
-    let rows = noting::told(told, command, from, scratch, reached.rows, events, bytes);
-    let id = command.id;
+    let rows = noting::told(told, sighted, reached.rows, events, bytes);
+    let table = sessions::next::put(reached.table, next);
+    let id = octets::part(sighted.text, command.id.start, command.id.len);
     Reached {
         at: end,
-        rows: rows,
-        table: answered(
-            sessions::next::put(table, next),
-            told,
-            octets::part(text, id.start, id.len),
-        ),
+        rows,
+        table: answered(table, told, id),
     }
 }
 
@@ -135,8 +126,7 @@ fn answered(table: Table, told: Told, id: &[u8]) -> Table
     ensures { result ≡ answered_by table id.now told }
 {
     match told {
-        Told::Asked => allowed(table, id),
-        Told::LastPath => allowed(table, id),
+        Told::Asked | Told::LastPath => allowed(table, id),
         Told::Ask(_) => sessions::next::put(table, sessions::done(table)),
         _ => table,
     }

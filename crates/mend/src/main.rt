@@ -4,16 +4,15 @@
 
 mod report;
 
-use octets::size::less;
-use recordings::Mended;
-use streams::{Got, Run};
+use recordings::{Mended, Refusal};
+use streams::Run;
 
 // One byte more than a recording may have is read, so that a longer one is refused.
 fn main(rt: HostRuntime) {
     let mut bytes = [0u8; Mended::LIMIT + 1];
     let run = match streams::read_all(rt.stdin(), &mut bytes) {
-        Got::Bytes(n) => mend(&rt, &bytes[..n]),
-        Got::Failed => Run::NotRead,
+        Some(n) => mend(&rt, &bytes[..n]),
+        None => Run::NotRead,
     };
     run.end(rt.stderr(), b"mend");
 }
@@ -26,24 +25,24 @@ fn mend(rt: &HostRuntime, recording: &[u8]) -> Run {
     finish(rt, mended, recording.len(), &output, &list)
 }
 
-fn finish<'a>(
+fn finish(
     rt: &HostRuntime,
-    mended: Mended,
+    mended: Result<Mended, Refusal>,
     len: usize,
-    output: &'a [u8],
-    list: &'a [usize],
+    output: &[u8],
+    list: &[usize],
 ) -> Run {
     let run = Run::Well(rt.stdout());
     let err = rt.stderr();
     match mended {
-        Mended::Done(kept, rows) => {
+        Ok(Mended { kept, rows }) => {
             let written = run.text(octets::part(output, 0, kept));
             report::rows(err, list, rows);
-            report::total(err, kept, less(len, kept), rows);
+            report::total(err, kept, len.saturating_sub(kept), rows);
             written
         }
-        Mended::Refused(n) => {
-            report::refused(err, n);
+        Err(refusal) => {
+            report::refused(err, refusal);
             run
         }
     }

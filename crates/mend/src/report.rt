@@ -1,16 +1,12 @@
 // What is said on standard error. Where it cannot be written, nothing more can be said.
-use octets::size::least;
+use recordings::{Mended, Refusal};
 use std::io::Stderr;
 use streams::{say, say_number};
 
 // A line for each of the first n rows.
 pub(crate) fn rows(err: Stderr, list: &[usize], n: usize) {
-    let count = least(n, list.len() / 3);
-    let mut i = 0;
-    while i < count {
-        let at = i * 3;
-        row(err, list[at], list[at + 1], list[at + 2]);
-        i += 1;
+    for &[start, len, why] in list.as_chunks::<{ Mended::ROW }>().0.iter().take(n) {
+        row(err, start, len, why);
     }
 }
 
@@ -38,8 +34,8 @@ pub(crate) fn total(err: Stderr, kept: usize, dropped: usize, rows: usize) {
     say(err, b" stretches\n");
 }
 
-pub(crate) fn refused(err: Stderr, n: u8) {
+pub(crate) fn refused(err: Stderr, refusal: Refusal) {
     say(err, b"refused ");
-    say_number(err, n as u64);
+    say_number(err, u64::from(refusal.number()));
     say(err, b"\n");
 }

@@ -1,39 +1,43 @@
 // The lines that are printed.
-use octets::size::least;
-use recordings::Mended;
+use recordings::{Mended, Refusal};
 use script_parts::{list_sum, sum};
-use std::io::Stdout;
 use streams::Run;
 
 // The refusal's number, or 0, the bytes kept and the rows, the sums of the whole buffers, and a line for
 // each row.
-pub(crate) fn tell<'a>(out: Stdout, mended: Mended, output: &'a [u8], list: &'a [usize]) -> Run {
-    let run = Run::Well(out);
+pub(crate) fn tell(
+    run: Run,
+    mended: Result<Mended, Refusal>,
+    output: &[u8],
+    list: &[usize],
+) -> Run {
     match mended {
-        Mended::Refused(n) => sums(run.number(n as usize).text(b" 0 0"), output, list),
-        Mended::Done(kept, n) => {
-            let counted = run.text(b"0 ").number(kept).text(b" ").number(n);
-            rows(sums(counted, output, list), list, n)
+        Err(refusal) => {
+            let refused = run.number(usize::from(refusal.number())).text(b" 0 0");
+            sums(refused, output, list)
+        }
+        Ok(mended) => {
+            let counted = run
+                .text(b"0 ")
+                .number(mended.kept)
+                .text(b" ")
+                .number(mended.rows);
+            rows(sums(counted, output, list), list, mended.rows)
         }
     }
 }
 
-fn sums<'a>(run: Run, output: &'a [u8], list: &'a [usize]) -> Run {
+fn sums(run: Run, output: &[u8], list: &[usize]) -> Run {
     let first = run.text(b" ").number(sum(output));
     first.text(b" ").number(list_sum(list)).text(b"\n")
 }
 
 // Start, length and why, of the first n rows.
-fn rows(run: Run, list: &[usize], n: usize) -> Run {
-    let count = least(n, list.len() / 3);
-    let mut all = run;
-    let mut i = 0;
-    while i < count {
-        let at = i * 3;
-        all = row(all, list[at], list[at + 1], list[at + 2]);
-        i += 1;
+fn rows(mut run: Run, list: &[usize], n: usize) -> Run {
+    for &[start, len, why] in list.as_chunks::<{ Mended::ROW }>().0.iter().take(n) {
+        run = row(run, start, len, why);
     }
-    all
+    run
 }
 
 fn row(run: Run, start: usize, len: usize, why: usize) -> Run {

@@ -4,40 +4,32 @@
 
 mod line;
 
-use octets::size::least;
-use recordings::Mended;
-use script_parts::{SCRIPT_LIMIT, bad_script, rest, three_bytes};
-use std::io::Stdout;
-use streams::{Got, Run};
+use recordings::{Mended, Refusal};
+use script_parts::{bad_script, rest, three_bytes};
+use streams::Run;
 
-// One byte more is read, so that a longer script is seen.
+// How many bytes stand before the recording: the rooms of the output and of the list.
+const HEAD: usize = 6;
+
 fn main(rt: HostRuntime) {
-    let mut bytes = [0u8; SCRIPT_LIMIT + 1];
-    let run = match streams::read_all(rt.stdin(), &mut bytes) {
-        Got::Bytes(n) => play(rt.stdout(), &bytes[..n]),
-        Got::Failed => Run::NotRead,
-    };
-    run.end(rt.stderr(), b"mend_script");
+    script_parts::run(&rt, b"mend_script", play);
 }
 
 // The buffers have all the room that a recording can need, of which the script lends a part.
-fn play(out: Stdout, script: &[u8]) -> Run {
-    if script.len() < 6 {
-        return bad_script(Run::Well(out));
-    }
-    if script.len() > SCRIPT_LIMIT {
-        return bad_script(Run::Well(out));
+fn play(run: Run, script: &[u8]) -> Run {
+    if script.len() < HEAD {
+        return bad_script(run);
     }
     let mut output = [0xA5u8; Mended::LIMIT];
     let mut list = [0xA5usize; Mended::LIST_ROOM];
     let mended = mend_lent(script, &mut output, &mut list);
-    line::tell(out, mended, &output, &list)
+    line::tell(run, mended, &output, &list)
 }
 
-// The script's first numbers are the rooms of the output and of the list; the recording follows.
-fn mend_lent(script: &[u8], output: &mut [u8], list: &mut [usize]) -> Mended {
-    let o = least(three_bytes(script, 0), output.len());
-    let l = least(three_bytes(script, 3), list.len());
-    let recording = rest(script, 6);
+// The recording follows the two rooms.
+fn mend_lent(script: &[u8], output: &mut [u8], list: &mut [usize]) -> Result<Mended, Refusal> {
+    let o = three_bytes(script, 0).min(output.len());
+    let l = three_bytes(script, 3).min(list.len());
+    let recording = rest(script, HEAD);
     recordings::mend(recording, &mut output[..o], &mut list[..l])
 }

@@ -7,7 +7,7 @@ use native.Mathlib.Omega.{arith}
 
 pub both_test : (t u : Bool) → (t && u) ≡ true → (t ≡ true) × (u ≡ true)
 both_test true u e = (refl, e)
-both_test false u e = let z : ◌≡◌ {A = ℕ} 0 1 = cc in absurd (omega arith)
+both_test false u e = cc
 
 -- the test holds of each number below n
 abbrev pub all : ℕ → (ℕ → Bool) → Bool

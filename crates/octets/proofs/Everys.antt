@@ -2,7 +2,8 @@
 use Prim.Native.Nat.{ℕ, ◌+◌, ◌≤◌, ◌<◌}
 use mathlib.Core.Path.{◌≡◌, refl}
 use mathlib.Core.Bool.{Bool, true, false, ◌&&◌}
-use mathlib.Core.List.{List}
+use mathlib.Core.List.{List, [], ◌∷◌}
+use Rattle.std.specs.List.{list_all}
 use lib.ListN.{length, get_or, drop}
 use Rattle.octets.specs.Members.{every}
 use Rattle.octets.proofs.Lists.{drop_at, drop-end}
@@ -25,3 +26,9 @@ module _ (f : ℕ → Bool) (s : List ℕ) (i : ℕ) where
   pub every-told : (b : Bool) → length s ≤ i → (b && every f (drop i s)) ≡ b
   every-told true h = every-end h
   every-told false h = refl
+
+-- the library's `all` tests the same
+pub every-all : {A : Type 0} (f : A → Bool) (xs : List A) → list_all f xs ≡ every f xs
+unfolding every
+every-all f [] = refl
+every-all f (x ∷ xs) = rw (every-all f xs)

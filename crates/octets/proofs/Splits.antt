@@ -8,6 +8,8 @@ use native.Mathlib.Numerals.{add-one}
 use lib.ListN.{length, take, drop}
 use lib.Dec.{eqb}
 use borrow.Author.Tests.{eq-eqb, ne_eqb, eqb-true, eqb-false}
+use Rattle.std.specs.Prelude.{◌==◌}
+use Rattle.std.specs.List.{slice_split, onto_first}
 use Rattle.octets.specs.Search.{index_of, index_after}
 use Rattle.octets.specs.Members.{every}
 use Rattle.octets.specs.Slices.{lacks}
@@ -99,7 +101,7 @@ lacks-free b [] h = tt
 lacks-free b (c ∷ r) h = go (eqb c b) refl (sym (lacks_cons b c r) ∙ h) (lacks-free b r)
   where
     go : (u : Bool) → eqb c b ≡ u → cond u false (lacks b r) ≡ true → (lacks b r ≡ true → Free b r) → Free b (c ∷ r)
-    go true e q ih = let z : ◌≡◌ {A = ℕ} 0 1 = cc in absurd (omega arith)
+    go true e q ih = cc
     go false e q ih = (eqb-false c b e, ih q)
 
 all-free : (b : ℕ) (ps : List (List ℕ)) → every (lacks b) ps ≡ true → AllFree b ps
@@ -111,3 +113,13 @@ all-free b (p ∷ ps) h =
 
 pub divides : Divides
 divides b = (join-split b, λ p ps h. split-join b p ps (all-free b (p ∷ ps) h))
+
+-- the library's `split` gives the same parts
+pub split_is : (b : ℕ) (t : List ℕ) → slice_split (λ c. c == b) t ≡ split b t
+unfolding split onto
+split_is b [] = refl
+split_is b (c ∷ t) = rw (split_is b t, onto_is (split b t))
+  where
+    onto_is : (ps : List (List ℕ)) → onto_first c ps ≡ onto c ps
+    onto_is [] = refl
+    onto_is (p ∷ ps) = refl

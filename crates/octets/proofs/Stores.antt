@@ -1,15 +1,14 @@
 -- Stores, one after the other from a place on, as loops make them.
 use Prim.Native.Nat.{ℕ, suc, ◌+◌, ◌-◌, ◌≤◌}
 use mathlib.Core.Path.{◌≡◌, refl, sym, ◌∙◌, ap}
-use mathlib.Core.List.{List, [], ◌∷◌, ◌++◌, append_assoc, append-nil}
+use mathlib.Core.List.{List, [], ◌∷◌, ◌++◌, append_assoc}
 use native.Mathlib.Omega.{arith}
 use native.Mathlib.Numerals.{add-one, towards_suc}
 use native.Mathlib.Nat.{add-zero}
-use lib.ListN.{length, take, drop, set, length-drop}
-use lib.Seq.{sets, sets-eq, drop-drop, set_comm, take-length, length-take-le, take-append_seam, drop-set-add, take-set-le}
+use lib.ListN.{length, take, drop, set}
+use lib.Seq.{sets, sets-eq, set_comm, length-take-le, take-append_seam, drop-set-add, take-set-le}
 use lib.Seq.{drop_at as drop-seam}
 use borrow.Rule.Slice.PartMut.{put_mid, Post-is}
-use Rattle.octets.proofs.Lists.{drop-end, part-rest}
 
 -- ---- stores from a place on: the stored bytes are had from the equation e
 module _ (l : List ℕ) (o : ℕ) {bs x : List ℕ} where

@@ -1,9 +1,7 @@
 -- Byte strings compared, and copied to a place.
-use Rattle.std.specs.Prelude.{ℕ, ◌+◌, Bool, true, false, cond, List, [], ◌∷◌, length, take, drop, leb, eqb}
+use Rattle.std.specs.Prelude.{ℕ, ◌+◌, Option, Some, None, Bool, true, false, cond, List, [], ◌∷◌, length, take, drop, leb, eqb}
 use Rattle.octets.specs.Search.{index_of}
 use Rattle.octets.specs.Outcome.{Outcome, stored_at}
-use Rattle.octets.specs.declared.Stored.{Stored}
-use Rattle.octets.specs.declared.Stored.TheVariants.{End, NoRoom}
 
 -- length and all bytes agree
 unfoldable pub equals : List ℕ → List ℕ → Bool
@@ -26,6 +24,6 @@ lacks b xs = eqb (index_of b xs) (length xs)
 unfoldable pub part_of : List ℕ → ℕ → ℕ → List ℕ
 part_of xs start n = cond (leb (start + n) (length xs)) (take n (drop start xs)) []
 
--- src stored in dst from place `at` on, where it fits
-unfoldable pub copy_at : List ℕ → List ℕ → ℕ → Outcome Stored
-copy_at src dst at = stored_at (End (at + length src)) NoRoom src dst at
+-- src stored in dst from place `at` on, where it fits, with the place where it ends
+unfoldable pub copy_at : List ℕ → List ℕ → ℕ → Outcome (Option ℕ)
+copy_at src dst at = stored_at (Some (at + length src)) None src dst at

@@ -1,6 +1,6 @@
 // A search passes bytes by blocks: a block is tested whole, with no early way out, so that many bytes
 // are tested at once.
-ghost use Rattle.std.specs.Prelude.{◌≡◌, ◌+◌, ◌≤◌, ◌<◌, length, drop};
+ghost use Rattle.std.specs.Prelude.{◌≡◌, ◌+◌, ◌≤◌, ◌<◌, length, drop, position, ◌==◌};
 ghost use Rattle.octets.specs.Search.{index_of};
 ghost use Rattle.octets.specs.Slices.{lacks};
 
@@ -11,26 +11,24 @@ pub(crate) fn pass(s: &[u8], from: usize, b: u8, n: usize) -> usize
     ensures { (result ≤ length s.now)
         × (result + index_of b (drop result s.now) ≡ from + index_of b (drop from s.now)) }
 {
-    let mut i = from;
-    while s.len() - i >= n {
-        let e = i + n;
-        if !clear(&s[i..e], b) {
+    let mut at = from;
+    for block in s[from..].chunks_exact(n) {
+        if !clear(block, b) {
             break;
         }
-        i = e;
+        at += n;
     }
-    i
+    at
 }
 
-// Whether b is not in s.
+// Whether b is not in s. Not the library's `contains`, which has a way out after each group of bytes: with
+// it the scan of 100 MB of texts takes 18.8 ms where it takes 17.6 (bench/frames.sh).
 fn clear(s: &[u8], b: u8) -> bool
     ensures { result ≡ lacks b s.now }
 {
     let mut hit = false;
-    let mut k = 0;
-    while k < s.len() {
-        hit = hit | (s[k] == b);
-        k += 1;
+    for x in s {
+        hit |= *x == b;
     }
     !hit
 }
@@ -40,12 +38,15 @@ pub(crate) fn first(s: &[u8], from: usize, b: u8) -> usize
     requires { from ≤ length s.now }
     ensures { result ≡ from + index_of b (drop from s.now) }
 {
-    let mut i = from;
-    while i < s.len() {
-        if s[i] == b {
-            break;
-        }
-        i += 1;
+    match place(&s[from..], b) {
+        Some(passed) => from + passed,
+        None => s.len(),
     }
-    i
+}
+
+// The first place where b stands in s.
+fn place(s: &[u8], b: u8) -> Option<usize>
+    ensures { result ≡ position (λ x. x == b) s.now }
+{
+    s.iter().position(|x| *x == b)
 }

@@ -6,50 +6,30 @@
 #![tactic(auto)]
 
 mod blocks;
-pub mod size;
 
 ghost use Rattle.std.specs.Prelude.{◌≡◌, ◌+◌, leb, drop};
 ghost use Rattle.octets.specs.Search.{index_of};
 ghost use Rattle.octets.specs.Outcome.{outcome};
 ghost use Rattle.octets.specs.Slices.{equals, starts_with, part_of, copy_at};
 
-// What storing bytes at a place answers: where they end, or that they do not fit.
-#[derive(Clone, Copy)]
-pub enum Stored {
-    End(usize),
-    NoRoom,
-}
-
 // Whether a and b agree in length and in every byte.
 pub fn equal(a: &[u8], b: &[u8]) -> bool
     ensures { result ≡ equals a.now b.now }
 {
-    if a.len() != b.len() {
-        return false;
-    }
-    starts_with(a, b)
+    a == b
 }
 
 // Whether the first bytes of s are those of prefix.
 pub fn starts_with(s: &[u8], prefix: &[u8]) -> bool
     ensures { result ≡ starts_with s.now prefix.now }
 {
-    if s.len() < prefix.len() {
-        return false;
-    }
-    let mut i = 0;
-    while i < prefix.len() {
-        if s[i] != prefix[i] {
-            return false;
-        }
-        i += 1;
-    }
-    true
+    s.starts_with(prefix)
 }
 
 // The first place at or after `from` where b stands in s; where there is none, the end of s, or
 // `from` where it lies past that. Long blocks are passed first, then short ones, then a few bytes at
 // once: an escape that is near is found without a look at each byte before it.
+// The end and no `None`: each caller goes on from there, so that it is a place as any other.
 pub fn find(s: &[u8], from: usize, b: u8) -> usize
     ensures { result ≡ from + index_of b (drop from s.now) }
 {
@@ -78,23 +58,17 @@ pub fn part(s: &[u8], start: usize, n: usize) -> &[u8]
 pub fn fits(at: usize, n: usize, len: usize) -> bool
     ensures { result ≡ leb (at + n) len }
 {
-    if at > len {
-        return false;
-    }
-    if n > len - at {
-        return false;
-    }
-    true
+    at <= len && n <= len - at
 }
 
-// Copies src into dst from place `at` on. Where it does not fit, dst is as before.
-pub fn copy_at(src: &[u8], dst: &mut [u8], at: usize) -> Stored
+// Copies src into dst from place `at` on, and answers where it ends. Where it does not fit, dst is as before.
+pub fn copy_at(src: &[u8], dst: &mut [u8], at: usize) -> Option<usize>
     ensures { outcome result dst.new ≡ copy_at src.now dst.old at }
 {
     if !fits(at, src.len(), dst.len()) {
-        return Stored::NoRoom;
+        return None;
     }
     let end = at + src.len();
     dst[at..end].copy_from_slice(src);
-    Stored::End(end)
+    Some(end)
 }

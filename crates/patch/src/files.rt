@@ -1,30 +1,33 @@
 // The files that the arguments name. Where one cannot be read or written, that is said.
-use octets::Stored;
 use std::fs::{File, OpenOptions};
 use std::io::Write;
 use std::{fs, io};
-use streams::{Got, fill, open_read, path_text, say_error};
+use streams::{fill, open_read, path_text, say_error};
 
 // Where the new file's name stands among the arguments.
 const NEW: usize = 4;
 
 // Whether argument i is a word.
 pub(crate) fn is_word(rt: &HostRuntime, i: usize, word: &[u8]) -> bool {
-    let mut text = [0u8; 4096];
-    let n = streams::argument(rt, i, &mut text).unwrap_or(0);
-    octets::equal(octets::part(&text, 0, n), word)
+    let mut room = [0u8; 4096];
+    argument(rt, i, &mut room) == word
+}
+
+// Argument i, which stands at the start of the room then; nothing where it cannot be had.
+fn argument<'a>(rt: &HostRuntime, i: usize, room: &'a mut [u8; 4096]) -> &'a [u8] {
+    let n = streams::argument(rt, i, room).unwrap_or(0);
+    octets::part(room, 0, n)
 }
 
 // Reads the file that argument i names, up to the end of the buffer.
-pub(crate) fn read(rt: &HostRuntime, i: usize, buf: &mut [u8]) -> Got {
-    let mut path = [0u8; 4096];
-    let n = streams::argument(rt, i, &mut path).unwrap_or(0);
-    let path = octets::part(&path, 0, n);
+pub(crate) fn read(rt: &HostRuntime, i: usize, buf: &mut [u8]) -> Option<usize> {
+    let mut room = [0u8; 4096];
+    let path = argument(rt, i, &mut room);
     match read_named(rt, path, buf) {
-        Ok(n) => Got::Bytes(n),
+        Ok(n) => Some(n),
         Err(error) => {
             say_error(rt.stderr(), path, error);
-            Got::Failed
+            None
         }
     }
 }
@@ -51,20 +54,15 @@ pub(crate) fn deliver(rt: &HostRuntime, new: &[u8], to_file: bool) -> bool {
 // Under a temporary name beside it first, so that the file is never seen in part. A file that has that
 // name already is left alone.
 fn replace(rt: &HostRuntime, new: &[u8]) -> bool {
-    let mut path = [0u8; 4096];
-    let n = streams::argument(rt, NEW, &mut path).unwrap_or(0);
-    let mut name = [0u8; 4096];
-    let len = put_name(octets::part(&path, 0, n), &mut name);
-    match create(rt, octets::part(&name, 0, len)) {
-        Ok(file) => write_and_rename(
-            rt,
-            file,
-            new,
-            octets::part(&name, 0, len),
-            octets::part(&path, 0, n),
-        ),
+    let mut room = [0u8; 4096];
+    let path = argument(rt, NEW, &mut room);
+    let mut name_room = [0u8; 4096];
+    let len = put_name(path, &mut name_room).unwrap_or(0);
+    let name = octets::part(&name_room, 0, len);
+    match create(rt, name) {
+        Ok(file) => write_and_rename(rt, file, new, name, path),
         Err(error) => {
-            say_error(rt.stderr(), octets::part(&name, 0, len), error);
+            say_error(rt.stderr(), name, error);
             false
         }
     }
@@ -77,15 +75,10 @@ fn create(rt: &HostRuntime, name: &[u8]) -> io::Result<File> {
         .open(rt, path_text(name)?)
 }
 
-// The temporary name, and how long it is; 0 where it is too long.
-fn put_name(path: &[u8], name: &mut [u8]) -> usize {
-    let Stored::End(n) = octets::copy_at(path, name, 0) else {
-        return 0;
-    };
-    let Stored::End(len) = octets::copy_at(b".part", name, n) else {
-        return 0;
-    };
-    len
+// Puts the temporary name, and answers how long it is; none where it is too long.
+fn put_name(path: &[u8], name: &mut [u8]) -> Option<usize> {
+    let n = octets::copy_at(path, name, 0)?;
+    octets::copy_at(b".part", name, n)
 }
 
 fn write_and_rename<'a>(

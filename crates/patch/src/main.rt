@@ -9,7 +9,6 @@ mod listing;
 mod report;
 
 use delta::Measured;
-use streams::Got;
 
 // Where each argument stands.
 const SIGNATURE: usize = 1;
@@ -36,13 +35,13 @@ fn patch(rt: &HostRuntime, to_file: bool) {
     let mut signature = [0u8; ROOM];
     let mut old = [0u8; ROOM];
     let mut delta = [0u8; ROOM];
-    let Got::Bytes(s) = files::read(rt, SIGNATURE, &mut signature) else {
+    let Some(s) = files::read(rt, SIGNATURE, &mut signature) else {
         return;
     };
-    let Got::Bytes(o) = files::read(rt, OLD, &mut old) else {
+    let Some(o) = files::read(rt, OLD, &mut old) else {
         return;
     };
-    let Got::Bytes(d) = files::read(rt, DELTA, &mut delta) else {
+    let Some(d) = files::read(rt, DELTA, &mut delta) else {
         return;
     };
     apply(
@@ -57,18 +56,13 @@ fn patch(rt: &HostRuntime, to_file: bool) {
 // The output has room for whatever a delta may make.
 fn apply<'a>(rt: &HostRuntime, signature: &'a [u8], old: &'a [u8], delta: &'a [u8], to_file: bool) {
     let mut out = [0u8; Measured::LIMIT];
-    let measured = delta::apply(signature, old, delta, &mut out);
-    finish(rt, measured, &out, delta, to_file);
-}
-
-fn finish<'a>(rt: &HostRuntime, measured: Measured, out: &'a [u8], delta: &'a [u8], to_file: bool) {
-    match measured {
-        Measured::Length(n, h) => {
-            if files::deliver(rt, octets::part(out, 0, n), to_file) {
-                report::hash(rt.stderr(), h, delta);
+    match delta::apply(signature, old, delta, &mut out) {
+        Ok(measured) => {
+            if files::deliver(rt, octets::part(&out, 0, measured.length), to_file) {
+                report::hash(rt.stderr(), measured.checksum, delta);
             }
         }
-        Measured::Refused(why) => report::refused(rt.stderr(), why),
+        Err(why) => report::refused(rt.stderr(), why),
     }
 }
 
@@ -79,7 +73,7 @@ fn show(rt: &HostRuntime) {
         return;
     }
     let mut delta = [0u8; ROOM];
-    let Got::Bytes(d) = files::read(rt, SHOWN, &mut delta) else {
+    let Some(d) = files::read(rt, SHOWN, &mut delta) else {
         return;
     };
     listing::show(rt, octets::part(&delta, 0, d));

@@ -1,5 +1,5 @@
 // What is said on standard error. Where it cannot be written, nothing more can be said.
-use delta::{Checksum, Refusal};
+use delta::{Refusal, Span};
 use std::io::Stderr;
 use streams::{say, say_hex, say_number};
 
@@ -12,20 +12,17 @@ pub(crate) fn usage(err: Stderr) {
 
 pub(crate) fn refused(err: Stderr, why: Refusal) {
     say(err, b"refused ");
-    say_number(err, why.number() as u64);
+    say_number(err, u64::from(why.number()));
     say(err, b"\n");
 }
 
 // The hash's bytes in hex, `-` for one of no bytes; nothing where the delta has none.
-pub(crate) fn hash(err: Stderr, h: Checksum, delta: &[u8]) {
-    match h {
-        Checksum::None => {}
-        Checksum::At(start, n) => hex(err, octets::part(delta, start, n)),
-    }
-}
-
-fn hex(err: Stderr, bytes: &[u8]) {
-    if bytes.len() == 0 {
+pub(crate) fn hash(err: Stderr, hash: Option<Span>, delta: &[u8]) {
+    let Some(span) = hash else {
+        return;
+    };
+    let bytes = octets::part(delta, span.start, span.len);
+    if bytes.is_empty() {
         say(err, b"-");
     }
     say_hex(err, bytes);

@@ -2,7 +2,7 @@
 use Prim.Native.Nat.{ℕ, ◌≤◌, ◌<◌}
 use mathlib.Core.Path.{◌≡◌, refl}
 use mathlib.Core.Bool.{Bool, true, false, cond}
-use mathlib.Core.Option.{Option}
+use Rattle.std.specs.Prelude.{Option, Some, None}
 use mathlib.Core.List.{List, [], ◌∷◌, ◌++◌}
 use native.Mathlib.Omega.{arith}
 use lib.Dec.{leb}
@@ -11,7 +11,9 @@ use Rattle.octets.specs.Members.{every}
 use Rattle.octets.proofs.Below.{both_test}
 use Rattle.pathname.specs.Utf8.{Range, Row, inside, rows, followers_in, begun, sequences}
 use Rattle.pathname.specs.Claims.{CutsCharactersNowhere}
-use Rattle.pathname.proofs.Leads.{no}
+
+no : {A : Type 0} → false ≡ true → A
+no e = cc
 
 -- ---- the bytes that follow are 80 or more
 unfoldable high : List Range → Bool
@@ -20,23 +22,23 @@ high rs = every (λ r. leb 0x80 r.low) rs
 high_row : Row → Bool
 high_row r = high r.rest
 
-high_in : (rs : List Row) (x : ℕ) (qs : List Range) → every high_row rs ≡ true → followers_in rs x ≡ Option.some qs → high qs ≡ true
+high_in : (rs : List Row) (x : ℕ) (qs : List Range) → every high_row rs ≡ true → followers_in rs x ≡ Some qs → high qs ≡ true
 unfolding every followers_in high_row
-high_in [] x qs h e = let z : ◌≡◌ {A = ℕ} 0 1 = cc in absurd (omega arith)
+high_in [] x qs h e = cc
 high_in (r ∷ rs) x qs h e =
     let here = both_test (high_row r) (every high_row rs) h in
     go (inside r.first x) here.0 (λ q. high_in rs x qs here.1 q) e
   where
-    go : (t : Bool) → high r.rest ≡ true → (followers_in rs x ≡ Option.some qs → high qs ≡ true)
-        → cond t (Option.some r.rest) (followers_in rs x) ≡ Option.some qs → high qs ≡ true
+    go : (t : Bool) → high r.rest ≡ true → (followers_in rs x ≡ Some qs → high qs ≡ true)
+        → cond t (Some r.rest) (followers_in rs x) ≡ Some qs → high qs ≡ true
     go true first later q = let same : r.rest ≡ qs = cc in rw (← same) first
     go false first later q = later q
 
-high_after : (x : ℕ) (qs : List Range) → followers_in rows x ≡ Option.some qs → high qs ≡ true
+high_after : (x : ℕ) (qs : List Range) → followers_in rows x ≡ Some qs → high qs ≡ true
 high_after x qs e = high_in rows x qs (unfold every high_row high in refl) e
 
 -- ---- the byte itself
-alone : (b : ℕ) → b < 0x80 → followers_in rows b ≡ Option.some []
+alone : (b : ℕ) → b < 0x80 → followers_in rows b ≡ Some []
 unfolding followers_in
 alone b h = rw (le-leb 0 b (omega arith), le-leb b 0x7F (omega arith))
 
@@ -56,8 +58,8 @@ cut (x ∷ a) [] b c h g e = go (followers_in rows x) refl (λ qs k w. cut a qs 
 
     go : (f : Option (List Range)) → followers_in rows x ≡ f → ((qs : List Range) → high qs ≡ true → Cut qs)
         → begun f (λ qs. sequences qs (a ++ (b ∷ c))) ≡ true → (begun f (λ qs. sequences qs a) ≡ true) × (sequences [] c ≡ true)
-    go Option.none q later w = no w
-    go (Option.some qs) q later w = later qs (high_after x qs q) w
+    go None q later w = no w
+    go (Some qs) q later w = later qs (high_after x qs q) w
 cut (x ∷ a) (r ∷ rs) b c h g e =
     let here = both_test (inside r x) (sequences rs (a ++ (b ∷ c))) e in
     let later = cut a rs b c h (both_test (leb 0x80 r.low) (high rs) g).1 here.1 in

@@ -1,4 +1,3 @@
-pub mod Leads
 pub mod Sequences
 pub mod Alone
 pub mod Components

@@ -1,6 +1,5 @@
 -- UTF-8: "only the well-formed byte sequences of the Unicode Standard (table 3-7)".
-use Rattle.std.specs.Prelude.{ℕ, Bool, true, false, cond, ◌&&◌, List, [], ◌∷◌, leb}
-use Rattle.std.proofs.Math.Option.{Option}
+use Rattle.std.specs.Prelude.{ℕ, Bool, true, false, cond, ◌&&◌, Option, Some, None, List, [], ◌∷◌, leb}
 
 -- ---- the table
 pub record Range : Type 0 where
@@ -41,12 +40,12 @@ inside r b = leb r.low b && leb b r.high
 
 -- what must follow a first byte, by the row that it stands in; a byte in no row is no first byte
 unfoldable pub followers_in : List Row → ℕ → Option (List Range)
-followers_in [] b = Option.none
-followers_in (r ∷ rs) b = cond (inside r.first b) (Option.some r.rest) (followers_in rs b)
+followers_in [] b = None
+followers_in (r ∷ rs) b = cond (inside r.first b) (Some r.rest) (followers_in rs b)
 
 abbrev pub begun : Option (List Range) → (List Range → Bool) → Bool
-begun Option.none more = false
-begun (Option.some rs) more = more rs
+begun None more = false
+begun (Some rs) more = more rs
 
 -- where bytes of these ranges are due
 unfoldable pub sequences : List Range → List ℕ → Bool

@@ -17,35 +17,24 @@ pub const NAME_LIMIT: usize = 4096;
 pub const COMPONENT_LIMIT: usize = 255;
 
 // Whether the bytes are a good name.
+#[tactic(auto, unfolding(crate::specs::Name::valid_name))]
 pub fn is_valid(name: &[u8]) -> bool
     ensures { result ≡ valid_name name.now }
 {
-    if name.len() == 0 {
-        return false;
-    }
-    if name.len() > NAME_LIMIT {
-        return false;
-    }
-    if !utf8::is_valid(name) {
-        return false;
-    }
-    if octets::find(name, 0, 0) != name.len() {
-        return false;
-    }
-    if !is_rooted(name) {
-        return false;
-    }
-    has_valid_components(name)
+    name.len() >= 1
+        && name.len() <= NAME_LIMIT
+        && utf8::is_valid(name)
+        && octets::find(name, 0, 0) == name.len()
+        && is_rooted(name)
+        && has_valid_components(name)
 }
 
 // Whether the name begins with `/` or `~/`.
+#[tactic(auto, unfolding(crate::specs::Name::rooted))]
 fn is_rooted(name: &[u8]) -> bool
     ensures { result ≡ rooted name.now }
 {
-    if octets::starts_with(name, b"/") {
-        return true;
-    }
-    octets::starts_with(name, b"~/")
+    octets::starts_with(name, b"/") || octets::starts_with(name, b"~/")
 }
 
 // Whether each component is good. That the components are what stands between slashes stands here, and
@@ -55,22 +44,12 @@ fn has_valid_components(name: &[u8]) -> bool
     ensures divides { Divides }
     ensures cuts_characters_nowhere { CutsCharactersNowhere }
 {
-    let mut at = 0;
-    while at <= name.len() {
-        let end = octets::find(name, at, b'/');
-        if !is_valid_component(&name[at..end]) {
-            return false;
-        }
-        at = end + 1;
-    }
-    true
+    name.split(|b| *b == b'/').all(is_valid_component)
 }
 
+#[tactic(auto, unfolding(crate::specs::Name::valid_component))]
 fn is_valid_component(component: &[u8]) -> bool
     ensures { result ≡ valid_component component.now }
 {
-    if component.len() > COMPONENT_LIMIT {
-        return false;
-    }
-    !octets::equal(component, b"..")
+    component.len() <= COMPONENT_LIMIT && !octets::equal(component, b"..")
 }

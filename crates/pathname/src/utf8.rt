@@ -4,67 +4,63 @@ ghost use Rattle.pathname.specs.Utf8.{utf8, rows, followers_in};
 ghost use Rattle.pathname.specs.DueBytes.{lead_of};
 
 // What must follow: how many bytes, and the least and the greatest that the next one may be; each later
-// one is from 80 to BF. Four bytes: the byte before starts no sequence.
+// one is from 80 to BF.
 #[derive(Clone, Copy)]
-struct Due(u8, u8, u8);
+struct Due {
+    count: u8,
+    low: u8,
+    high: u8,
+}
+
+impl Due {
+    const NOTHING: Due = Due {
+        count: 0,
+        low: 0x80,
+        high: 0xBF,
+    };
+}
 
 // Whether the bytes are UTF-8. Between two sequences no byte is due.
 pub(crate) fn is_valid(s: &[u8]) -> bool
     ensures { result ≡ utf8 s.now }
 {
-    let mut due = Due(0, 0x80, 0xBF);
-    let mut i = 0;
-    while i < s.len() {
-        let b = s[i];
-        if due.0 == 0 {
-            due = due_after(b);
-            if due.0 == 4 {
+    let mut due = Due::NOTHING;
+    for b in s {
+        let b = *b;
+        if due.count == 0 {
+            let Some(first) = due_after(b) else {
                 return false;
-            }
+            };
+            due = first;
+        } else if due.low <= b && b <= due.high {
+            due = Due {
+                count: due.count - 1,
+                ..Due::NOTHING
+            };
         } else {
-            if b < due.1 {
-                return false;
-            }
-            if b > due.2 {
-                return false;
-            }
-            due = Due(due.0 - 1, 0x80, 0xBF);
+            return false;
         }
-        i += 1;
     }
-    due.0 == 0
+    due.count == 0
 }
 
-// What must follow b at the start of a sequence: the rest of the table's row that b stands in.
-fn due_after(b: u8) -> Due
+// What must follow b at the start of a sequence, the rest of the table's row that b stands in; nothing
+// where it stands in none.
+#[tactic(auto, unfolding(crate::specs::Utf8::followers_in, crate::specs::DueBytes::ranges_of))]
+fn due_after(b: u8) -> Option<Due>
     ensures { lead_of result ≡ followers_in rows b }
 {
-    if b < 0x80 {
-        return Due(0, 0x80, 0xBF);
+    let due = |count, low, high| Some(Due { count, low, high });
+    match b {
+        0x00..=0x7F => due(0, 0x80, 0xBF),
+        0xC2..=0xDF => due(1, 0x80, 0xBF),
+        0xE0 => due(2, 0xA0, 0xBF),
+        0xE1..=0xEC => due(2, 0x80, 0xBF),
+        0xED => due(2, 0x80, 0x9F),
+        0xEE..=0xEF => due(2, 0x80, 0xBF),
+        0xF0 => due(3, 0x90, 0xBF),
+        0xF1..=0xF3 => due(3, 0x80, 0xBF),
+        0xF4 => due(3, 0x80, 0x8F),
+        _ => None,
     }
-    if b < 0xC2 {
-        return Due(4, 0x80, 0xBF);
-    }
-    if b < 0xE0 {
-        return Due(1, 0x80, 0xBF);
-    }
-    if b == 0xE0 {
-        return Due(2, 0xA0, 0xBF);
-    }
-    if b == 0xED {
-        return Due(2, 0x80, 0x9F);
-    }
-    if b < 0xF0 {
-        return Due(2, 0x80, 0xBF);
-    }
-    if b == 0xF0 {
-        return Due(3, 0x90, 0xBF);
-    }
-    if b < 0xF4 {
-        return Due(3, 0x80, 0xBF);
-    }
-    if b == 0xF4 {
-        return Due(3, 0x80, 0x8F);
-    }
-    Due(4, 0x80, 0xBF)
 }

@@ -10,6 +10,7 @@ use lib.ListN.{length, get_or, set}
 use lib.Seq.{get_or-set_same}
 use borrow.Author.Tests.{le-ltb, eqb-true, eq-eqb}
 use lib.Dec.{eqb}
+use Rattle.std.specs.Prelude.{Option, Some, None}
 use Rattle.octets.specs.Slices.{equals}
 use Rattle.octets.proofs.Below.{both_test}
 use Rattle.octets.proofs.Compare.{equals_refl, equals-sound}
@@ -27,13 +28,9 @@ use Rattle.protocol.specs.Machine.{Call, World}
 use Rattle.protocol.specs.Sound.{IsId, SoundFile}
 use Rattle.protocol.specs.Claim.{is_done_as, Closes, DirectoryAsked, key_in, Closed}
 use Rattle.protocol.specs.declared.FileState.{FileState}
-use Rattle.protocol.specs.declared.FileState.TheVariants as FileState
 use Rattle.protocol.specs.declared.FileRecord.{FileRecord}
 use Rattle.protocol.specs.declared.Session.{Session}
 use Rattle.protocol.specs.declared.Due.{Due}
-use Rattle.protocol.specs.declared.Due.TheVariants as Due
-use Rattle.protocol.specs.declared.Owed.{Owed}
-use Rattle.protocol.specs.declared.Owed.TheVariants as Owed
 use Rattle.protocol.specs.declared.Table.{Table}
 use Rattle.protocol.proofs.Ours.{step, ClosedWhole}
 use Rattle.protocol.proofs.Laws.{past-used, no_way}
@@ -92,7 +89,8 @@ done-as k c quiet s f e =
     (rw (id, file) refl, sym (eqb-true _ _ g.0), sym (eqb-true _ _ g.1))
 
 -- ---- a file that an answer moves to done, with a count
-module _ (ss : List Session) (o o' : Owed) (i j n : ℕ) (inside : i < length ss) (within : j < length (session_in ss i).files) where
+module _ (ss : List Session) (o o' : Option (ℕ × Due)) (i j n : ℕ)
+    (inside : i < length ss) (within : j < length (session_in ss i).files) where
   abbrev file : FileRecord
   file = moved (file_at (session_in ss i) j) FileState.Done n
 
@@ -138,10 +136,10 @@ module _ (g : Framing) (ss : List Session) (carry : List ℕ) (h : List Event) (
     (i : ℕ) where
   -- the world with something owed for the session at place i, and what is owed after the answer
   abbrev before : Due → World
-  before d = world g ss (Owed.For i d) carry h
+  before d = world g ss (Some (i, d)) carry h
 
-  abbrev left : Due → Owed
-  left d = cleared i (Owed.For i d)
+  abbrev left : Due → Option (ℕ × Due)
+  left d = cleared i (Some (i, d))
 
   abbrev s : Session
   s = session_in ss i
@@ -224,45 +222,45 @@ module _ (g : Framing) (ss : List Session) (carry : List ℕ) (h : List Event) (
           quiet = s.quiet;
           closes =
               rw (key, done-is w reply room)
-              (closes-more ss (Owed.For i (Due.WriteLast j n)) (left (Due.WriteLast j n)) i j size (inside ok.sound ok.table)
+              (closes-more ss (Some (i, Due.WriteLast j n)) (left (Due.WriteLast j n)) i j size (inside ok.sound ok.table)
               at.within (ap is_done at.state));
         }
 
   -- ---- whatever is due
   -- no record turns done
   no-turn : {A : Type 0} (d : Due) (k : Key) (c quiet : ℕ)
-      → NoneDone (table ss (Owed.For i d)) (after (table ss (Owed.For i d)) i (done_by s d))
-      → Closes (table ss (Owed.For i d)) (after (table ss (Owed.For i d)) i (done_by s d)) k c quiet → A
+      → NoneDone (table ss (Some (i, d))) (after (table ss (Some (i, d))) i (done_by s d))
+      → Closes (table ss (Some (i, d))) (after (table ss (Some (i, d))) i (done_by s d)) k c quiet → A
   no-turn d k c quiet none closes =
-      let t = table ss (Owed.For i d) in absurd (none-closes t (after t i (done_by s d)) k c quiet none closes)
+      let t = table ss (Some (i, d)) in absurd (none-closes t (after t i (done_by s d)) k c quiet none closes)
 
   pub turned-due : ReplyLaw → (d : Due) → WorldOK (before d) → (k : Key) (c quiet : ℕ)
-      → Closes (table ss (Owed.For i d)) (after (table ss (Owed.For i d)) i (done_by s d)) k c quiet
+      → Closes (table ss (Some (i, d))) (after (table ss (Some (i, d))) i (done_by s d)) k c quiet
       → DirectoryAsked k (marks_of h) ⊎ ClosedWhole (before d) reply k c quiet
   unfolding done_by
   turned-due law (Due.OpenFile j) ok k c quiet x =
-      no-turn (Due.OpenFile j) k c quiet (none-file (table ss (Owed.For i (Due.OpenFile j))) i j _ (left (Due.OpenFile j)) not_done) x
+      no-turn (Due.OpenFile j) k c quiet (none-file (table ss (Some (i, Due.OpenFile j))) i j _ (left (Due.OpenFile j)) not_done) x
   turned-due law (Due.OpenDirectory j) ok k c quiet x =
       let at = (fits ok.sound ok.table).file in
       let in_table = inside ok.sound ok.table in
-      let e = only-closes ss (Owed.For i (Due.OpenDirectory j)) (left (Due.OpenDirectory j)) i j 0 in_table at.within k c quiet x in
+      let e = only-closes ss (Some (i, Due.OpenDirectory j)) (left (Due.OpenDirectory j)) i j 0 in_table at.within k c quiet x in
       rw e.0 (inl (directory-turns j ok))
   turned-due law (Due.Write j n) ok k c quiet x =
-      no-turn (Due.Write j n) k c quiet (none-file (table ss (Owed.For i (Due.Write j n))) i j _ (left (Due.Write j n)) not_done) x
+      no-turn (Due.Write j n) k c quiet (none-file (table ss (Some (i, Due.Write j n))) i j _ (left (Due.Write j n)) not_done) x
   turned-due law (Due.WriteLast j n) ok k c quiet x =
       let at = (fits ok.sound ok.table).file in
       let in_table = inside ok.sound ok.table in
-      let e = only-closes ss (Owed.For i (Due.WriteLast j n)) (left (Due.WriteLast j n)) i j _ in_table at.within k c quiet x in
+      let e = only-closes ss (Some (i, Due.WriteLast j n)) (left (Due.WriteLast j n)) i j _ in_table at.within k c quiet x in
       rw (e.0, e.1, e.2) (inr (whole j n ok law))
   turned-due law Due.Commit ok k c quiet x =
-      no-turn Due.Commit k c quiet (none_free (table ss (Owed.For i Due.Commit)) i _ (left Due.Commit) free-files) x
+      no-turn Due.Commit k c quiet (none_free (table ss (Some (i, Due.Commit))) i _ (left Due.Commit) free-files) x
   turned-due law Due.Request ok k c quiet x =
-      no-turn Due.Request k c quiet (same_none ss i Due.Request (Owed.For i Due.Request)) x
+      no-turn Due.Request k c quiet (same_none ss i Due.Request (Some (i, Due.Request))) x
 
   -- a last part asked last and answered is the one that is due
   pub closed-due : (due : Due) → WorldOK (before due) → (d : Command) (p : List ℕ)
       → last_ask (marks_of h) ≡ Question.asks d (Heard.writes_last p)
-      → Closed (table ss (Owed.For i due)) (step (before due) (Call.done reply)).receiver.table d
+      → Closed (table ss (Some (i, due))) (step (before due) (Call.done reply)).receiver.table d
   closed-due (Due.OpenFile j) ok d p e = let a = asking ok.sound ok.table in no_last a.asked (rw a.about.heard) e
   closed-due (Due.OpenDirectory j) ok d p e = let a = asking ok.sound ok.table in no_last a.asked (rw a.about.heard) e
   closed-due (Due.Write j n) ok d p e = let a = asking ok.sound ok.table in no_last a.asked (rw a.about.heard) e
@@ -272,16 +270,16 @@ module _ (g : Framing) (ss : List Session) (carry : List ℕ) (h : List Event) (
 
 -- ---- whatever is owed
 module _ (g : Framing) (ss : List Session) (carry : List ℕ) (h : List Event) (reply : List ℕ) (room : reply_room ≤ length reply) where
-  pub turned : ReplyLaw → (o : Owed) → WorldOK (world g ss o carry h) → (k : Key) (c quiet : ℕ)
+  pub turned : ReplyLaw → (o : Option (ℕ × Due)) → WorldOK (world g ss o carry h) → (k : Key) (c quiet : ℕ)
       → Closes (table ss o) (settle_done (table ss o)).table k c quiet
       → DirectoryAsked k (marks_of h) ⊎ ClosedWhole (world g ss o carry h) reply k c quiet
   unfolding settle_done
-  turned law Owed.Nothing ok k c quiet x =
-      let t = table ss Owed.Nothing in absurd (none-closes t t k c quiet (none-same t Owed.Nothing) x)
-  turned law (Owed.For i d) ok k c quiet x = turned-due g ss carry h reply room i law d ok k c quiet x
+  turned law None ok k c quiet x =
+      let t = table ss None in absurd (none-closes t t k c quiet (none-same t None) x)
+  turned law (Some (i, d)) ok k c quiet x = turned-due g ss carry h reply room i law d ok k c quiet x
 
-  pub closed : (o : Owed) → WorldOK (world g ss o carry h) → (d : Command) (p : List ℕ)
+  pub closed : (o : Option (ℕ × Due)) → WorldOK (world g ss o carry h) → (d : Command) (p : List ℕ)
       → last_ask (marks_of h) ≡ Question.asks d (Heard.writes_last p)
       → is_owed o ≡ true → Closed (table ss o) (step (world g ss o carry h) (Call.done reply)).receiver.table d
-  closed Owed.Nothing ok d p e b = no_way (sym b)
-  closed (Owed.For i due) ok d p e b = closed-due g ss carry h reply room i due ok d p e
+  closed None ok d p e b = no_way (sym b)
+  closed (Some (i, due)) ok d p e b = closed-due g ss carry h reply room i due ok d p e

@@ -8,6 +8,7 @@ use lib.ListN.{length}
 use lib.Seq.{sets}
 use lib.Dec.{leb}
 use borrow.Author.Tests.{le-leb}
+use Rattle.std.specs.Prelude.{Option, Some}
 use Rattle.octets.specs.Members.{every}
 use Rattle.octets.specs.Ascii.{ascii}
 use Rattle.octets.specs.Outcome.{outcome}
@@ -49,15 +50,15 @@ held-quiet quiet h = rw (le-leb 1 quiet h) (go (leb 2 quiet))
     go false = refl
 
 -- a reply that fits is stored
-stored : (r : Reply) (buf bs : List ℕ) → reply_bytes r ≡ bs → length bs ≤ length buf
+stored : (r : Option Reply) (buf bs : List ℕ) → reply_bytes r ≡ bs → length bs ≤ length buf
     → replied_of r buf ≡ outcome (length bs) (sets buf 0 bs)
 unfolding replied_of
 stored r buf bs e h = rw (e, le-leb (0 + length bs) (length buf) (omega arith))
 
 module _ (s : Session) (f : FileRecord) (size : ℕ) where
   -- the reply to a closing, and its text
-  abbrev ok_reply : Reply
-  ok_reply = file_reply Status.Ok s f size
+  abbrev ok_reply : Option Reply
+  ok_reply = Some (file_reply Status.Ok s f size)
 
   abbrev ok_text : List ℕ
   ok_text = status_text (id_of s) (file_id_of f) size (ascii "OK")
@@ -71,7 +72,7 @@ module _ (s : Session) (f : FileRecord) (size : ℕ) where
   bytes-held q = rw (held-quiet s.quiet q)
 
   pub closing-reply : ReplyLaw → IsId (id_of s) → IsId (file_id_of f) → size ≤ count_limit → (g : Framing) (step : Stepped) (reply : List ℕ)
-      → step.reply ≡ file_reply Status.Ok s f size → reply_room ≤ length reply
+      → step.reply ≡ Some (file_reply Status.Ok s f size) → reply_room ≤ length reply
       → ClosingReply (key_of s f) size s.quiet (replied g step reply)
   closing-reply law id file fits g step reply e room =
       let l = law (id_of s) (file_id_of f) size id.safe id.some id.short file.safe file.some file.short fits in

@@ -2,12 +2,12 @@
 use Prim.Native.Nat.{ℕ, ◌<◌}
 use mathlib.Core.Path.{◌≡◌, refl, sym, ap, ◌∙◌}
 use mathlib.Core.Bool.{Bool, true, false, cond}
-use mathlib.Core.Option.{Option}
 use mathlib.Core.List.{List, [], ◌∷◌}
 use native.Mathlib.Decide.{ℕ_discrete}
 use native.Mathlib.Omega.{arith}
 use lib.ListN.{length, set}
 use borrow.Author.Tests.{ne_eqb, eq-eqb}
+use Rattle.std.specs.Prelude.{Option, Some, None}
 use Rattle.octets.specs.Slices.{equals}
 use Rattle.frames.proofs.Choices.{by_cond}
 use Rattle.command.specs.Slots.{nowhere}
@@ -23,20 +23,13 @@ use Rattle.protocol.specs.Sound.{due_in, FileFor, SoundSession, Sound}
 use Rattle.protocol.specs.declared.FileState.TheVariants as FileState
 use Rattle.protocol.specs.declared.FileRecord.{FileRecord}
 use Rattle.protocol.specs.declared.SessionState.{SessionState}
-use Rattle.protocol.specs.declared.SessionState.TheVariants as SessionState
 use Rattle.protocol.specs.declared.Session.{Session}
 use Rattle.protocol.specs.declared.Due.{Due}
-use Rattle.protocol.specs.declared.Due.TheVariants as Due
-use Rattle.protocol.specs.declared.Owed.{Owed}
-use Rattle.protocol.specs.declared.Owed.TheVariants as Owed
 use Rattle.protocol.specs.declared.Table.{Table}
 use Rattle.protocol.specs.declared.Decision.{Decision}
-use Rattle.protocol.specs.declared.Decision.TheVariants as Decision
 use Rattle.protocol.specs.declared.Told.TheVariants as Told
 use Rattle.protocol.specs.declared.Change.{Change}
 use Rattle.protocol.specs.declared.Stepped.{Stepped}
-use Rattle.protocol.specs.declared.Found.{Found}
-use Rattle.protocol.specs.declared.Found.TheVariants as Found
 use Rattle.protocol.proofs.Laws.{no_way, equals-same, found_at, unique-other}
 use Rattle.protocol.proofs.Backs.{table, told-step}
 use Rattle.protocol.proofs.Invariant.{key_of, file_key, FileOK, commits_for, Holds, standing, committing, SessionOK, Asking}
@@ -154,12 +147,13 @@ pub record Moved (t : Table) (m : List Mark) (out : Stepped) : Type 0 where
 abbrev pub Noted : Table → List Mark → Mark → Stepped → Type 0
 Noted t m x out = Moved t (noted_marks m x out) out
 
-module _ {ss : List Session} {o : Owed} {m : List Mark} (sound : Sound (table ss o)) (ok : TableOK (table ss o) m) (k : List ℕ) where
+module _ {ss : List Session} {o : Option (ℕ × Due)} {m : List Mark} (sound : Sound (table ss o))
+    (ok : TableOK (table ss o) m) (k : List ℕ) where
   abbrev t : Table
   t = table ss o
 
   -- ---- the session i has the id k
-  module _ (i : ℕ) (e : find_session t k ≡ Found.At i) where
+  module _ (i : ℕ) (e : find_session t k ≡ Some i) where
     abbrev s : Session
     s = session_in ss i
 
@@ -171,16 +165,16 @@ module _ {ss : List Session} {o : Owed} {m : List Mark} (sound : Sound (table ss
 
     -- ---- one that is only asked owes nothing, and has no file
     module _ (p : is_asked s.state ≡ true) where
-      owes_not : (n : ℕ) (d : Due) → o ≡ Owed.For n d → n ≡ i → ⊥
+      owes_not : (n : ℕ) (d : Due) → o ≡ Some (n, d) → n ≡ i → ⊥
       owes_not n d q r = no_way (sym p ∙ ap is_asked (rw r at (owed-session sound q).fits.0) ∙ due-asked d)
 
-      elsewhere : (x : Session) (o' : Owed) → o ≡ o' → AskedLast ss (last_ask m) o' → AskedLast (set ss i x) (last_ask m) o'
-      elsewhere x Owed.Nothing q a = tt
-      elsewhere x (Owed.For n d) q a = asked-other ss i n x (last_ask m) d (owes_not n d q) a
+      elsewhere : (x : Session) (o' : Option (ℕ × Due)) → o ≡ o' → AskedLast ss (last_ask m) o' → AskedLast (set ss i x) (last_ask m) o'
+      elsewhere x None q a = tt
+      elsewhere x (Some (n, d)) q a = asked-other ss i n x (last_ask m) d (owes_not n d q) a
 
-      uncleared : (o' : Owed) → o ≡ o' → cleared i o' ≡ o'
-      uncleared Owed.Nothing q = refl
-      uncleared (Owed.For n d) q = rw (ne_eqb n i (owes_not n d q))
+      uncleared : (o' : Option (ℕ × Due)) → o ≡ o' → cleared i o' ≡ o'
+      uncleared None q = refl
+      uncleared (Some (n, d)) q = rw (ne_eqb n i (owes_not n d q))
 
       abbrev opened : Session
       opened = with_state s (opened_from s.state)
@@ -232,19 +226,20 @@ module _ {ss : List Session} {o : Owed} {m : List Mark} (sound : Sound (table ss
         for-other p = rw (← a.id, found.2) (others j n p)
 
     -- it is put back as free room, with this owed
-    put-dropped : (o' : Owed) → ((j : ℕ) → (j ≡ i → ⊥) → SessionOK (is_owed o') (Mark.drop k ∷ m) (session_in ss j))
+    put-dropped : (o' : Option (ℕ × Due)) → ((j : ℕ) → (j ≡ i → ⊥) → SessionOK (is_owed o') (Mark.drop k ∷ m) (session_in ss j))
         → AskedLast (set ss i absent_session) (last_ask m) o' → TableOK (table (set ss i absent_session) o') (Mark.drop k ∷ m)
     put-dropped o' there asked = put-ok t i absent_session o' found.0 there absent-ok asked ok.told ok.served
 
-    drop-ok : (o' : Owed) → o ≡ o' → TableOK (table ss o') m → TableOK (table (set ss i absent_session) (cleared i o')) (Mark.drop k ∷ m)
-    drop-ok Owed.Nothing q w = put-dropped Owed.Nothing (λ j n. dropped-ok false j n (w.each j)) tt
-    drop-ok (Owed.For n d) q w = go (ℕ_discrete n i)
+    drop-ok : (o' : Option (ℕ × Due)) → o ≡ o' → TableOK (table ss o') m
+        → TableOK (table (set ss i absent_session) (cleared i o')) (Mark.drop k ∷ m)
+    drop-ok None q w = put-dropped None (λ j n. dropped-ok false j n (w.each j)) tt
+    drop-ok (Some (n, d)) q w = go (ℕ_discrete n i)
       where
-        go : Dec (n ≡ i) → TableOK (table (set ss i absent_session) (cleared i (Owed.For n d))) (Mark.drop k ∷ m)
+        go : Dec (n ≡ i) → TableOK (table (set ss i absent_session) (cleared i (Some (n, d)))) (Mark.drop k ∷ m)
         go (yes r) =
-            rw (eq-eqb n i r) (put-dropped Owed.Nothing (λ j z. cleared-ok d (rw r at w.owed) j z (w.each j)) tt)
+            rw (eq-eqb n i r) (put-dropped None (λ j z. cleared-ok d (rw r at w.owed) j z (w.each j)) tt)
         go (no r) =
-            rw (ne_eqb n i r) (put-dropped (Owed.For n d) (λ j z. dropped-ok true j z (w.each j))
+            rw (ne_eqb n i r) (put-dropped (Some (n, d)) (λ j z. dropped-ok true j z (w.each j))
             (asked-other ss i n absent_session (last_ask m) d r w.owed))
 
     -- ---- what is decided of it
@@ -271,13 +266,13 @@ module _ {ss : List Session} {o : Owed} {m : List Mark} (sound : Sound (table ss
 
   -- ---- the calls: a step with P, which no refusal lacks
   decided : (P : Stepped → Type 0) (d : Decision) → P (telling t (Told.Refused 12))
-      → ((i : ℕ) → find_session t k ≡ Found.At i → P (step_by t i nowhere (decided_by d (session_in ss i)))) → P (decided_of t d k)
+      → ((i : ℕ) → find_session t k ≡ Some i → P (step_by t i nowhere (decided_by d (session_in ss i)))) → P (decided_of t d k)
   unfolding decided_of
   decided P d refusal step = go (find_session t k) refl
     where
-      go : (f : Found) → find_session t k ≡ f → P (decided_at t d f)
-      go Found.Nowhere e = refusal
-      go (Found.At i) e = step i e
+      go : (f : Option ℕ) → find_session t k ≡ f → P (decided_at t d f)
+      go None e = refusal
+      go (Some i) e = step i e
 
   pub allow-noted : Noted t m (Mark.allow k) (decided_of t Decision.Allow k)
   allow-noted = decided (Noted t m (Mark.allow k)) Decision.Allow (record { ok = ok; none = none-same t o }) allow-step

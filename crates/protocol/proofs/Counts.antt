@@ -7,6 +7,7 @@ use native.Mathlib.Omega.{arith}
 use lib.ListN.{length, length-set, get_or, set}
 use lib.Dec.{eqb}
 use borrow.Author.Tests.{eq-eqb, ne_eqb}
+use Rattle.std.specs.Prelude.{Option, Some, None}
 use Rattle.protocol.specs.Table.{file_room, no_file, file_at, here_or, first, is_started, is_done, total, started_share, done_share}
 use Rattle.protocol.specs.Table.{adjusted, put_file}
 use Rattle.protocol.specs.Change.{asks, drops}
@@ -20,8 +21,6 @@ use Rattle.protocol.specs.declared.Due.TheVariants as Due
 use Rattle.protocol.specs.declared.Status.TheVariants as Status
 use Rattle.protocol.specs.declared.Told.TheVariants as Told
 use Rattle.protocol.specs.declared.Change.{Change}
-use Rattle.protocol.specs.declared.Found.{Found}
-use Rattle.protocol.specs.declared.Found.TheVariants as Found
 use Rattle.protocol.proofs.Laws.{no_way}
 
 -- ---- sums of shares, one share for another
@@ -79,9 +78,9 @@ put-counted s j f room sound c =
     }
 
 -- ---- finish
-abbrev is_nowhere : Found → Bool
-is_nowhere Found.Nowhere = true
-is_nowhere (Found.At j) = false
+abbrev is_nowhere : Option ℕ → Bool
+is_nowhere None = true
+is_nowhere (Some j) = false
 
 none-started : (fs : List FileRecord) → eqb (total started_share fs) 0 ≡ is_nowhere (first is_started fs)
 unfolding first
@@ -91,18 +90,18 @@ none-started (x ∷ fs) = go (is_started x) (first is_started fs) (none-started 
     same : 0 + total started_share fs ≡ total started_share fs
     same = omega arith
 
-    go : (b : Bool) (r : Found) → eqb (total started_share fs) 0 ≡ is_nowhere r
+    go : (b : Bool) (r : Option ℕ) → eqb (total started_share fs) 0 ≡ is_nowhere r
         → eqb (cond b 1 0 + total started_share fs) 0 ≡ is_nowhere (here_or b r)
     go true r e = ne_eqb (1 + total started_share fs) 0 (omega arith)
-    go false Found.Nowhere e = rw same e
-    go false (Found.At j) e = rw same e
+    go false None e = rw same e
+    go false (Some j) e = rw same e
 
-nowhere-is : (f : Found) → is_nowhere f ≡ true → f ≡ Found.Nowhere
-nowhere-is Found.Nowhere e = refl
-nowhere-is (Found.At j) e = no_way (sym e)
+nowhere-is : (f : Option ℕ) → is_nowhere f ≡ true → f ≡ None
+nowhere-is None e = refl
+nowhere-is (Some j) e = no_way (sym e)
 
 -- no file is started where the kept number is zero
-pub zero-started : {s : Session} → Counted s → s.started ≡ 0 → first is_started s.files ≡ Found.Nowhere
+pub zero-started : {s : Session} → Counted s → s.started ≡ 0 → first is_started s.files ≡ None
 zero-started {s} c e = nowhere-is (first is_started s.files) (sym (none-started s.files) ∙ eq-eqb _ _ (sym c.started ∙ e))
 
 pub right-counts : (s : Session) → Counted s → RightCounts s
@@ -110,11 +109,11 @@ unfolding finish_of
 right-counts s c = record { counted = c; finish = ap finishing (zero ∙ none-started s.files) ∙ go (first is_started s.files) }
   where
     finishing : Bool → Change
-    finishing b = cond b (asks Due.Commit) (drops Told.Discarded (session_reply Status.Einval s))
+    finishing b = cond b (asks Due.Commit) (drops Told.Discarded (Some (session_reply Status.Einval s)))
 
     zero : eqb s.started 0 ≡ eqb (total started_share s.files) 0
     zero = ap (λ (n : ℕ). eqb n 0) c.started
 
-    go : (f : Found) → finishing (is_nowhere f) ≡ finish_found s f
-    go Found.Nowhere = refl
-    go (Found.At j) = refl
+    go : (f : Option ℕ) → finishing (is_nowhere f) ≡ finish_found s f
+    go None = refl
+    go (Some j) = refl

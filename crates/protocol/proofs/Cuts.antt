@@ -1,6 +1,6 @@
 -- THE CUT DOES NOT MATTER, at the level of calls. What a list of calls gives, and the receiver that it leaves, are those of its moves and
 -- of all bytes that it consumes: pieces, places, scratch and buffers count for nothing.
-use Prim.Native.Nat.{ℕ, ◌+◌}
+use Prim.Native.Nat.{ℕ}
 use mathlib.Core.Path.{◌≡◌, refl, sym, ap, ◌∙◌}
 use mathlib.Core.Bool.{true}
 use mathlib.Core.List.{List, [], ◌∷◌, ◌++◌, append_assoc, append-nil}

@@ -1,5 +1,6 @@
 -- Each call, lent the kept carry, does to the table what its move does: a feed with a report that of the next thing told by the bytes
 -- that it consumes, a feed without one nothing.
+use Rattle.std.specs.Prelude.{Option, Some, None}
 use Rattle.protocol.specs.Calls.{unread}
 use Rattle.frames.specs.Stream.{is_drag_drop}
 use Prim.Native.Nat.{ℕ, ◌≤◌}
@@ -16,7 +17,6 @@ use Rattle.frames.specs.Calls.{scan_of, text_of}
 use Rattle.frames.specs.Follows.{Follows, told_of}
 use Rattle.frames.specs.declared.Framing.TheVariants as Framing
 use Rattle.frames.specs.declared.Report.{Report}
-use Rattle.frames.specs.declared.Report.TheVariants as Report
 use Rattle.frames.proofs.CallLaws.{call-report}
 use Rattle.frames.proofs.Follows.{stream-append, fresh-follows, call-follows}
 use Rattle.command.specs.Slots.{values_of}
@@ -38,11 +38,8 @@ use Rattle.protocol.specs.declared.Decision.TheVariants as Decision
 use Rattle.protocol.specs.declared.Table.{Table}
 use Rattle.protocol.specs.declared.Receiver.{Receiver}
 use Rattle.protocol.specs.declared.Told.{Told}
-use Rattle.protocol.specs.declared.Told.TheVariants as Told
 use Rattle.protocol.specs.declared.Stepped.{Stepped}
 use Rattle.protocol.specs.declared.Answered.{Answered}
-use Rattle.protocol.specs.declared.Found.{Found}
-use Rattle.protocol.specs.declared.Found.TheVariants as Found
 use Rattle.protocol.proofs.Ours.{Lent, step, given}
 use Rattle.protocol.proofs.ReplyBytes.{SizedReply, reply-sent}
 use Rattle.protocol.proofs.Sizes.{SizedStep, none-sized, empty-sized}
@@ -222,9 +219,9 @@ pub drop-silent : (t : Table) (id : List ℕ) → reply_bytes (decided_of t Deci
 unfolding decided_of decided_by reply_bytes
 drop-silent t id = go (find_session t id)
   where
-    go : (f : Found) → reply_bytes (decided_at t Decision.Drop f).reply ≡ []
-    go Found.Nowhere = refl
-    go (Found.At i) = refl
+    go : (f : Option ℕ) → reply_bytes (decided_at t Decision.Drop f).reply ≡ []
+    go None = refl
+    go (Some i) = refl
 
 -- ---- every call
 -- the bytes that it consumes, and what they tell

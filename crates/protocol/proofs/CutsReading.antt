@@ -5,6 +5,7 @@ use mathlib.Core.Bool.{Bool, true, false, cond}
 use mathlib.Core.List.{List}
 use lib.ListN.{length, get_or, set}
 use borrow.Author.Tests.{le-ltb}
+use Rattle.std.specs.Prelude.{Option, Some, is_some}
 use Rattle.octets.specs.Outcome.{Outcome, outcome}
 use Rattle.command.specs.Keys.{keys, Kind, kind_at}
 use Rattle.command.specs.Values.{Value, Got, value_read}
@@ -18,7 +19,7 @@ use Rattle.command.proofs.ReadValues.{of_text}
 use Rattle.command.proofs.SimulationFields.{Agree, on, off, text-agree}
 use Rattle.command.proofs.Simulation.{read-means}
 use Rattle.protocol.specs.Sessions.{string_in}
-use Rattle.protocol.proofs.Refusals.{meaning-refusal}
+use Rattle.protocol.proofs.TextLaws.{meaning-refusal}
 use Rattle.protocol.proofs.Means.{string-means}
 
 -- ---- the answer
@@ -29,7 +30,7 @@ record Same (s s' : Reader) : Type 0 where
 
 same_by : (k : Kind) (n at : ℕ) {s s' : Reader} (g : Got) → Same s s' → Agree Same (kept_by k n at s g) (kept_by k n at s' g)
 same_by k n at {s} {s'} (Got.got v) r =
-    let e : set s.slots n (slot_for k at s.used v) ≡ set s'.slots n (slot_for k at s'.used v) = rw (r.slots, r.used) in
+    let e : set s.slots n (Some (slot_for k at s.used v)) ≡ set s'.slots n (Some (slot_for k at s'.used v)) = rw (r.slots, r.used) in
     let u : s.used + length (stored_for k v) ≡ s'.used + length (stored_for k v) = rw r.used in
     on (record { slots = e; used = u })
 same_by k n at (Got.refused x) r = off r
@@ -38,8 +39,8 @@ same_kept : (n at : ℕ) (v : List ℕ) {s s' : Reader} → Same s s' → Agree 
 unfolding kept
 same_kept n at v {s} {s'} r = go (stood s.slots) (stood s'.slots) (ap stood r.slots)
   where
-    stood : List Slot → Bool
-    stood l = (get_or l n free).stood
+    stood : List (Option Slot) → Bool
+    stood l = is_some (get_or l n free)
 
     turn : Bool → Reader → Turn Reader
     turn b s = cond b (Turn.off 5 s) (kept_by (kind_at keys n) n at s (value_read (kind_at keys n) v))

@@ -18,7 +18,6 @@ use Rattle.protocol.specs.Cuts.{saying}
 use Rattle.protocol.specs.Promises.{Sized}
 use Rattle.protocol.specs.declared.Table.{Table}
 use Rattle.protocol.specs.declared.Told.{Told}
-use Rattle.protocol.specs.declared.Told.TheVariants as Told
 use Rattle.protocol.specs.declared.Stepped.{Stepped}
 use Rattle.protocol.proofs.Laws.{text-taken}
 use Rattle.protocol.proofs.Tellings.{Tells, tells-taken, tells-same}

@@ -7,15 +7,15 @@ use mathlib.Core.List.{List, [], ◌∷◌}
 use native.Mathlib.Omega.{arith}
 use native.Mathlib.Nat.{le_of_suc-le-suc}
 use lib.ListN.{length, get_or, set}
+use Rattle.std.specs.Prelude.{Option}
 use Rattle.octets.proofs.Below.{both_test}
 use Rattle.protocol.specs.Table.{no_file, no_session, session_at, file_at, is_done, total, put_file}
 use Rattle.protocol.specs.Stretches.{Key}
 use Rattle.protocol.specs.Claim.{is_done_as, done_in, done_as}
+use Rattle.protocol.specs.declared.Due.{Due}
 use Rattle.protocol.specs.declared.FileState.{FileState}
-use Rattle.protocol.specs.declared.FileState.TheVariants as FileState
 use Rattle.protocol.specs.declared.FileRecord.{FileRecord}
 use Rattle.protocol.specs.declared.Session.{Session}
-use Rattle.protocol.specs.declared.Owed.{Owed}
 use Rattle.protocol.specs.declared.Table.{Table}
 use Rattle.protocol.proofs.Laws.{no_way}
 use Rattle.protocol.proofs.Invariant.{key_of}
@@ -113,7 +113,7 @@ module _ (k : Key) (n quiet : ℕ) where
       each_le t t' (λ i j e. was_le t t' i j (none i j (counts-done (session_at t' i) (file_at (session_at t' i) j) e)) e)
 
   -- ---- one more than before, where a record is put that counts and the old one did not
-  pub put-more : (t : Table) (i j : ℕ) (f : FileRecord) (o : Owed) → let s = session_at t i in
+  pub put-more : (t : Table) (i j : ℕ) (f : FileRecord) (o : Option (ℕ × Due)) → let s = session_at t i in
       i < length t.sessions → j < length s.files
       → counts s (file_at s j) ≡ false → counts s f ≡ true
       → done_as k n quiet t < done_as k n quiet (record { sessions = set t.sessions i (put_file s j f); owed = o })

@@ -1,9 +1,9 @@
 -- Lists of calls computed whole: the definitions and the claim are not about nothing.
 use Prim.Native.Nat.{ℕ, zero, suc}
 use mathlib.Core.Path.{◌≡◌, refl, sym, ◌∙◌}
-use mathlib.Core.Option.{Option}
 use mathlib.Core.List.{List, [], ◌∷◌, ◌++◌}
 use lib.ListN.{length, take, drop, replicate}
+use Rattle.std.specs.Prelude.{Option, Some, None}
 use Rattle.command.specs.Read.{scratch_room}
 use Rattle.frames.specs.Stream.{text_limit, framed}
 use Rattle.octets.specs.Ascii.{ascii}
@@ -21,7 +21,6 @@ use Rattle.protocol.specs.Cuts.{Move, console_calls}
 use Rattle.protocol.specs.declared.FileState.TheVariants as FileState
 use Rattle.protocol.specs.declared.Status.TheVariants as Status
 use Rattle.protocol.specs.declared.Told.{Told}
-use Rattle.protocol.specs.declared.Told.TheVariants as Told
 use Rattle.protocol.specs.declared.Answered.{Answered}
 use Rattle.protocol.proofs.Done.{state_at, count_at}
 use Rattle.protocol.proofs.Ours.{step, all_given, after, AllLent}
@@ -139,8 +138,8 @@ abbrev marks_since : Key → World → List Mark
 marks_since k w = go (since k (marks_of w.history))
   where
     go : Option Stretch → List Mark
-    go Option.none = []
-    go (Option.some s) = s.marks
+    go None = []
+    go (Some s) = s.marks
 
 abbrev key : Key
 key = record { id = ascii "m"; file = ascii "a" }
@@ -172,7 +171,7 @@ record Computed : Type 0 where
   one-calls : console_calls 0 (all_given (start (replicate text_limit 0)) one_piece) ≡ (1, Move.allow (ascii "m")) ∷ []
   two-calls : console_calls 0 (all_given (start ones) two-pieces) ≡ (1, Move.allow (ascii "m")) ∷ []
   -- "No reply is longer than 124 bytes": one has as many
-  longest : let r = file_reply Status.Progress (asked_session 0 (replicate 32 105)) (opening (replicate 32 102) 0) count_limit in
+  longest : let r = Some (file_reply Status.Progress (asked_session 0 (replicate 32 105)) (opening (replicate 32 102) 0) count_limit) in
       length (reply_bytes r) ≡ reply_room
 
 computed : Computed

@@ -1,4 +1,5 @@
 -- A feed keeps the invariant, and turns no record done.
+use Rattle.std.specs.Prelude.{Option, None}
 use Rattle.protocol.specs.Calls.{unread}
 use Rattle.frames.specs.Stream.{is_drag_drop}
 use Rattle.frames.specs.Stream as Stream
@@ -12,7 +13,6 @@ use Rattle.frames.specs.Calls.{scan_of, text_of}
 use Rattle.frames.specs.Follows.{Follows, told_of}
 use Rattle.frames.specs.declared.Framing.{Framing}
 use Rattle.frames.specs.declared.Report.{Report}
-use Rattle.frames.specs.declared.Report.TheVariants as Report
 use Rattle.frames.proofs.CallLaws.{call-report}
 use Rattle.frames.proofs.Follows.{stream-append, call-follows}
 use Rattle.command.specs.Meaning.{Meaning, meaning_of}
@@ -20,10 +20,9 @@ use Rattle.command.specs.Read.{Answer, scratch_room, read_of}
 use Rattle.protocol.specs.Calls.{is_owed, Feeding, Acted, read_act, report_act, feed_refused, scanned_feed, is_short, feed_of}
 use Rattle.protocol.specs.History.{hearing, Event, bytes_of, Mark, read_mark, told_marks, hearing_mark, mode_after, marks_of}
 use Rattle.protocol.specs.Machine.{Call, World, is_unfed, after_feed}
+use Rattle.protocol.specs.declared.Due.{Due}
 use Rattle.protocol.specs.declared.Session.{Session}
 use Rattle.protocol.specs.declared.Told.TheVariants as Told
-use Rattle.protocol.specs.declared.Owed.{Owed}
-use Rattle.protocol.specs.declared.Owed.TheVariants as Owed
 use Rattle.protocol.proofs.Ours.{Lent, step}
 use Rattle.protocol.proofs.Laws.{text-taken}
 use Rattle.protocol.proofs.Means.{Read, command, refused, text-read}
@@ -54,21 +53,21 @@ module _ {ss : List Session} {m : List Mark} (sound : Sound (idle ss)) (same : T
           → ActOK ss (read_mark d m) (read_act (idle ss) text (record { answer = a; buffer = (read_of text scratch).buffer }))
       go (Answer.read c) (command means) = let k = obey-kept means sound same in record { ok = k.ok; none = k.none; taken = k.taken }
       go (Answer.refused n) (refused l) =
-          record { ok = same; none = none-same (idle ss) Owed.Nothing; taken = text-taken n l }
+          record { ok = same; none = none-same (idle ss) None; taken = text-taken n l }
 
   -- a text that is reported
   text-act : (d : Bool)
       → ActOK ss (told_marks (cond d (Stream.Told.drag_drop text) (Stream.Told.command text) ∷ []) m)
       (cond d (unread (idle ss) Told.DragDrop scratch) (read_act (idle ss) text (read_of text scratch)))
-  text-act true = record { ok = same; none = none-same (idle ss) Owed.Nothing; taken = refl }
+  text-act true = record { ok = same; none = none-same (idle ss) None; taken = refl }
   text-act false = read-act
 
   report-act : (r : Report) → (r ≡ Report.ShortCarry → ⊥) → ActOK ss (told_marks (told_of r text) m) (report_act (idle ss) r text scratch)
-  report-act Report.Nothing n = record { ok = same; none = none-same (idle ss) Owed.Nothing; taken = refl }
+  report-act Report.Nothing n = record { ok = same; none = none-same (idle ss) None; taken = refl }
   report-act (Report.InPiece start len) n = text-act (is_drag_drop text)
   report-act (Report.InCarry len) n = text-act (is_drag_drop text)
-  report-act Report.TooLong n = record { ok = same; none = none-same (idle ss) Owed.Nothing; taken = refl }
-  report-act Report.Abandoned n = record { ok = same; none = none-same (idle ss) Owed.Nothing; taken = refl }
+  report-act Report.TooLong n = record { ok = same; none = none-same (idle ss) None; taken = refl }
+  report-act Report.Abandoned n = record { ok = same; none = none-same (idle ss) None; taken = refl }
   report-act Report.ShortCarry n = absurd (n refl)
 
 -- ---- a feed
@@ -76,11 +75,11 @@ pub record FeedOK (w w' : World) : Type 0 where
   pub ok : WorldOK w'
   pub none : NoneDone w.receiver.table w'.receiver.table
 
-abbrev pub world : Framing → List Session → Owed → List ℕ → List Event → World
+abbrev pub world : Framing → List Session → Option (ℕ × Due) → List ℕ → List Event → World
 world g ss o carry h = record { receiver = record { framing = g; table = table ss o }; carry = carry; history = h }
 
 -- one that is not refused with 9 or 10: its carry is the world's
-feed-taken : (g : Framing) (ss : List Session) (kept : List ℕ) (h : List Event) → let w = world g ss Owed.Nothing kept h in
+feed-taken : (g : Framing) (ss : List Session) (kept : List ℕ) (h : List Event) → let w = world g ss None kept h in
     WorldOK w → (piece carry scratch reply : List ℕ) → text_limit ≤ length carry → scratch_room ≤ length scratch
     → let f = scanned_feed (idle ss) piece (scan_of g piece carry) scratch reply in
     (is_unfed f.fed.told ≡ false → carry ≡ kept) → FeedOK w (after_feed w piece f)
@@ -102,7 +101,7 @@ feed-taken g ss kept h w piece carry scratch reply long enough lent =
       none = a.none;
     }
 
-feed-idle : (g : Framing) (ss : List Session) (o : Owed) (kept : List ℕ) (h : List Event) → o ≡ Owed.Nothing
+feed-idle : (g : Framing) (ss : List Session) (o : Option (ℕ × Due)) (kept : List ℕ) (h : List Event) → o ≡ None
     → let w = world g ss o kept h in
     WorldOK w → (piece carry scratch reply : List ℕ) → text_limit ≤ length carry → scratch_room ≤ length scratch
     → let f = scanned_feed (table ss o) piece (scan_of g piece carry) scratch reply in

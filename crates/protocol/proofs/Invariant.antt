@@ -3,9 +3,9 @@
 use Prim.Native.Nat.{ℕ}
 use mathlib.Core.Path.{◌≡◌}
 use mathlib.Core.Bool.{Bool, true, false}
-use mathlib.Core.Option.{Option}
 use mathlib.Core.List.{List, [], ◌++◌}
 use lib.ListN.{length, get_or}
+use Rattle.std.specs.Prelude.{Option, Some, None}
 use Rattle.octets.specs.Slices.{equals}
 use Rattle.command.specs.Meaning.{action_code, file_type_code}
 use Rattle.command.specs.Meaning as Meaning
@@ -17,12 +17,8 @@ use Rattle.protocol.specs.Supplied.{written_parts, supplied_parts}
 use Rattle.protocol.specs.declared.FileState.TheVariants as FileState
 use Rattle.protocol.specs.declared.FileRecord.{FileRecord}
 use Rattle.protocol.specs.declared.SessionState.{SessionState}
-use Rattle.protocol.specs.declared.SessionState.TheVariants as SessionState
 use Rattle.protocol.specs.declared.Session.{Session}
 use Rattle.protocol.specs.declared.Due.{Due}
-use Rattle.protocol.specs.declared.Due.TheVariants as Due
-use Rattle.protocol.specs.declared.Owed.{Owed}
-use Rattle.protocol.specs.declared.Owed.TheVariants as Owed
 use Rattle.protocol.specs.declared.Table.{Table}
 use Rattle.protocol.proofs.Laws.{is_past}
 
@@ -38,7 +34,7 @@ pending false k m = []
 -- since its start its contents are its parts and what is pending, its count n is the parts' length, and d was declared
 pub record FileOK (owed : Bool) (m : List Mark) (k : Key) (n d : ℕ) : Type 0 where
   pub stretch : Stretch
-  pub started : since k m ≡ Option.some stretch
+  pub started : since k m ≡ Some stretch
   pub joined : contents k stretch.marks ≡ parts k stretch.marks ++ pending owed k m
   pub counted : n ≡ length (parts k stretch.marks)
   pub declares : d ≡ declared_in stretch.command
@@ -133,9 +129,9 @@ pub record Asking (s : Session) (q : Question) (due : Due) : Type 0 where
   pub id : id_of s ≡ Meaning.id_of command
   pub about : About s command heard due
 
-abbrev pub AskedLast : List Session → Question → Owed → Type 0
-AskedLast ss q Owed.Nothing = Unit {0}
-AskedLast ss q (Owed.For i d) = Asking (get_or ss i no_session) q d
+abbrev pub AskedLast : List Session → Question → Option (ℕ × Due) → Type 0
+AskedLast ss q None = Unit {0}
+AskedLast ss q (Some (i, d)) = Asking (get_or ss i no_session) q d
 
 -- ---- the table: parts were handed over in standing sessions only, and what was written is what was supplied
 abbrev pub Served : List Mark → Type 0

@@ -8,6 +8,7 @@ use native.Mathlib.Omega.{arith}
 use lib.ListN.{length, get_or, set, take, replicate}
 use lib.Seq.{get_or-set_same, get_or-set_other, take-take, take-append_seam}
 use borrow.Author.Tests.{ne_eqb}
+use Rattle.std.specs.Prelude.{Option, Some, None}
 use Rattle.octets.specs.Slices.{equals}
 use Rattle.octets.proofs.Below.{both_test}
 use Rattle.octets.proofs.Compare.{equals_refl, equals-sound}
@@ -17,9 +18,6 @@ use Rattle.protocol.specs.declared.Told.TheVariants as Told
 use Rattle.protocol.specs.Sound.{Unique}
 use Rattle.protocol.specs.Table.{zeros, padded, here_or, first, is_used}
 use Rattle.protocol.specs.declared.FileState.{FileState}
-use Rattle.protocol.specs.declared.FileState.TheVariants as FileState
-use Rattle.protocol.specs.declared.Found.{Found}
-use Rattle.protocol.specs.declared.Found.TheVariants as Found
 
 -- ---- tests
 pub no_way : {A : Type 0} → ◌≡◌ {A = Bool} true false → A
@@ -45,46 +43,46 @@ equals-same a b e = rw e (equals_refl b)
 
 -- ---- the first member of which a test holds
 module _ {A : Type 0} (p : A → Bool) (d : A) where
-  pub first-at : (l : List A) (i : ℕ) → first p l ≡ Found.At i → (i < length l) × (p (get_or l i d) ≡ true)
+  pub first-at : (l : List A) (i : ℕ) → first p l ≡ Some i → (i < length l) × (p (get_or l i d) ≡ true)
   unfolding first
   first-at [] i e = let z : ◌≡◌ {A = ℕ} 0 1 = cc in absurd (omega arith)
   first-at (x ∷ xs) i e = go (p x) refl (first p xs) refl e (λ k. first-at xs k)
     where
-      go : (b : Bool) → p x ≡ b → (f : Found) → first p xs ≡ f → here_or b f ≡ Found.At i
-          → ((k : ℕ) → first p xs ≡ Found.At k → (k < length xs) × (p (get_or xs k d) ≡ true))
+      go : (b : Bool) → p x ≡ b → (f : Option ℕ) → first p xs ≡ f → here_or b f ≡ Some i
+          → ((k : ℕ) → first p xs ≡ Some k → (k < length xs) × (p (get_or xs k d) ≡ true))
           → (i < suc (length xs)) × (p (get_or (x ∷ xs) i d) ≡ true)
       go true q f r s more =
           let z : 0 ≡ i = cc in
           rw (← z) (omega arith, q)
-      go false q Found.Nowhere r s more = let z : ◌≡◌ {A = ℕ} 0 1 = cc in absurd (omega arith)
-      go false q (Found.At k) r s more =
+      go false q None r s more = let z : ◌≡◌ {A = ℕ} 0 1 = cc in absurd (omega arith)
+      go false q (Some k) r s more =
           let z : suc k ≡ i = cc in
           let g = more k r in
           rw (← z) (omega arith, g.1)
 
-  first-nowhere : p d ≡ false → (l : List A) → first p l ≡ Found.Nowhere → (i : ℕ) → p (get_or l i d) ≡ false
+  first-nowhere : p d ≡ false → (l : List A) → first p l ≡ None → (i : ℕ) → p (get_or l i d) ≡ false
   unfolding first
   first-nowhere h [] e i = h
   first-nowhere h (x ∷ xs) e i = go (p x) refl (first p xs) refl e (λ r. first-nowhere h xs r) i
     where
-      go : (b : Bool) → p x ≡ b → (f : Found) → first p xs ≡ f → here_or b f ≡ Found.Nowhere
-          → (first p xs ≡ Found.Nowhere → (i : ℕ) → p (get_or xs i d) ≡ false)
+      go : (b : Bool) → p x ≡ b → (f : Option ℕ) → first p xs ≡ f → here_or b f ≡ None
+          → (first p xs ≡ None → (i : ℕ) → p (get_or xs i d) ≡ false)
           → (i : ℕ) → p (get_or (x ∷ xs) i d) ≡ false
       go true q f r s more i = let z : ◌≡◌ {A = ℕ} 0 1 = cc in absurd (omega arith)
-      go false q Found.Nowhere r s more zero = q
-      go false q Found.Nowhere r s more (suc i) = more r i
-      go false q (Found.At k) r s more i = let z : ◌≡◌ {A = ℕ} 0 1 = cc in absurd (omega arith)
+      go false q None r s more zero = q
+      go false q None r s more (suc i) = more r i
+      go false q (Some k) r s more i = let z : ◌≡◌ {A = ℕ} 0 1 = cc in absurd (omega arith)
 
 -- the same for the first used member with an id
 module _ {A : Type 0} (used : A → Bool) (key : A → List ℕ) (d : A) (l : List A) (k : List ℕ) where
-  pub found_at : (i : ℕ) → first (λ (x : A). (used x && equals (key x) k)) l ≡ Found.At i
+  pub found_at : (i : ℕ) → first (λ (x : A). (used x && equals (key x) k)) l ≡ Some i
       → (i < length l) × (used (get_or l i d) ≡ true) × (key (get_or l i d) ≡ k)
   found_at i e =
       let f = first-at (λ (x : A). (used x && equals (key x) k)) d l i e in
       let b = both_test (used (get_or l i d)) (equals (key (get_or l i d)) k) f.1 in
       (f.0, b.0, equals-sound (key (get_or l i d)) k b.1)
 
-  pub found_nowhere : used d ≡ false → first (λ (x : A). (used x && equals (key x) k)) l ≡ Found.Nowhere
+  pub found_nowhere : used d ≡ false → first (λ (x : A). (used x && equals (key x) k)) l ≡ None
       → (i : ℕ) → used (get_or l i d) ≡ true → equals (key (get_or l i d)) k ≡ false
   found_nowhere n e i u =
       rw u at (first-nowhere (λ (x : A). (used x && equals (key x) k)) d (rw n) l e i)

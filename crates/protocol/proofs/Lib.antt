@@ -26,9 +26,9 @@ pub mod Obeyed
 pub mod ObeyedRule
 pub mod ObeyedWays
 pub mod Ours
+pub mod PadLaws
 pub mod Promises
 pub mod Puts
-pub mod Refusals
 pub mod Refuting
 pub mod ReplyBytes
 pub mod ReplyLengths
@@ -44,5 +44,6 @@ pub mod StatusText
 pub mod Teeth
 pub mod SupplyTeeth
 pub mod Tellings
+pub mod TextLaws
 pub mod Ways
 pub mod Worlds

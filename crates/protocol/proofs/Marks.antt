@@ -2,10 +2,10 @@
 use Prim.Native.Nat.{ℕ, ◌+◌}
 use mathlib.Core.Path.{◌≡◌, refl, sym, ap, ◌∙◌}
 use mathlib.Core.Bool.{Bool, true, false, not, cond, ◌&&◌, ◌||◌}
-use mathlib.Core.Option.{Option}
 use mathlib.Core.List.{List, [], ◌∷◌, ◌++◌, append-nil}
 use native.Mathlib.Nat.{add-zero}
 use lib.ListN.{length, length-append}
+use Rattle.std.specs.Prelude.{Option, Some, None}
 use Rattle.octets.specs.Slices.{equals}
 use Rattle.command.specs.Meaning.{id_of, file_id_of}
 use Rattle.protocol.specs.Table.{file_at}
@@ -16,7 +16,6 @@ use Rattle.protocol.specs.Stretches.{Stretch, start_at, longer, onward, since, p
 use Rattle.protocol.specs.Supplied.{wants}
 use Rattle.protocol.specs.declared.FileState.TheVariants as FileState
 use Rattle.protocol.specs.declared.SessionState.{SessionState}
-use Rattle.protocol.specs.declared.SessionState.TheVariants as SessionState
 use Rattle.protocol.specs.declared.Session.{Session}
 use Rattle.protocol.proofs.Laws.{no_way, both_false}
 use Rattle.protocol.proofs.Invariant.{key_of, file_key, FileOK, RecordOK, NoneStands, commits_for, Holds, standing, committing}
@@ -25,12 +24,12 @@ use Rattle.protocol.proofs.Invariant.{is_supplied, SessionOK, Served}
 -- ---- of which commands and asks a file has nothing
 -- what an ask, if one was heard, hands over for the file of the command read
 abbrev pub handed : Key → Command → Option Heard → List ℕ
-handed k d Option.none = []
-handed k d (Option.some a) = part_for k (Question.asks d a)
+handed k d None = []
+handed k d (Some a) = part_for k (Question.asks d a)
 
 abbrev pub is_heard : Option Heard → Bool
-is_heard Option.none = false
-is_heard (Option.some a) = true
+is_heard None = false
+is_heard (Some a) = true
 
 pub id_other : (k : Key) (d : Command) → equals k.id (id_of d) ≡ false → is_for k d ≡ false
 id_other k d e = rw e
@@ -52,8 +51,8 @@ part-other k d Heard.commits e = refl
 part-other k d Heard.requests e = refl
 
 handed-other : (k : Key) (d : Command) (x : Option Heard) → is_for k d ≡ false → handed k d x ≡ []
-handed-other k d Option.none e = refl
-handed-other k d (Option.some a) e = part-other k d a e
+handed-other k d None e = refl
+handed-other k d (Some a) e = part-other k d a e
 
 pub starts_other : (k : Key) (d : Command) (a : Heard) → is_for k d ≡ false → starts_for k (Question.asks d a) ≡ false
 starts_other k d Heard.opens e = rw (e, both_false (is_regular d)) (both_false (is_file d))
@@ -69,7 +68,7 @@ commits-other i d (Heard.writes_last p) e = refl
 commits-other i d Heard.commits e = e
 commits-other i d Heard.requests e = refl
 
-no_start : (k : Key) (q : Question) → starts_for k q ≡ false → start_at k (Mark.answer true q) ≡ Option.none
+no_start : (k : Key) (q : Question) → starts_for k q ≡ false → start_at k (Mark.answer true q) ≡ None
 no_start k Question.none e = refl
 no_start k (Question.asks d a) e = rw e
 
@@ -78,7 +77,7 @@ module _ {m : List Mark} {k : Key} {n l : ℕ} where
   -- a command read, whose content is what is then handed over: for every key
   pub file-read : (d : Command) (x : Option Heard) → content_for k d ≡ handed k d x → FileOK false m k n l
       → FileOK (is_heard x) (hearing_mark x (Mark.read d ∷ m)) k n l
-  file-read d Option.none e f =
+  file-read d None e f =
       record {
         stretch = longer (Mark.read d) f.stretch;
         started = rw f.started;
@@ -86,7 +85,7 @@ module _ {m : List Mark} {k : Key} {n l : ℕ} where
         counted = f.counted;
         declares = f.declares;
       }
-  file-read d (Option.some a) e f =
+  file-read d (Some a) e f =
       record {
         stretch = longer (Mark.asked a) (longer (Mark.read d) f.stretch);
         started = rw f.started;
@@ -140,8 +139,8 @@ file-starts d a ask e declares =
 
 -- ---- a file of which no start stands
 none-onward : (k : Key) (x : Mark) (s : Option Stretch) → start_stands k s ≡ false → start_stands k (onward x s) ≡ false
-none-onward k x Option.none e = refl
-none-onward k x (Option.some s) e = go (allows k.id x)
+none-onward k x None e = refl
+none-onward k x (Some s) e = go (allows k.id x)
   where
     go : (b : Bool) → not (b || allowed_in k.id s.marks) ≡ false
     go true = refl
@@ -149,13 +148,13 @@ none-onward k x (Option.some s) e = go (allows k.id x)
 
 -- an allow of its session ends every start
 pub none_allowed : (k : Key) (i : List ℕ) (s : Option Stretch) → equals k.id i ≡ true → start_stands k (onward (Mark.allow i) s) ≡ false
-none_allowed k i Option.none e = refl
-none_allowed k i (Option.some s) e = rw e
+none_allowed k i None e = refl
+none_allowed k i (Some s) e = rw e
 
 pub none_read : (m : List Mark) (k : Key) (d : Command) (x : Option Heard) → NoneStands m k
     → NoneStands (hearing_mark x (Mark.read d ∷ m)) k
-none_read m k d Option.none e = none-onward k (Mark.read d) (since k m) e
-none_read m k d (Option.some a) e =
+none_read m k d None e = none-onward k (Mark.read d) (since k m) e
+none_read m k d (Some a) e =
     none-onward k (Mark.asked a) (onward (Mark.read d) (since k m)) (none-onward k (Mark.read d) (since k m) e)
 
 pub none-noted : (m : List Mark) (k : Key) (i : List ℕ) → NoneStands m k → NoneStands (Mark.allow i ∷ m) k × NoneStands (Mark.drop i ∷ m) k
@@ -173,8 +172,8 @@ none-answered m k d a true ask e f = rw (ask, starts_other k d a e) (none-onward
 -- ---- a session
 pub holds_read : {i : List ℕ} {m : List Mark} (d : Command) (x : Option Heard) → (is_end d && equals i (id_of d)) ≡ false
     → Holds false i m → Holds (is_heard x) i (hearing_mark x (Mark.read d ∷ m))
-holds_read d Option.none e (standing h) = standing (rw e h)
-holds_read d (Option.some a) e (standing h) = standing (rw e h)
+holds_read d None e (standing h) = standing (rw e h)
+holds_read d (Some a) e (standing h) = standing (rw e h)
 holds_read d x e (committing f g) = no_way (sym f)
 
 pub holds-answered : {i : List ℕ} {m : List Mark} (q : Question) (v : Bool) → last_ask m ≡ q → commits_for i q ≡ false → Holds true i m
@@ -185,8 +184,8 @@ holds-answered q v ask e (committing f g) = no_way (sym (rw ask at g) ∙ e)
 -- it goes on standing
 pub stands_read : (i : List ℕ) (m : List Mark) (d : Command) (x : Option Heard) → (is_end d && equals i (id_of d)) ≡ false
     → stands i m ≡ true → stands i (hearing_mark x (Mark.read d ∷ m)) ≡ true
-stands_read i m d Option.none e h = rw e h
-stands_read i m d (Option.some a) e h = rw e h
+stands_read i m d None e h = rw e h
+stands_read i m d (Some a) e h = rw e h
 
 -- ---- what an open session keeps, if it goes on standing and its started files go on
 pub session_map : {b b' : Bool} {m m' : List Mark} {s : Session}
@@ -252,5 +251,5 @@ session-answered {m} d a v ask s other =
 
 -- ---- what was supplied and written: a command read, and an ask heard or none
 pub served-read : (m : List Mark) (d : Command) (x : Option Heard) → Served m → Served (hearing_mark x (Mark.read d ∷ m))
-served-read m d Option.none h k = h k
-served-read m d (Option.some a) h k = ap (λ (l : List Part). cond (wants k (Question.asks d a)) [] l) (h k)
+served-read m d None h k = h k
+served-read m d (Some a) h k = ap (λ (l : List Part). cond (wants k (Question.asks d a)) [] l) (h k)

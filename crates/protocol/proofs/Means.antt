@@ -21,7 +21,7 @@ use Rattle.command.proofs.ReadValues.{of_text}
 use Rattle.command.proofs.Simulation.{read-means, read_length}
 use Rattle.command.proofs.SimulationHeld.{Held, read_held}
 use Rattle.protocol.specs.Sessions.{string_in, id_in, file_id_in}
-use Rattle.protocol.proofs.Refusals.{Named, meaning-named, meaning-refusal}
+use Rattle.protocol.proofs.TextLaws.{Named, meaning-named, meaning-refusal}
 
 -- the command c, read from the text with that scratch afterwards, is the command d
 pub record Means (c : PlacedCommand) (text scratch : List ℕ) (d : List Value) : Type 0 where

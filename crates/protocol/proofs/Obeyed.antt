@@ -2,9 +2,9 @@
 use Prim.Native.Nat.{ℕ, ◌<◌}
 use mathlib.Core.Path.{◌≡◌, ◌∙◌}
 use mathlib.Core.Bool.{true, false}
-use mathlib.Core.Option.{Option}
 use mathlib.Core.List.{List, ◌∷◌}
 use lib.ListN.{length, get_or, set}
+use Rattle.std.specs.Prelude.{Option, Some, None}
 use Rattle.octets.specs.Slices.{equals}
 use Rattle.command.specs.Meaning as Meaning
 use Rattle.command.specs.declared.Command.{Command as PlacedCommand}
@@ -16,14 +16,12 @@ use Rattle.protocol.specs.History.{Command, Heard, hearing, Mark, hearing_mark, 
 use Rattle.protocol.specs.Stretches.{AllStand}
 use Rattle.protocol.specs.Machine.{is_unfed}
 use Rattle.protocol.specs.Sound.{Sound}
+use Rattle.protocol.specs.declared.Due.{Due}
 use Rattle.protocol.specs.declared.Session.{Session}
-use Rattle.protocol.specs.declared.Owed.{Owed}
-use Rattle.protocol.specs.declared.Owed.TheVariants as Owed
 use Rattle.protocol.specs.declared.Table.{Table}
 use Rattle.protocol.specs.declared.Told.{Told}
 use Rattle.protocol.specs.declared.Reply.{Reply}
 use Rattle.protocol.specs.declared.Stepped.{Stepped}
-use Rattle.protocol.specs.declared.Found.TheVariants as Found
 use Rattle.protocol.proofs.Laws.{found_at, unique-other}
 use Rattle.protocol.proofs.Means.{Means}
 use Rattle.protocol.proofs.Invariant.{SessionOK, AskedLast, TableOK}
@@ -35,7 +33,7 @@ use Rattle.protocol.proofs.Puts.{put-ok}
 
 -- nothing owed
 abbrev pub idle : List Session → Table
-idle ss = table ss Owed.Nothing
+idle ss = table ss None
 
 abbrev pub session_in : List Session → ℕ → Session
 session_in ss i = get_or ss i no_session
@@ -46,8 +44,8 @@ pub record Kept (ss : List Session) (m : List Mark) (d : Command) (scratch : Lis
   pub none : NoneDone (idle ss) out.table
   pub taken : is_unfed out.told ≡ false
 
-pub kept-plain : {ss : List Session} {m : List Mark} {d : Command} {scratch : List ℕ} (t : Table) (w : Told) (r : Reply) → is_plain w ≡ true
-    → TableOK t (Mark.read d ∷ m) → NoneDone (idle ss) t → Kept ss m d scratch (stepped t w r)
+pub kept-plain : {ss : List Session} {m : List Mark} {d : Command} {scratch : List ℕ} (t : Table) (w : Told) (r : Option Reply)
+    → is_plain w ≡ true → TableOK t (Mark.read d ∷ m) → NoneDone (idle ss) t → Kept ss m d scratch (stepped t w r)
 kept-plain {ss} {m} {d} {scratch} t w r e ok none =
     let p = plain w e in record { ok = rw (p.silent scratch) ok; none = none; taken = p.taken }
 
@@ -59,7 +57,7 @@ pub record Here (ss : List Session) (d : Command) (i : ℕ) : Type 0 where
 
 -- as it is found
 pub here : {ss : List Session} {c : PlacedCommand} {text scratch : List ℕ} {d : Command} → Means c text scratch d → (i : ℕ)
-    → find_session (idle ss) (id_in c text) ≡ Found.At i → Here ss d i
+    → find_session (idle ss) (id_in c text) ≡ Some i → Here ss d i
 here {ss} {c} {text} means i e =
     let f = found_at session_used id_of no_session ss (id_in c text) i e in
     record { inside = f.0; used = f.1; id = f.2 ∙ means.id }
@@ -70,7 +68,8 @@ module _ {ss : List Session} {m : List Mark} {d : Command} (sound : Sound (idle 
   others j n o = unique-other session_used id_of no_session ss i (Meaning.id_of d) sound.alone h.used h.id j n o
 
   -- it is put back as s, with an ask told and owed, or none
-  pub kept_put : {scratch : List ℕ} (s : Session) (o : Owed) (w : Told) (r : Reply) (x : Option Heard) → hearing w scratch ≡ x
+  pub kept_put : {scratch : List ℕ} (s : Session) (o : Option (ℕ × Due)) (w : Told) (r : Option Reply) (x : Option Heard)
+      → hearing w scratch ≡ x
       → is_unfed w ≡ false
       → is_owed o ≡ is_heard x
       → SessionOK (is_heard x) (hearing_mark x (Mark.read d ∷ m)) s

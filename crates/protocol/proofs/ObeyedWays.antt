@@ -2,21 +2,19 @@
 use Prim.Native.Nat.{ℕ, ◌<◌}
 use mathlib.Core.Path.{◌≡◌, refl, sym, ap, ◌∙◌, subst}
 use mathlib.Core.Bool.{Bool, true, false, not, cond}
-use mathlib.Core.Option.{Option}
 use mathlib.Core.List.{List, [], ◌∷◌}
 use native.Mathlib.Omega.{arith}
 use lib.ListN.{length}
 use lib.Seq.{get_or-set_same}
+use Rattle.std.specs.Prelude.{Option, Some, None}
 use Rattle.octets.specs.Slices.{equals}
 use Rattle.decimal.specs.declared.Number.{Number}
 use Rattle.command.specs.Meaning as Meaning
 use Rattle.command.specs.Slots as Slots
 use Rattle.command.specs.declared.Action.TheVariants as Action
 use Rattle.command.specs.declared.FileType.{FileType}
-use Rattle.command.specs.declared.FileType.TheVariants as FileType
 use Rattle.command.specs.declared.Command.{Command as PlacedCommand}
 use Rattle.protocol.specs.Table.{absent_session, no_file, file_at, id_of, file_id_of, is_used, file_used, is_free, waiting, put_file, moved}
-use Rattle.protocol.specs.Replies.{no_reply}
 use Rattle.protocol.specs.Change.{change, asks, opens, ask_of, step_by}
 use Rattle.protocol.specs.Files.{Request, opening, link_like, declared_by, is_directory, open_due, failed_file, write_due}
 use Rattle.protocol.specs.Receives.{named, request_of}
@@ -25,13 +23,10 @@ use Rattle.protocol.specs.History.{Command, Heard, hearing, Mark, hearing_mark, 
 use Rattle.protocol.specs.Stretches.{is_data, is_end, Key, part_for, content_for, declared_in, stands, StandsFor}
 use Rattle.protocol.specs.Sound.{Sound}
 use Rattle.protocol.specs.declared.FileState.{FileState}
-use Rattle.protocol.specs.declared.FileState.TheVariants as FileState
 use Rattle.protocol.specs.declared.FileRecord.{FileRecord}
 use Rattle.protocol.specs.declared.SessionState.TheVariants as SessionState
 use Rattle.protocol.specs.declared.Session.{Session}
 use Rattle.protocol.specs.declared.Due.{Due}
-use Rattle.protocol.specs.declared.Due.TheVariants as Due
-use Rattle.protocol.specs.declared.Owed.TheVariants as Owed
 use Rattle.protocol.specs.declared.Status.{Status}
 use Rattle.protocol.specs.declared.Told.TheVariants as Told
 use Rattle.protocol.specs.declared.Edit.TheVariants as Edit
@@ -116,15 +111,15 @@ module _ {ss : List Session} {c : PlacedCommand} {text scratch : List ℕ} {d : 
     is-file : is_data d ≡ false
     is-file = rw acts
 
-    opened : OpenOK true (marks (Option.some Heard.opens)) new
+    opened : OpenOK true (marks (Some Heard.opens)) new
     opened =
         let a = (ok.each i).sends o in
         put-file s j record-asked a within
-        (holds_read d (Option.some Heard.opens) (rw acts) a.stand)
-        (λ k _ w. file-read d (Option.some Heard.opens) (content-none (key_of s (file_at s k)) d is-file) (a.each k w))
+        (holds_read d (Some Heard.opens) (rw acts) a.stand)
+        (λ k _ w. file-read d (Some Heard.opens) (content-none (key_of s (file_at s k)) d is-file) (a.each k w))
         (λ (w : FileState.Opening ≡ FileState.Started). let z : ◌≡◌ {A = ℕ} 0 1 = cc in absurd (omega arith))
         (λ p. absurd (free-past (file_at s j).state (first-at is_free no_file s.files j n.room).1 p))
-        (λ g _. none_read m (file_key s g) d (Option.some Heard.opens))
+        (λ g _. none_read m (file_key s g) d (Some Heard.opens))
 
     there : file_at new j ≡ record-asked
     there = get_or-set_same s.files j _ no_file within
@@ -146,19 +141,19 @@ module _ {ss : List Session} {c : PlacedCommand} {text scratch : List ℕ} {d : 
     about FileType.Symlink e l = no_way l
     about FileType.Link e l = no_way l
 
-    hears-open : (b : Bool) → hearing (Told.Ask (ask_of c.payload (open_due b j))) scratch ≡ Option.some Heard.opens
+    hears-open : (b : Bool) → hearing (Told.Ask (ask_of c.payload (open_due b j))) scratch ≡ Some Heard.opens
     hears-open true = refl
     hears-open false = refl
 
     open_kept : Keeps (opens j record-asked (open_due (is_directory q.type) j))
     open_kept =
         let due = open_due (is_directory q.type) j in
-        kept_put sound ok h new (Owed.For i due) _ no_reply (Option.some Heard.opens) (hears-open (is_directory q.type)) refl refl
+        kept_put sound ok h new (Some (i, due)) _ None (Some Heard.opens) (hears-open (is_directory q.type)) refl refl
         (record { sends = λ _. opened; serves = λ e. no_way (sym e ∙ ap is_supplied o) })
         (asked_here ss i new (Question.asks d Heard.opens) due h.inside
         (record { command = d; heard = Heard.opens; asked = refl; id = h.id; about = about q.type refl type-ok }))
         (tt, ok.told)
-        (none-file (idle ss) i j record-asked (Owed.For i due)
+        (none-file (idle ss) i j record-asked (Some (i, due))
         (λ (e : FileState.Opening ≡ FileState.Done). let z : ◌≡◌ {A = ℕ} 0 1 = cc in omega arith))
 
   -- ---- a part for a started file
@@ -179,17 +174,17 @@ module _ {ss : List Session} {c : PlacedCommand} {text scratch : List ℕ} {d : 
     failed-kept : (w : Status) → Keeps (failed_file s j w)
     failed-kept w =
         let f = moved (file_at s j) FileState.Failed (file_at s j).count in
-        kept_put sound ok h (put_file s j f) Owed.Nothing (Told.Status w) _ Option.none refl refl refl
+        kept_put sound ok h (put_file s j f) None (Told.Status w) _ None refl refl refl
         (record {
-          sends = λ _. put-file s j f s-ok file.0 (holds_read d Option.none (rw ends_not) s-ok.stand)
+          sends = λ _. put-file s j f s-ok file.0 (holds_read d None (rw ends_not) s-ok.stand)
               (λ n u v. let k = key_of s (file_at s n) in
-              file-read d Option.none (content-other k d (file-other k d (other-file n u v))) (s-ok.each n v))
+              file-read d None (content-other k d (file-other k d (other-file n u v))) (s-ok.each n v))
               (λ (e : FileState.Failed ≡ FileState.Started). let z : ◌≡◌ {A = ℕ} 0 1 = cc in absurd (omega arith))
-              (λ _. (refl, refl)) (λ g _. none_read m (file_key s g) d Option.none);
+              (λ _. (refl, refl)) (λ g _. none_read m (file_key s g) d None);
           serves = λ e. no_way (sym e ∙ ap is_supplied o);
         })
         tt ok.told
-        (none-file (idle ss) i j f Owed.Nothing (λ (e : FileState.Failed ≡ FileState.Done). let z : ◌≡◌ {A = ℕ} 0 1 = cc in omega arith))
+        (none-file (idle ss) i j f None (λ (e : FileState.Failed ≡ FileState.Done). let z : ◌≡◌ {A = ℕ} 0 1 = cc in omega arith))
       where
         other-file : (n : ℕ) → (n ≡ j → ⊥) → (file_at s n).state ≡ FileState.Started
             → equals (file_id_of (file_at s n)) (Meaning.file_id_of d) ≡ false
@@ -206,12 +201,12 @@ module _ {ss : List Session} {c : PlacedCommand} {text scratch : List ℕ} {d : 
       part_content true k = rw (brings_as ∙ p.brings)
       part_content false k = rw (brings_as ∙ p.brings)
 
-      part-stands : (v : Bool) → StandsFor (Option.some d) (write_heard v (Meaning.data_of d)) (Mark.read d ∷ m)
+      part-stands : (v : Bool) → StandsFor (Some d) (write_heard v (Meaning.data_of d)) (Mark.read d ∷ m)
       part-stands true = rw ends_not (subst (λ (x : List ℕ). stands x m ≡ true) h.id (stands-still s-ok.stand))
       part-stands false = rw ends_not (subst (λ (x : List ℕ). stands x m ≡ true) h.id (stands-still s-ok.stand))
 
       hears-part : (v : Bool)
-          → hearing (Told.Ask (ask_of c.payload (write_due v j q.long))) scratch ≡ Option.some (write_heard v (Meaning.data_of d))
+          → hearing (Told.Ask (ask_of c.payload (write_due v j q.long))) scratch ≡ Some (write_heard v (Meaning.data_of d))
       hears-part true = rw means.part
       hears-part false = rw means.part
 
@@ -222,40 +217,40 @@ module _ {ss : List Session} {c : PlacedCommand} {text scratch : List ℕ} {d : 
       write_kept : Keeps (asks (write_due last j q.long))
       write_kept =
           let due = write_due last j q.long in
-          kept_put sound ok h s (Owed.For i due) _ no_reply (Option.some heard) (hears-part last) refl refl
-          (stays (Option.some heard) ends_not (λ _ n _. part_content last (key_of s (file_at s n))))
+          kept_put sound ok h s (Some (i, due)) _ None (Some heard) (hears-part last) refl refl
+          (stays (Some heard) ends_not (λ _ n _. part_content last (key_of s (file_at s n))))
           (asked_here ss i s (Question.asks d heard) due h.inside
           (record { command = d; heard = heard; asked = refl; id = h.id; about = part-about last }))
           (part-stands last, ok.told)
-          (none-put (idle ss) i s (Owed.For i due) (λ n g. (g, refl, refl, refl)))
+          (none-put (idle ss) i s (Some (i, due)) (λ n g. (g, refl, refl, refl)))
 
   -- ---- a commit is asked: the session stands no more
   commit-kept : s.state ≡ SessionState.Open → is_data d ≡ false → Keeps (asks Due.Commit)
   commit-kept o b =
-      kept_put sound ok h s (Owed.For i Due.Commit) _ no_reply (Option.some Heard.commits) refl refl refl
-      (session-heard d m (Option.some Heard.commits) s (λ _ _. committing refl (equals-same _ _ h.id))
+      kept_put sound ok h s (Some (i, Due.Commit)) _ None (Some Heard.commits) refl refl refl
+      (session-heard d m (Some Heard.commits) s (λ _ _. committing refl (equals-same _ _ h.id))
       (λ _ j _. content-none (key_of s (file_at s j)) d b) (λ e. no_way (sym e ∙ ap is_supplied o)) (ok.each i))
       (asked_here ss i s (Question.asks d Heard.commits) Due.Commit h.inside
       (record { command = d; heard = Heard.commits; asked = refl; id = h.id; about = refl }))
       (tt, ok.told)
-      (none-put (idle ss) i s (Owed.For i Due.Commit) (λ n g. (g, refl, refl, refl)))
+      (none-put (idle ss) i s (Some (i, Due.Commit)) (λ n g. (g, refl, refl, refl)))
 
   -- ---- paths: one that names them is not open, nor is one that waits
-  path-kept : (j : ℕ) → s.state ≡ SessionState.Naming → Keeps (change (Edit.Filed j) (named q.file) (News.Tells Told.Path) no_reply)
+  path-kept : (j : ℕ) → s.state ≡ SessionState.Naming → Keeps (change (Edit.Filed j) (named q.file) (News.Tells Told.Path) None)
   path-kept j o =
-      kept_put sound ok h (put_file s j (named q.file)) Owed.Nothing Told.Path no_reply Option.none refl refl refl
+      kept_put sound ok h (put_file s j (named q.file)) None Told.Path None None refl refl refl
       (shut_ok
       (λ (z : s.state ≡ SessionState.Open). let x : SessionState.Naming ≡ SessionState.Open = sym o ∙ z in
       let w : ◌≡◌ {A = ℕ} 0 1 = cc in omega arith) (ap is_supplied o))
       tt ok.told
-      (none-file (idle ss) i j (named q.file) Owed.Nothing
+      (none-file (idle ss) i j (named q.file) None
       (λ (e : FileState.Named ≡ FileState.Done). let z : ◌≡◌ {A = ℕ} 0 1 = cc in omega arith))
 
-  last-kept : Keeps (change Edit.Waits no_file (News.Tells Told.LastPath) no_reply)
+  last-kept : Keeps (change Edit.Waits no_file (News.Tells Told.LastPath) None)
   last-kept =
-      kept_put sound ok h (waiting s) Owed.Nothing Told.LastPath no_reply Option.none refl refl refl
+      kept_put sound ok h (waiting s) None Told.LastPath None None refl refl refl
       (shut_ok (λ (z : SessionState.Waiting ≡ SessionState.Open). let w : ◌≡◌ {A = ℕ} 0 1 = cc in omega arith) refl)
-      tt ok.told (none_free (idle ss) i (waiting s) Owed.Nothing free-files)
+      tt ok.told (none_free (idle ss) i (waiting s) None free-files)
 
   -- ---- a request: the session stands, and its first record has the command's file id
   module _ (o : s.state ≡ SessionState.Serving) (a : q.action ≡ Action.File) where
@@ -266,7 +261,7 @@ module _ {ss : List Session} {c : PlacedCommand} {text scratch : List ℕ} {d : 
     acts-file = acts_as means Action.File a
 
     still-stands : (k : List ℕ) → id_of s ≡ k → stands k (Mark.read d ∷ m) ≡ true
-    still-stands k e = stands_read k m d Option.none (rw acts-file) (rw (← e) ((ok.each i).serves (ap is_supplied o)))
+    still-stands k e = stands_read k m d None (rw acts-file) (rw (← e) ((ok.each i).serves (ap is_supplied o)))
 
     first-id : file_id_of (file_at asked-for 0) ≡ Meaning.file_id_of d
     first-id =
@@ -275,7 +270,7 @@ module _ {ss : List Session} {c : PlacedCommand} {text scratch : List ℕ} {d : 
 
     request-kept : Keeps (request_of q.file)
     request-kept =
-        kept_put sound ok h asked-for (Owed.For i Due.Request) _ no_reply (Option.some Heard.requests) refl refl refl
+        kept_put sound ok h asked-for (Some (i, Due.Request)) _ None (Some Heard.requests) refl refl refl
         (record {
           sends = λ (z : s.state ≡ SessionState.Open). let x : SessionState.Serving ≡ SessionState.Open = sym o ∙ z in
               let w : ◌≡◌ {A = ℕ} 0 1 = cc in absurd (omega arith);
@@ -284,21 +279,21 @@ module _ {ss : List Session} {c : PlacedCommand} {text scratch : List ℕ} {d : 
         (asked_here ss i asked-for (Question.asks d Heard.requests) Due.Request h.inside
         (record { command = d; heard = Heard.requests; asked = refl; id = h.id; about = (refl, first-id) }))
         (still-stands (Meaning.id_of d) h.id, ok.told)
-        (none-file (idle ss) i 0 (named q.file) (Owed.For i Due.Request)
+        (none-file (idle ss) i 0 (named q.file) (Some (i, Due.Request))
         (λ (e : FileState.Named ≡ FileState.Done). let z : ◌≡◌ {A = ℕ} 0 1 = cc in omega arith))
 
   -- ---- whatever the way
   pub way-kept : {x : Change} → Way s q x → Keeps x
   way-kept (nothing w r e _ f g) =
       let p = plain w e in
-      kept_put sound ok h s Owed.Nothing w r Option.none (p.silent scratch) p.taken refl
-      (stays Option.none (ends_as ∙ f)
+      kept_put sound ok h s None w r None (p.silent scratch) p.taken refl
+      (stays None (ends_as ∙ f)
       (λ o. nothing-brought (is_data d) refl (λ n u b. for-none s q (sound.each i).alone (g o (sym brings_as ∙ b)) n u)))
-      tt ok.told (none-put (idle ss) i s Owed.Nothing (λ n u. (u, refl, refl, refl)))
+      tt ok.told (none-put (idle ss) i s None (λ n u. (u, refl, refl, refl)))
   way-kept (dropped w r e _) =
       let p = plain w e in
-      kept_put sound ok h absent_session Owed.Nothing w r Option.none (p.silent scratch) p.taken refl absent-ok tt ok.told
-      (none_free (idle ss) i absent_session Owed.Nothing free-files)
+      kept_put sound ok h absent_session None w r None (p.silent scratch) p.taken refl absent-ok tt ok.told
+      (none_free (idle ss) i absent_session None free-files)
   way-kept (open_asked j o n t) = open_kept j o n t
   way-kept (part_failed j w o p) = failed-kept j o p w
   way-kept (write_asked last j o p _ _ _) = write_kept j o p last

@@ -8,11 +8,12 @@ use native.Mathlib.Omega.{arith}
 use lib.ListN.{length}
 use lib.Dec.{ltb}
 use borrow.Author.Tests.{ltb-false}
+use Rattle.std.specs.Prelude.{Option, Some, None}
 use Rattle.octets.specs.Outcome.{Outcome, outcome}
 use Rattle.frames.specs.Calls.{scan_of, text_of}
 use Rattle.frames.proofs.CallLaws.{call-report, consumed_le, consumes}
 use Rattle.protocol.specs.Table.{session_at, find_session}
-use Rattle.protocol.specs.Replies.{reply_room, no_reply}
+use Rattle.protocol.specs.Replies.{reply_room}
 use Rattle.command.specs.Slots.{nowhere}
 use Rattle.frames.proofs.Choices.{by_cond}
 use Rattle.protocol.specs.Change.{tells, told_by, telling, step_by}
@@ -25,19 +26,14 @@ use Rattle.protocol.specs.Machine.{ours, is_unfed, is_refused}
 use Rattle.protocol.specs.Promises.{Sized, FeedPromise, CallPromise, SupplyPromise, EveryCall}
 use Rattle.protocol.specs.declared.Session.{Session}
 use Rattle.protocol.specs.declared.Due.{Due}
-use Rattle.protocol.specs.declared.Owed.{Owed}
-use Rattle.protocol.specs.declared.Owed.TheVariants as Owed
 use Rattle.protocol.specs.declared.Table.{Table}
 use Rattle.protocol.specs.declared.Receiver.{Receiver}
 use Rattle.protocol.specs.declared.Failure.{Failure}
 use Rattle.protocol.specs.declared.Decision.{Decision}
-use Rattle.protocol.specs.declared.Decision.TheVariants as Decision
 use Rattle.protocol.specs.declared.Told.TheVariants as Told
 use Rattle.protocol.specs.declared.Change.{Change}
 use Rattle.protocol.specs.declared.Stepped.{Stepped}
 use Rattle.protocol.specs.declared.Answered.{Answered}
-use Rattle.protocol.specs.declared.Found.{Found}
-use Rattle.protocol.specs.declared.Found.TheVariants as Found
 use Rattle.protocol.proofs.Laws.{no_way}
 use Rattle.protocol.proofs.Backs.{told-step}
 use Rattle.protocol.proofs.Tellings.{plain, AnswerTold, done-told, failed-told, unlisted-told}
@@ -50,12 +46,12 @@ use Rattle.protocol.proofs.CutsCalls.{report-taken}
 
 -- ---- a step that is a refusal leaves the table, and replies nothing
 abbrev Leaves : Table → Stepped → Type 0
-Leaves t s = is_refused s.told ≡ true → (s.table ≡ t) × (s.reply ≡ no_reply)
+Leaves t s = is_refused s.told ≡ true → (s.table ≡ t) × (s.reply ≡ None)
 
 -- by a change of one session that is not refused, or that only tells the refusal
 module _ (t : Table) (i : ℕ) where
-  refusal-leaves : (n : ℕ) → Leaves t (step_by t i nowhere (tells (Told.Refused n) no_reply))
-  refusal-leaves n e = let s = told-step t i nowhere (Told.Refused n) no_reply in (ap (λ (x : Stepped). x.table) s, refl)
+  refusal-leaves : (n : ℕ) → Leaves t (step_by t i nowhere (tells (Told.Refused n) None))
+  refusal-leaves n e = let s = told-step t i nowhere (Told.Refused n) None in (ap (λ (x : Stepped). x.table) s, refl)
 
   asked-leaves : (c : Change) → is_refused (told_by nowhere c.news) ≡ false
       → Leaves t (step_by t i nowhere (cond (is_asked (session_at t i).state) c not_asked))
@@ -72,9 +68,9 @@ decided-leaves t d id = found (find_session t id)
     step i Decision.Deny = asked-leaves t i (denied (session_at t i)) refl
     step i Decision.Drop = λ e. no_way (sym e)
 
-    found : (f : Found) → Leaves t (decided_at t d f)
-    found Found.Nowhere = λ _. (refl, refl)
-    found (Found.At i) = step i d
+    found : (f : Option ℕ) → Leaves t (decided_at t d f)
+    found None = λ _. (refl, refl)
+    found (Some i) = step i d
 
 -- an answer is refused where nothing is owed, and for one that is out of turn
 module _ (t : Table) (f : Session → Due → Change) (told : (s : Session) (d : Due) → AnswerTold (f s d)) where
@@ -85,9 +81,9 @@ module _ (t : Table) (f : Session → Due → Change) (told : (s : Session) (d :
       go {c} (AnswerTold.taken l) e = no_way (sym e ∙ (plain (told_by nowhere c.news) l).accepted)
       go {c} (AnswerTold.refused z) e = rw z (refusal-leaves t i 18 refl)
 
-  answered-leaves : (o : Owed) → Leaves t (answered_with t f o)
-  answered-leaves Owed.Nothing = λ _. (refl, refl)
-  answered-leaves (Owed.For i d) = answer-leaves i d
+  answered-leaves : (o : Option (ℕ × Due)) → Leaves t (answered_with t f o)
+  answered-leaves None = λ _. (refl, refl)
+  answered-leaves (Some (i, d)) = answer-leaves i d
 
 done-leaves : (t : Table) → Leaves t (settle_done t)
 unfolding settle_done
@@ -101,9 +97,9 @@ unlisted-leaves : (t : Table) → Leaves t (settle_unlisted t)
 unfolding settle_unlisted
 unlisted-leaves t = go t.owed
   where
-    go : (o : Owed) → Leaves t (unlisted_for t o)
-    go Owed.Nothing = λ _. (refl, refl)
-    go (Owed.For i d) = answer-leaves t unlisted_by unlisted-told i d
+    go : (o : Option (ℕ × Due)) → Leaves t (unlisted_for t o)
+    go None = λ _. (refl, refl)
+    go (Some (i, d)) = answer-leaves t unlisted_by unlisted-told i d
 
 -- ---- a call that is lent a reply buffer
 call-promise : (r : Receiver) (s : Stepped) (reply : List ℕ) → Leaves r.table s → SizedStep s → CallPromise r reply (guarded r s reply)
@@ -116,7 +112,7 @@ call-promise r s reply leaves z = go (ltb (length reply) reply_room) refl
     go true e = record { refused = λ _. (refl, refl, refl); short = omega arith }
     go false e =
         record {
-          refused = λ q. let l = leaves q in rw (l.0, l.1, not-due no_reply reply refl) (refl, refl, refl);
+          refused = λ q. let l = leaves q in rw (l.0, l.1, not-due reply) (refl, refl, refl);
           short = (reply-sent s.reply reply z.reply (ltb-false _ _ e)).short;
         }
 

@@ -9,6 +9,7 @@ use native.Mathlib.Omega.{arith}
 use lib.ListN.{length, set}
 use native.Mathlib.Decide.{ℕ_discrete}
 use lib.Seq.{get_or-set_same, get_or-set_other}
+use Rattle.std.specs.Prelude.{Option, Some}
 use Rattle.protocol.specs.Table.{file_room, absent_session, no_file, no_session, session_at, file_at, id_of, file_id_of, put_file}
 use Rattle.protocol.specs.Calls.{is_owed}
 use Rattle.protocol.specs.History.{Mark, Question, last_ask}
@@ -16,13 +17,10 @@ use Rattle.protocol.specs.Stretches.{Key, AllStand}
 use Rattle.protocol.specs.Machine.{is_refused}
 use Rattle.protocol.specs.Claim.{Closes}
 use Rattle.protocol.specs.declared.FileState.{FileState}
-use Rattle.protocol.specs.declared.FileState.TheVariants as FileState
 use Rattle.protocol.specs.declared.FileRecord.{FileRecord}
 use Rattle.protocol.specs.declared.SessionState.TheVariants as SessionState
 use Rattle.protocol.specs.declared.Session.{Session}
 use Rattle.protocol.specs.declared.Due.{Due}
-use Rattle.protocol.specs.declared.Owed.{Owed}
-use Rattle.protocol.specs.declared.Owed.TheVariants as Owed
 use Rattle.protocol.specs.declared.Table.{Table}
 use Rattle.protocol.specs.declared.Stepped.{Stepped}
 use Rattle.protocol.proofs.Done.{state_at, WasDone, NoneDone, none_le}
@@ -43,7 +41,7 @@ pub free-done : {A : Type 0} → FileState.Free ≡ FileState.Done → A
 free-done e = let z : ◌≡◌ {A = ℕ} 0 1 = cc in absurd (omega arith)
 
 -- ---- a session
-pub put-ok : (t : Table) {m : List Mark} (i : ℕ) (s : Session) (o : Owed) → i < length t.sessions
+pub put-ok : (t : Table) {m : List Mark} (i : ℕ) (s : Session) (o : Option (ℕ × Due)) → i < length t.sessions
     → ((j : ℕ) → (j ≡ i → ⊥) → SessionOK (is_owed o) m (session_at t j))
     → SessionOK (is_owed o) m s
     → AskedLast (set t.sessions i s) (last_ask m) o
@@ -98,35 +96,35 @@ put-file {b} {b'} {m} {m'} s j f ok h hold there here past goes =
 -- ---- what is owed
 -- for a session that stays as it is
 pub asked-other : (ss : List Session) (i k : ℕ) (s : Session) (q : Question) (d : Due) → (k ≡ i → ⊥)
-    → AskedLast ss q (Owed.For k d) → AskedLast (set ss i s) q (Owed.For k d)
+    → AskedLast ss q (Some (k, d)) → AskedLast (set ss i s) q (Some (k, d))
 asked-other ss i k s q d n a = rw (get_or-set_other ss i k s no_session n) a
 
 -- for the session that is put
 pub asked_here : (ss : List Session) (i : ℕ) (s : Session) (q : Question) (d : Due) → i < length ss → Asking s q d
-    → AskedLast (set ss i s) q (Owed.For i d)
+    → AskedLast (set ss i s) q (Some (i, d))
 asked_here ss i s q d h a = rw (get_or-set_same ss i s no_session h) a
 
 -- ---- no record turns done: one that is done was so before
-pub none-same : (t : Table) (o : Owed) → NoneDone t (table t.sessions o)
+pub none-same : (t : Table) (o : Option (ℕ × Due)) → NoneDone t (table t.sessions o)
 none-same t o i j q = (q, refl, refl, refl)
 
-pub none-put : (t : Table) (i : ℕ) (s : Session) (o : Owed)
+pub none-put : (t : Table) (i : ℕ) (s : Session) (o : Option (ℕ × Due))
     → ((j : ℕ) → (file_at s j).state ≡ FileState.Done → WasDone (session_at t i) s j)
     → NoneDone t (table (set t.sessions i s) o)
 none-put t i s o h i' j =
     set-any (λ (n : ℕ) (x : Session). (file_at x j).state ≡ FileState.Done → WasDone (session_at t n) x j)
     t.sessions i s no_session (h j) (λ n q. (q, refl, refl, refl)) i'
 
-pub none_free : (t : Table) (i : ℕ) (s : Session) (o : Owed) → ((j : ℕ) → (file_at s j).state ≡ FileState.Free)
+pub none_free : (t : Table) (i : ℕ) (s : Session) (o : Option (ℕ × Due)) → ((j : ℕ) → (file_at s j).state ≡ FileState.Free)
     → NoneDone t (table (set t.sessions i s) o)
 none_free t i s o free = none-put t i s o (λ j q. free-done (sym (free j) ∙ q))
 
 -- the table with a record put at a place
-abbrev pub with_file : Table → ℕ → ℕ → FileRecord → Owed → Table
+abbrev pub with_file : Table → ℕ → ℕ → FileRecord → Option (ℕ × Due) → Table
 with_file t i j f o = table (set t.sessions i (put_file (session_at t i) j f)) o
 
 -- a record put at a place is the only one that can turn done
-pub only-there : (t : Table) (i j : ℕ) (f : FileRecord) (o : Owed) (i' j' : ℕ) → let t' = with_file t i j f o in
+pub only-there : (t : Table) (i j : ℕ) (f : FileRecord) (o : Option (ℕ × Due)) (i' j' : ℕ) → let t' = with_file t i j f o in
     state_at t' i' j' ≡ FileState.Done
     → WasDone (session_at t i') (session_at t' i') j' ⊎ ((i' ≡ i) × (j' ≡ j) × (f.state ≡ FileState.Done))
 only-there t i j f o i' j' =
@@ -153,7 +151,7 @@ only-there t i j f o i' j' =
     here (inl q) = inl (q.0, q.1, q.2, refl)
     here (inr q) = inr (refl, q.0, q.1)
 
-pub none-file : (t : Table) (i j : ℕ) (f : FileRecord) (o : Owed) → (f.state ≡ FileState.Done → ⊥)
+pub none-file : (t : Table) (i j : ℕ) (f : FileRecord) (o : Option (ℕ × Due)) → (f.state ≡ FileState.Done → ⊥)
     → NoneDone t (with_file t i j f o)
 none-file t i j f o h i' j' q = go (only-there t i j f o i' j' q)
   where

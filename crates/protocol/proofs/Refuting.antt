@@ -3,12 +3,12 @@ use Prim.Native.Nat.{ℕ, zero, suc, ◌≤◌}
 use mathlib.Core.Path.{◌≡◌, refl, sym, ap, ◌∙◌}
 use mathlib.Core.Bool.{Bool, true, false, not, cond, ◌&&◌, ◌||◌}
 use mathlib.Core.Logic.{◌⊎◌, inl, inr}
-use mathlib.Core.Option.{Option}
 use mathlib.Core.List.{List, [], ◌∷◌, ◌++◌}
 use native.Mathlib.Omega.{arith}
 use lib.ListN.{length, take, drop, get_or, replicate}
 use lib.Dec.{eqb}
 use borrow.Author.Tests.{eq-eqb, eqb-false}
+use Rattle.std.specs.Prelude.{Option, Some, None}
 use Rattle.octets.specs.Members.{every}
 use Rattle.octets.specs.Slices.{equals}
 use Rattle.octets.proofs.Below.{both_test}
@@ -32,7 +32,6 @@ use Rattle.protocol.specs.Claim.{Right, Everywhere, EveryHistory}
 use Rattle.protocol.specs.Sound.{Sound, EverySound}
 use Rattle.protocol.specs.Cuts.{AllLent, after}
 use Rattle.protocol.specs.declared.FileState.{FileState}
-use Rattle.protocol.specs.declared.FileState.TheVariants as FileState
 use Rattle.protocol.specs.declared.FileRecord.{FileRecord}
 use Rattle.protocol.specs.declared.Session.{Session}
 use Rattle.protocol.specs.declared.Table.{Table}
@@ -211,8 +210,8 @@ is_declared_lem d n h = go (eqb d 0) refl
 
 -- start, parts, contents, count and declared length
 abbrev is_whole : Key → Option Stretch → ℕ → Bool
-is_whole k Option.none n = false
-is_whole k (Option.some s) n =
+is_whole k None n = false
+is_whole k (Some s) n =
     equals (parts k s.marks) (contents k s.marks) &&
     (eqb n (length (contents k s.marks)) && is_declared (declared_in s.command) n)
 

@@ -13,7 +13,6 @@ use Rattle.protocol.specs.Replies.{reply_room}
 use Rattle.frames.specs.Stream.{text_limit}
 use Rattle.octets.specs.Outcome.{Outcome}
 use Rattle.frames.specs.declared.Report.{Report}
-use Rattle.frames.specs.declared.Report.TheVariants as Report
 use Rattle.command.specs.Read.{scratch_room, Answer, read_of}
 use Rattle.protocol.specs.Calls.{read_act, report_act, is_short}
 use Rattle.protocol.specs.Promises.{Sized}

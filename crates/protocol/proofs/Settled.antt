@@ -2,16 +2,16 @@
 use Prim.Native.Nat.{ℕ, ◌<◌}
 use mathlib.Core.Path.{◌≡◌, refl, sym, ap, subst, ◌∙◌}
 use mathlib.Core.Bool.{Bool, true, false}
-use mathlib.Core.Option.{Option}
 use mathlib.Core.List.{List, ◌∷◌}
 use native.Mathlib.Omega.{arith}
 use lib.ListN.{length, set}
+use Rattle.std.specs.Prelude.{Option, Some, None}
 use Rattle.octets.specs.Slices.{equals}
 use Rattle.command.specs.Slots.{nowhere}
 use Rattle.command.specs.Meaning as Meaning
 use Rattle.protocol.specs.Table.{absent_session, no_file, no_session, session_at, file_at, id_of, file_id_of, session_used, file_used}
 use Rattle.protocol.specs.Table.{is_present, is_used, put_file, moved}
-use Rattle.protocol.specs.Replies.{no_reply, session_reply, failure_status}
+use Rattle.protocol.specs.Replies.{session_reply, failure_status}
 use Rattle.protocol.specs.Change.{drops, cleared, told_by, after, step_by}
 use Rattle.protocol.specs.Files.{failed_file}
 use Rattle.protocol.specs.Receives.{request_fails}
@@ -22,19 +22,13 @@ use Rattle.protocol.specs.Stretches.{Key, is_for, starts_for, part_for}
 use Rattle.protocol.specs.Machine.{is_refused}
 use Rattle.protocol.specs.Sound.{FileIs, PartFits, Fits, due_in, SoundSession, Sound}
 use Rattle.protocol.specs.declared.FileState.{FileState}
-use Rattle.protocol.specs.declared.FileState.TheVariants as FileState
 use Rattle.protocol.specs.declared.SessionState.TheVariants as SessionState
 use Rattle.protocol.specs.declared.Session.{Session}
 use Rattle.protocol.specs.declared.Due.{Due}
-use Rattle.protocol.specs.declared.Due.TheVariants as Due
-use Rattle.protocol.specs.declared.Owed.{Owed}
-use Rattle.protocol.specs.declared.Owed.TheVariants as Owed
 use Rattle.protocol.specs.declared.Table.{Table}
 use Rattle.protocol.specs.declared.Status.{Status}
-use Rattle.protocol.specs.declared.Status.TheVariants as Status
 use Rattle.protocol.specs.declared.Failure.{Failure}
 use Rattle.protocol.specs.declared.Told.{Told}
-use Rattle.protocol.specs.declared.Told.TheVariants as Told
 use Rattle.protocol.specs.declared.Reply.{Reply}
 use Rattle.protocol.specs.declared.Change.{Change}
 use Rattle.protocol.proofs.Laws.{no_way, is_past, equals-other, equals-same, unique-other}
@@ -82,10 +76,10 @@ done-start e = let z : ◌≡◌ {A = ℕ} 0 1 = cc in absurd (omega arith)
 failed-start : {A : Type 0} → FileState.Failed ≡ FileState.Started → A
 failed-start e = let z : ◌≡◌ {A = ℕ} 0 1 = cc in absurd (omega arith)
 
-module _ {ss : List Session} {i : ℕ} {due : Due} {m : List Mark} (sound : Sound (table ss (Owed.For i due)))
-    (ok : TableOK (table ss (Owed.For i due)) m) where
+module _ {ss : List Session} {i : ℕ} {due : Due} {m : List Mark} (sound : Sound (table ss (Some (i, due))))
+    (ok : TableOK (table ss (Some (i, due))) m) where
   -- what is due for it, and the ask told last
-  pub sound-here : SoundSession (session_in ss i) (Option.some due)
+  pub sound-here : SoundSession (session_in ss i) (Some due)
   sound-here = owed-session sound refl
 
   pub inside : i < length ss
@@ -112,12 +106,12 @@ module _ {ss : List Session} {i : ℕ} {due : Due} {m : List Mark} (sound : Soun
       (ok.each j)
 
   -- the session is put back as x, and nothing is owed
-  put-answered : (v : Bool) (x : Session) → SessionOK false (answered v) x → TableOK (table (set ss i x) Owed.Nothing) (answered v)
-  put-answered v x here = put-ok (table ss (Owed.For i due)) i x Owed.Nothing inside (others-ok v) here tt ok.told ok.served
+  put-answered : (v : Bool) (x : Session) → SessionOK false (answered v) x → TableOK (table (set ss i x) None) (answered v)
+  put-answered v x here = put-ok (table ss (Some (i, due))) i x None inside (others-ok v) here tt ok.told ok.served
 
 -- ---- in an open send session
-module _ {ss : List Session} {i : ℕ} {due : Due} {m : List Mark} (sound : Sound (table ss (Owed.For i due)))
-    (ok : TableOK (table ss (Owed.For i due)) m) (sends : due_in due ≡ SessionState.Open) where
+module _ {ss : List Session} {i : ℕ} {due : Due} {m : List Mark} (sound : Sound (table ss (Some (i, due))))
+    (ok : TableOK (table ss (Some (i, due))) m) (sends : due_in due ≡ SessionState.Open) where
   abbrev s : Session
   s = session_in ss i
 
@@ -138,7 +132,7 @@ module _ {ss : List Session} {i : ℕ} {due : Due} {m : List Mark} (sound : Soun
       → ((k : List ℕ) → commits_for k (Question.asks asked_of.command asked_of.heard) ≡ false)
       → (g : FileState) → is_past g ≡ true → (n : ℕ)
       → (g ≡ FileState.Started → RecordOK false (answered-by v) s (moved (file_at s j) g n))
-      → TableOK (table (set ss i (put_file s j (moved (file_at s j) g n))) Owed.Nothing) (answered-by v)
+      → TableOK (table (set ss i (put_file s j (moved (file_at s j) g n))) None) (answered-by v)
   settle-file v j old u at its nc g gp n here =
       put-answered sound ok v (put_file s j (moved (file_at s j) g n))
       (record {
@@ -164,13 +158,13 @@ module _ {ss : List Session} {i : ℕ} {due : Due} {m : List Mark} (sound : Soun
   -- to an open
   settle-open : (type : ℕ) (v : Bool) (j : ℕ) → FileIs s j FileState.Opening → OpenAsked type s asked_of.command asked_of.heard j
       → (g : FileState) → is_past g ≡ true → (n : ℕ) → (g ≡ FileState.Started → RecordOK false (answered-by v) s (moved (file_at s j) g n))
-      → TableOK (table (set ss i (put_file s j (moved (file_at s j) g n))) Owed.Nothing) (answered-by v)
+      → TableOK (table (set ss i (put_file s j (moved (file_at s j) g n))) None) (answered-by v)
   settle-open type v j at w = settle-file v j FileState.Opening refl at w.file (λ k. rw w.heard)
 
   -- to a part
   settle-part : (last v : Bool) {x : FileState} (j n : ℕ) → PartFits s x j n → PartAsked last s asked_of.command asked_of.heard j n
       → (g : FileState) → is_past g ≡ true → (c : ℕ) → (g ≡ FileState.Started → RecordOK false (answered-by v) s (moved (file_at s j) g c))
-      → TableOK (table (set ss i (put_file s j (moved (file_at s j) g c))) Owed.Nothing) (answered-by v)
+      → TableOK (table (set ss i (put_file s j (moved (file_at s j) g c))) None) (answered-by v)
   settle-part last v j n at w =
       settle-file v j FileState.Started refl at.file w.file (λ k. rw w.heard (writes-commit last k asked_of.command w.part))
 
@@ -196,13 +190,13 @@ module _ {ss : List Session} {i : ℕ} {due : Due} {m : List Mark} (sound : Soun
 -- ---- the calls
 -- what was due, and the table after the answer
 abbrev Before : List Session → ℕ → List Mark → Due → Type 0
-Before ss i m due = Sound (table ss (Owed.For i due)) × TableOK (table ss (Owed.For i due)) m
+Before ss i m due = Sound (table ss (Some (i, due))) × TableOK (table ss (Some (i, due))) m
 
 abbrev After : List Session → ℕ → List Mark → Bool → Due → Change → Type 0
-After ss i m v due c = TableOK (step_by (table ss (Owed.For i due)) i nowhere c).table (Mark.answer v (last_ask m) ∷ m)
+After ss i m v due c = TableOK (step_by (table ss (Some (i, due))) i nowhere c).table (Mark.answer v (last_ask m) ∷ m)
 
 module _ (ss : List Session) (i : ℕ) (m : List Mark) where
-  dropped-kept : (v : Bool) (due : Due) (w : Told) (r : Reply) → Before ss i m due → After ss i m v due (drops w r)
+  dropped-kept : (v : Bool) (due : Due) (w : Told) (r : Option Reply) → Before ss i m due → After ss i m v due (drops w r)
   dropped-kept v due w r b = rw (own-cleared i due) (put-answered b.0 b.1 v absent_session absent-ok)
 
   done-kept : (due : Due) → is_refused (told_by nowhere (done_by (session_in ss i) due).news) ≡ false → Before ss i m due
@@ -223,7 +217,7 @@ module _ (ss : List Session) (i : ℕ) (m : List Mark) where
   done-kept (Due.WriteLast j n) _ b =
       rw (own-cleared i (Due.WriteLast j n))
       (settle-part b.0 b.1 refl true true j n (fits b.0 b.1) (asking b.0 b.1).about FileState.Done refl _ done-start)
-  done-kept Due.Commit _ b = dropped-kept true Due.Commit Told.Committed no_reply b
+  done-kept Due.Commit _ b = dropped-kept true Due.Commit Told.Committed None b
   done-kept Due.Request q b = no_way q
 
   -- a file that fails, at its open or at a part
@@ -262,7 +256,7 @@ module _ (ss : List Session) (i : ℕ) (m : List Mark) where
   failed-kept e (Due.WriteLast j n) b =
       part-failed true (Due.WriteLast j n) j n b (fits b.0 b.1) (asking b.0 b.1).about (failure_status e) refl
   failed-kept e Due.Commit b =
-      dropped-kept false Due.Commit Told.Discarded (session_reply (failure_status e) (session_in ss i)) b
+      dropped-kept false Due.Commit Told.Discarded (Some (session_reply (failure_status e) (session_in ss i))) b
   failed-kept e Due.Request b = request-failed b (failure_status e)
 
   unlisted-kept : (due : Due) → is_refused (told_by nowhere (unlisted_by (session_in ss i) due).news) ≡ false → Before ss i m due
@@ -279,53 +273,53 @@ module _ (ss : List Session) (i : ℕ) (m : List Mark) where
 -- one that is refused adds nothing, and leaves the table
 step-noted : (v : Bool) (ss : List Session) (i : ℕ) (d : Due) (m : List Mark) (c : Change) → AnswerTold c
     → (is_refused (told_by nowhere c.news) ≡ false → Before ss i m d → After ss i m v d c)
-    → Sound (table ss (Owed.For i d)) → TableOK (table ss (Owed.For i d)) m
-    → let out = step_by (table ss (Owed.For i d)) i nowhere c in
+    → Sound (table ss (Some (i, d))) → TableOK (table ss (Some (i, d))) m
+    → let out = step_by (table ss (Some (i, d))) i nowhere c in
     TableOK out.table (noted_marks m (Mark.answer v (last_ask m)) out)
 step-noted v ss i d m c (taken q) keeps sound ok = let u = (plain (told_by nowhere c.news) q).accepted in rw u (keeps u (sound, ok))
 step-noted v ss i d m c (refused q) keeps sound ok =
-    let t = table ss (Owed.For i d) in
+    let t = table ss (Some (i, d)) in
     let left : Change → Type 0 =
     λ x. let out = step_by t i nowhere x in TableOK out.table (noted_marks m (Mark.answer v (last_ask m)) out) in
     subst left (sym q) (subst (λ (x : Table). TableOK x m) (sym (same-sessions t i t.owed)) ok)
 
-answered-noted : (v : Bool) (ss : List Session) (o : Owed) (m : List Mark) (f : Session → Due → Change)
+answered-noted : (v : Bool) (ss : List Session) (o : Option (ℕ × Due)) (m : List Mark) (f : Session → Due → Change)
     → ((x : Session) (d : Due) → AnswerTold (f x d))
     → ((i : ℕ) (d : Due) → is_refused (told_by nowhere (f (session_in ss i) d).news) ≡ false → Before ss i m d
     → After ss i m v d (f (session_in ss i) d))
     → Sound (table ss o) → TableOK (table ss o) m
     → TableOK (answered_with (table ss o) f o).table (noted_marks m (Mark.answer v (last_ask m)) (answered_with (table ss o) f o))
-answered-noted v ss Owed.Nothing m f told keeps sound ok = ok
-answered-noted v ss (Owed.For i d) m f told keeps sound ok =
+answered-noted v ss None m f told keeps sound ok = ok
+answered-noted v ss (Some (i, d)) m f told keeps sound ok =
     step-noted v ss i d m (f (session_in ss i) d) (told (session_in ss i) d) (keeps i d) sound ok
 
-pub done-noted : (ss : List Session) (o : Owed) (m : List Mark) → Sound (table ss o) → TableOK (table ss o) m
+pub done-noted : (ss : List Session) (o : Option (ℕ × Due)) (m : List Mark) → Sound (table ss o) → TableOK (table ss o) m
     → TableOK (settle_done (table ss o)).table (noted_marks m (Mark.answer true (last_ask m)) (settle_done (table ss o)))
 unfolding settle_done
 done-noted ss o m = answered-noted true ss o m done_by done-told (λ i. done-kept ss i m)
 
-pub failed-noted : (ss : List Session) (e : Failure) (o : Owed) (m : List Mark) → Sound (table ss o) → TableOK (table ss o) m
+pub failed-noted : (ss : List Session) (e : Failure) (o : Option (ℕ × Due)) (m : List Mark) → Sound (table ss o) → TableOK (table ss o) m
     → TableOK (settle_failed (table ss o) e).table (noted_marks m (Mark.answer false (last_ask m)) (settle_failed (table ss o) e))
 unfolding settle_failed
 failed-noted ss e o m = answered-noted false ss o m (failed_by e) (failed-told e) (λ i d _. failed-kept ss i m e d)
 
-pub unlisted-noted : (ss : List Session) (o : Owed) (m : List Mark) → Sound (table ss o) → TableOK (table ss o) m
+pub unlisted-noted : (ss : List Session) (o : Option (ℕ × Due)) (m : List Mark) → Sound (table ss o) → TableOK (table ss o) m
     → TableOK (settle_unlisted (table ss o)).table (noted_marks m (Mark.answer false (last_ask m)) (settle_unlisted (table ss o)))
 unfolding settle_unlisted
-unlisted-noted ss Owed.Nothing m sound ok = ok
-unlisted-noted ss (Owed.For i d) m sound ok =
+unlisted-noted ss None m sound ok = ok
+unlisted-noted ss (Some (i, d)) m sound ok =
     step-noted false ss i d m (unlisted_by (session_in ss i) d) (unlisted-told (session_in ss i) d) (unlisted-kept ss i m d) sound ok
 
 -- a session put back as it was turns no record done
-pub same_none : (ss : List Session) (i : ℕ) (d : Due) (o : Owed)
-    → NoneDone (table ss (Owed.For i d)) (table (set ss i (session_in ss i)) o)
-same_none ss i d o = none-put (table ss (Owed.For i d)) i (session_in ss i) o (λ j w. (w, refl, refl, refl))
+pub same_none : (ss : List Session) (i : ℕ) (d : Due) (o : Option (ℕ × Due))
+    → NoneDone (table ss (Some (i, d))) (table (set ss i (session_in ss i)) o)
+same_none ss i d o = none-put (table ss (Some (i, d))) i (session_in ss i) o (λ j w. (w, refl, refl, refl))
 
 -- failed turns no record done
-pub failed-none : (ss : List Session) (e : Failure) (o : Owed) → NoneDone (table ss o) (settle_failed (table ss o) e).table
+pub failed-none : (ss : List Session) (e : Failure) (o : Option (ℕ × Due)) → NoneDone (table ss o) (settle_failed (table ss o) e).table
 unfolding settle_failed failed_by
-failed-none ss e Owed.Nothing = none-same (table ss Owed.Nothing) Owed.Nothing
-failed-none ss e (Owed.For i due) = go due
+failed-none ss e None = none-same (table ss None) None
+failed-none ss e (Some (i, due)) = go due
   where
     record-failed : (t : Table) (j : ℕ) → NoneDone t (after t i (failed_file (session_at t i) j (failure_status e)))
     record-failed t j =
@@ -333,24 +327,24 @@ failed-none ss e (Owed.For i due) = go due
         none-file t i j (moved f FileState.Failed f.count) (cleared i t.owed)
         (λ (x : FileState.Failed ≡ FileState.Done). let z : ◌≡◌ {A = ℕ} 0 1 = cc in omega arith)
 
-    go : (d : Due) → let t = table ss (Owed.For i d) in NoneDone t (after t i (failed_by e (session_in ss i) d))
-    go (Due.OpenFile j) = record-failed (table ss (Owed.For i (Due.OpenFile j))) j
-    go (Due.OpenDirectory j) = record-failed (table ss (Owed.For i (Due.OpenDirectory j))) j
-    go (Due.Write j n) = record-failed (table ss (Owed.For i (Due.Write j n))) j
-    go (Due.WriteLast j n) = record-failed (table ss (Owed.For i (Due.WriteLast j n))) j
-    go Due.Commit = none_free (table ss (Owed.For i Due.Commit)) i absent_session (cleared i (Owed.For i Due.Commit)) free-files
-    go Due.Request = same_none ss i Due.Request (cleared i (Owed.For i Due.Request))
+    go : (d : Due) → let t = table ss (Some (i, d)) in NoneDone t (after t i (failed_by e (session_in ss i) d))
+    go (Due.OpenFile j) = record-failed (table ss (Some (i, Due.OpenFile j))) j
+    go (Due.OpenDirectory j) = record-failed (table ss (Some (i, Due.OpenDirectory j))) j
+    go (Due.Write j n) = record-failed (table ss (Some (i, Due.Write j n))) j
+    go (Due.WriteLast j n) = record-failed (table ss (Some (i, Due.WriteLast j n))) j
+    go Due.Commit = none_free (table ss (Some (i, Due.Commit))) i absent_session (cleared i (Some (i, Due.Commit))) free-files
+    go Due.Request = same_none ss i Due.Request (cleared i (Some (i, Due.Request)))
 
 -- nor does unlisted
-pub unlisted-none : (ss : List Session) (o : Owed) → NoneDone (table ss o) (settle_unlisted (table ss o)).table
+pub unlisted-none : (ss : List Session) (o : Option (ℕ × Due)) → NoneDone (table ss o) (settle_unlisted (table ss o)).table
 unfolding settle_unlisted unlisted_by
-unlisted-none ss Owed.Nothing = none-same (table ss Owed.Nothing) Owed.Nothing
-unlisted-none ss (Owed.For i due) = go due
+unlisted-none ss None = none-same (table ss None) None
+unlisted-none ss (Some (i, due)) = go due
   where
-    go : (d : Due) → let t = table ss (Owed.For i d) in NoneDone t (after t i (unlisted_by (session_in ss i) d))
-    go (Due.OpenFile j) = same_none ss i (Due.OpenFile j) (Owed.For i (Due.OpenFile j))
-    go (Due.OpenDirectory j) = same_none ss i (Due.OpenDirectory j) (Owed.For i (Due.OpenDirectory j))
-    go (Due.Write j n) = same_none ss i (Due.Write j n) (Owed.For i (Due.Write j n))
-    go (Due.WriteLast j n) = same_none ss i (Due.WriteLast j n) (Owed.For i (Due.WriteLast j n))
-    go Due.Commit = same_none ss i Due.Commit (Owed.For i Due.Commit)
-    go Due.Request = same_none ss i Due.Request (cleared i (Owed.For i Due.Request))
+    go : (d : Due) → let t = table ss (Some (i, d)) in NoneDone t (after t i (unlisted_by (session_in ss i) d))
+    go (Due.OpenFile j) = same_none ss i (Due.OpenFile j) (Some (i, Due.OpenFile j))
+    go (Due.OpenDirectory j) = same_none ss i (Due.OpenDirectory j) (Some (i, Due.OpenDirectory j))
+    go (Due.Write j n) = same_none ss i (Due.Write j n) (Some (i, Due.Write j n))
+    go (Due.WriteLast j n) = same_none ss i (Due.WriteLast j n) (Some (i, Due.WriteLast j n))
+    go Due.Commit = same_none ss i Due.Commit (Some (i, Due.Commit))
+    go Due.Request = same_none ss i Due.Request (cleared i (Some (i, Due.Request)))

@@ -6,6 +6,7 @@ use mathlib.Core.Bool.{true, false}
 use mathlib.Core.List.{List, ◌++◌}
 use native.Mathlib.Omega.{arith}
 use lib.ListN.{length, length-take}
+use Rattle.std.specs.Prelude.{Option, Some, None}
 use Rattle.octets.specs.Outcome.{Outcome}
 use Rattle.decimal.specs.declared.Number.{Number}
 use Rattle.command.specs.Slots.{nowhere}
@@ -14,7 +15,7 @@ use Rattle.command.specs.declared.Command.{Command}
 use Rattle.protocol.specs.Table.{zeros, id_room, file_room, session_room, free_file, absent_session, empty_table, no_file, no_session}
 use Rattle.protocol.specs.Table.{session_at, file_at, id_of, padded, find_session, first, session_used, is_absent, put_session, put_file}
 use Rattle.protocol.specs.Actions.{kind_of}
-use Rattle.protocol.specs.Replies.{no_reply, session_reply, failure_status}
+use Rattle.protocol.specs.Replies.{session_reply, failure_status}
 use Rattle.protocol.specs.Change.{change, telling, drops, edited, told_by, after, step_by}
 use Rattle.protocol.specs.Files.{Request, count_limit, is_directory, open_due, settled, failed_file, write_due}
 use Rattle.protocol.specs.Receives.{bad_paths, named, request_fails}
@@ -25,33 +26,23 @@ use Rattle.protocol.specs.Sessions.{decided_at, decided_of}
 use Rattle.protocol.specs.Supplies.{Supply, change_for, supply_of}
 use Rattle.protocol.specs.Promises.{SizedSession, Sized}
 use Rattle.protocol.specs.declared.FileState.{FileState}
-use Rattle.protocol.specs.declared.FileState.TheVariants as FileState
 use Rattle.protocol.specs.declared.FileRecord.{FileRecord}
 use Rattle.protocol.specs.declared.SessionState.TheVariants as SessionState
 use Rattle.protocol.specs.declared.Session.{Session}
 use Rattle.protocol.specs.declared.Kind.{Kind}
-use Rattle.protocol.specs.declared.Kind.TheVariants as Kind
 use Rattle.protocol.specs.declared.Due.{Due}
-use Rattle.protocol.specs.declared.Due.TheVariants as Due
-use Rattle.protocol.specs.declared.Owed.{Owed}
-use Rattle.protocol.specs.declared.Owed.TheVariants as Owed
 use Rattle.protocol.specs.declared.Table.{Table}
 use Rattle.protocol.specs.declared.Receiver.{Receiver}
 use Rattle.protocol.specs.declared.Status.{Status}
-use Rattle.protocol.specs.declared.Status.TheVariants as Status
 use Rattle.protocol.specs.declared.Failure.{Failure}
 use Rattle.protocol.specs.declared.Decision.{Decision}
-use Rattle.protocol.specs.declared.Decision.TheVariants as Decision
 use Rattle.protocol.specs.declared.Told.{Told}
-use Rattle.protocol.specs.declared.Told.TheVariants as Told
 use Rattle.protocol.specs.declared.Reply.{Reply}
 use Rattle.protocol.specs.declared.Edit.TheVariants as Edit
 use Rattle.protocol.specs.declared.News.{News}
 use Rattle.protocol.specs.declared.Change.{Change}
 use Rattle.protocol.specs.declared.Stepped.{Stepped}
 use Rattle.protocol.specs.declared.Answered.{Answered}
-use Rattle.protocol.specs.declared.Found.{Found}
-use Rattle.protocol.specs.declared.Found.TheVariants as Found
 use Rattle.frames.proofs.Choices.{by_cond}
 use Rattle.protocol.proofs.Laws.{set-any, replicate-each, found_at}
 use Rattle.protocol.proofs.Tellings.{is_plain, Tells}
@@ -74,9 +65,9 @@ record SizedChange (s : Session) (c : Change) : Type 0 where
 padded-length : (k : List ℕ) → length (padded k) ≤ id_room
 padded-length k = omega (arith, length-take id_room (k ++ zeros))
 
-free-files : (j : ℕ) → length (file_at absent_session j).id ≤ id_room
+free-files : (j : ℕ) → length (file_at absent_session j).id.bytes ≤ id_room
 free-files j =
-    replicate-each (λ (f : FileRecord). length f.id ≤ id_room) {a = free_file} {d = no_file} (omega arith) (omega arith) file_room j
+    replicate-each (λ (f : FileRecord). length f.id.bytes ≤ id_room) {a = free_file} {d = no_file} (omega arith) (omega arith) file_room j
 
 absent-sized : SizedSession absent_session
 absent-sized = record { id = omega arith; files = free-files }
@@ -87,20 +78,20 @@ empty-sized i = replicate-each SizedSession {a = absent_session} {d = no_session
 put-sized : (t : Table) (i : ℕ) (s : Session) → Sized t → SizedSession s → Sized (put_session t i s)
 put-sized t i s h k j = set-any (λ (n : ℕ) (x : Session). SizedSession x) t.sessions i s no_session k h j
 
-file-sized : (s : Session) (j : ℕ) (f : FileRecord) → SizedSession s → length f.id ≤ id_room → SizedSession (put_file s j f)
+file-sized : (s : Session) (j : ℕ) (f : FileRecord) → SizedSession s → length f.id.bytes ≤ id_room → SizedSession (put_file s j f)
 file-sized s j f h l =
-    record { id = h.id; files = set-any (λ (n : ℕ) (x : FileRecord). length x.id ≤ id_room) s.files j f no_file l h.files }
+    record { id = h.id; files = set-any (λ (n : ℕ) (x : FileRecord). length x.id.bytes ≤ id_room) s.files j f no_file l h.files }
 
 -- ---- what is replied
-pub none-sized : SizedReply no_reply
-none-sized = record { id = omega arith; file = omega arith; size = omega arith }
+pub none-sized : SizedReply None
+none-sized = tt
 
-session-sized : (w : Status) (s : Session) → SizedSession s → SizedReply (session_reply w s)
+session-sized : (w : Status) (s : Session) → SizedSession s → SizedReply (Some (session_reply w s))
 session-sized w s h = record { id = h.id; file = omega arith; size = omega arith }
 
 -- ---- the rule of one session
 module _ (s : Session) (h : SizedSession s) where
-  dropped-sized : (w : Told) (r : Reply) → SizedReply r → SizedChange s (drops w r)
+  dropped-sized : (w : Told) (r : Option Reply) → SizedReply r → SizedChange s (drops w r)
   dropped-sized w r k = record { session = absent-sized; reply = k }
 
   settled-sized : (j : ℕ) (g : FileState) (n : ℕ) (w : Status) (size : ℕ) → size ≤ count_limit → SizedChange s (settled s j g n w size)
@@ -110,18 +101,18 @@ module _ (s : Session) (h : SizedSession s) where
   code-sized : (j : ℕ) (w : Status) → SizedChange s (failed_file s j w)
   code-sized j w = settled-sized j FileState.Failed (file_at s j).count w 0 (omega arith)
 
-  about-sized : (q : Request) {r : Reply} → About s q r → SizedReply r
+  about-sized : (q : Request) {r : Option Reply} → About s q r → SizedReply r
   about-sized q nobody = none-sized
   about-sized q (session w) = session-sized w s h
   about-sized q (file w) = record { id = h.id; file = padded-length q.file; size = omega arith }
 
   -- nothing but something told or asked
-  same-sized : {w : News} → SizedChange s (change Edit.Same no_file w no_reply)
+  same-sized : {w : News} → SizedChange s (change Edit.Same no_file w None)
   same-sized = record { session = h; reply = none-sized }
 
   -- a record with the command's file id
-  filed-sized : (q : Request) (j : ℕ) (f : FileRecord) → f.id ≡ padded q.file → {w : News}
-      → SizedChange s (change (Edit.Filed j) f w no_reply)
+  filed-sized : (q : Request) (j : ℕ) (f : FileRecord) → f.id.bytes ≡ padded q.file → {w : News}
+      → SizedChange s (change (Edit.Filed j) f w None)
   filed-sized q j f e = record { session = file-sized s j f h (rw e (padded-length q.file)); reply = none-sized }
 
   way-sized : (q : Request) {c : Change} → Way s q c → SizedChange s c
@@ -141,7 +132,7 @@ module _ (s : Session) (h : SizedSession s) where
   done-change (Due.OpenDirectory j) = settled-sized j FileState.Done 0 Status.Ok 0 (omega arith)
   done-change (Due.Write j n) = settled-sized j FileState.Started (grown s j n) Status.Progress (grown s j n) (omega arith)
   done-change (Due.WriteLast j n) = settled-sized j FileState.Done (grown s j n) Status.Ok (grown s j n) (omega arith)
-  done-change Due.Commit = dropped-sized Told.Committed no_reply none-sized
+  done-change Due.Commit = dropped-sized Told.Committed None none-sized
   done-change Due.Request = same-sized
 
   request-sized : (w : Status) → SizedChange s (request_fails w s)
@@ -180,7 +171,7 @@ module _ (s : Session) (h : SizedSession s) where
   decided-change Decision.Deny =
       by_cond (SizedChange s) (is_asked s.state) (λ _. dropped-sized Told.Nothing _ (session-sized _ s h))
       (λ _. same-sized)
-  decided-change Decision.Drop = dropped-sized Told.Nothing no_reply none-sized
+  decided-change Decision.Drop = dropped-sized Told.Nothing None none-sized
 
 -- what the change of a command tells
 way-tells : (s : Session) (q : Request) (p : Place) {c : Change} → Way s q c → Tells p (told_by p c.news)
@@ -223,13 +214,13 @@ module _ (t : Table) (h : Sized t) where
     new-sized : (i : ℕ) (s : Session) → SizedSession s → (w : Told) → is_plain w ≡ true → Obeyed c (telling (put_session t i s) w)
     new-sized i s k w e = record { sized = record { table = put-sized t i s h k; reply = none-sized }; told = Tellings.tells e }
 
-    room-send : (f : Found) → Obeyed c (send_room t made f)
-    room-send Found.Nowhere = status-sized Status.Ebusy
-    room-send (Found.At i) = new-sized i made made-sized Told.Asked refl
+    room-send : (f : Option ℕ) → Obeyed c (send_room t made f)
+    room-send None = status-sized Status.Ebusy
+    room-send (Some i) = new-sized i made made-sized Told.Asked refl
 
-    room-receive : (n : Number) (f : Found) → Obeyed c (receive_room t made n f)
-    room-receive n Found.Nowhere = status-sized Status.Ebusy
-    room-receive n (Found.At i) =
+    room-receive : (n : Number) (f : Option ℕ) → Obeyed c (receive_room t made n f)
+    room-receive n None = status-sized Status.Ebusy
+    room-receive n (Some i) =
         by_cond (Obeyed c) (bad_paths n) (λ _. status-sized Status.Einval)
         (λ _. new-sized i (naming_session made n.magnitude) (record { id = made-sized.id; files = free-files }) Told.Naming refl)
 
@@ -254,18 +245,19 @@ module _ (t : Table) (h : Sized t) where
         q : Request
         q = request_in c text scratch
 
-        go : (f : Found) → find_session t (id_in c text) ≡ f → Obeyed c (found_result t c (id_in c text) q f)
-        go Found.Nowhere e = absent-sized-by c.size (kind_of SessionState.Absent c.action)
-        go (Found.At i) e =
+        go : (f : Option ℕ) → find_session t (id_in c text) ≡ f → Obeyed c (found_result t c (id_in c text) q f)
+        go None e = absent-sized-by c.size (kind_of SessionState.Absent c.action)
+        go (Some i) e =
             let s = session_at t i in
             let x = way s q (found_at session_used id_of no_session t.sessions (id_in c text) i e).1 in
             record { sized = step-sized i c.payload (obeyed_by s q) (way-sized s (h i) q x); told = way-tells s q c.payload x }
 
   -- an answer, and a decision
-  answered-sized : (f : Session → Due → Change) → ((s : Session) → SizedSession s → (d : Due) → SizedChange s (f s d)) → (o : Owed)
+  answered-sized : (f : Session → Due → Change) → ((s : Session) → SizedSession s → (d : Due) → SizedChange s (f s d))
+      → (o : Option (ℕ × Due))
       → SizedStep (answered_with t f o)
-  answered-sized f k Owed.Nothing = telling-sized (Told.Refused 11)
-  answered-sized f k (Owed.For i d) = step-sized i _ (f (session_at t i) d) (k (session_at t i) (h i) d)
+  answered-sized f k None = telling-sized (Told.Refused 11)
+  answered-sized f k (Some (i, d)) = step-sized i _ (f (session_at t i) d) (k (session_at t i) (h i) d)
 
   pub done-sized : SizedStep (settle_done t)
   unfolding settle_done
@@ -279,17 +271,17 @@ module _ (t : Table) (h : Sized t) where
   unfolding settle_unlisted
   unlisted-sized = go t.owed
     where
-      go : (o : Owed) → SizedStep (unlisted_for t o)
-      go Owed.Nothing = telling-sized (Told.Refused 18)
-      go (Owed.For i d) = step-sized i _ (unlisted_by (session_at t i) d) (unlisted-change (session_at t i) (h i) d)
+      go : (o : Option (ℕ × Due)) → SizedStep (unlisted_for t o)
+      go None = telling-sized (Told.Refused 18)
+      go (Some (i, d)) = step-sized i _ (unlisted_by (session_at t i) d) (unlisted-change (session_at t i) (h i) d)
 
   pub decided-sized : (d : Decision) (k : List ℕ) → SizedStep (decided_of t d k)
   unfolding decided_of
   decided-sized d k = go (find_session t k)
     where
-      go : (f : Found) → SizedStep (decided_at t d f)
-      go Found.Nowhere = telling-sized (Told.Refused 12)
-      go (Found.At i) = step-sized i _ (decided_by d (session_at t i)) (decided-change (session_at t i) (h i) d)
+      go : (f : Option ℕ) → SizedStep (decided_at t d f)
+      go None = telling-sized (Told.Refused 12)
+      go (Some i) = step-sized i _ (decided_by d (session_at t i)) (decided-change (session_at t i) (h i) d)
 
 -- what the console supplies
 pub supply-sized : (r : Receiver) (u : Supply) (out : List ℕ) → Sized r.table → Sized (supply_of r u out).answer.receiver.table

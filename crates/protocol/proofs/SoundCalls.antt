@@ -1,4 +1,5 @@
 -- Every table that calls on a fresh receiver make is sound, whatever they are lent.
+use Rattle.std.specs.Prelude.{None}
 use Rattle.protocol.specs.Calls.{Acted, text_act}
 use Rattle.frames.specs.Stream.{is_drag_drop}
 use Prim.Native.Nat.{ℕ}
@@ -9,7 +10,6 @@ use lib.Dec.{ltb}
 use Rattle.octets.specs.Outcome.{Outcome, outcome}
 use Rattle.frames.specs.Calls.{scan_of, text_of}
 use Rattle.frames.specs.declared.Report.{Report}
-use Rattle.frames.specs.declared.Report.TheVariants as Report
 use Rattle.frames.specs.declared.Scanned.{Scanned}
 use Rattle.frames.proofs.Choices.{by_cond}
 use Rattle.command.specs.Values.{Value}
@@ -27,14 +27,12 @@ use Rattle.protocol.specs.Sound.{Sound, AllSound, EverySound}
 use Rattle.protocol.specs.Cuts.{after}
 use Rattle.protocol.specs.Counts.{EveryCount}
 use Rattle.protocol.specs.declared.Decision.TheVariants as Decision
-use Rattle.protocol.specs.declared.Owed.{Owed}
-use Rattle.protocol.specs.declared.Owed.TheVariants as Owed
 use Rattle.protocol.specs.declared.Table.{Table}
 use Rattle.protocol.specs.declared.Receiver.{Receiver}
 use Rattle.protocol.specs.declared.Stepped.{Stepped}
 use Rattle.protocol.specs.declared.Answered.{Answered}
 use Rattle.protocol.proofs.Backs.{not-owed}
-use Rattle.protocol.proofs.Means.{Means, Read, command, refused, text-read}
+use Rattle.protocol.proofs.Means.{Means, Read, command, text-read}
 use Rattle.protocol.proofs.Counts.{right-counts}
 use Rattle.protocol.proofs.SoundTable.{empty-sound, ReadWell}
 use Rattle.protocol.proofs.SoundTable.{obey-sound, done-sound, failed-sound, unlisted-sound, decided-sound, supply-sound}
@@ -56,7 +54,7 @@ read-well text scratch c e = go (rw e at (text-read text scratch (read_held text
     go : {m : Meaning} → Read text (read_of text scratch).buffer (Answer.read c) m → ReadWell c text
     go (command means) = means-well means
 
-module _ {t : Table} (ok : Sound t) (free : t.owed ≡ Owed.Nothing) (text scratch : List ℕ) where
+module _ {t : Table} (ok : Sound t) (free : t.owed ≡ None) (text scratch : List ℕ) where
   text-sound : Sound (read_act t text (read_of text scratch)).step.table
   text-sound = go (read_of text scratch).answer refl
     where
@@ -79,7 +77,7 @@ module _ {t : Table} (ok : Sound t) (free : t.owed ≡ Owed.Nothing) (text scrat
   report-sound Report.Abandoned = ok
   report-sound Report.ShortCarry = ok
 
-pub scanned-sound : {t : Table} → Sound t → t.owed ≡ Owed.Nothing → (piece : List ℕ) (k : Outcome Scanned) (scratch reply : List ℕ)
+pub scanned-sound : {t : Table} → Sound t → t.owed ≡ None → (piece : List ℕ) (k : Outcome Scanned) (scratch reply : List ℕ)
     → Sound (scanned_feed t piece k scratch reply).fed.receiver.table
 unfolding scanned_feed
 scanned-sound ok free piece k scratch reply =

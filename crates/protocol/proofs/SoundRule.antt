@@ -3,14 +3,14 @@ use Prim.Native.Nat.{ℕ, ◌+◌, ◌≤◌, ◌<◌}
 use mathlib.Core.Path.{◌≡◌, refl, sym, ap, ◌∙◌}
 use mathlib.Core.Bool.{Bool, true, false}
 use mathlib.Core.Logic.{inl, inr}
-use mathlib.Core.Option.{Option, none-ne-some}
 use mathlib.Core.List.{List}
 use native.Mathlib.Omega.{arith}
 use lib.ListN.{length, length-set}
 use lib.Seq.{get_or-set_same}
+use Rattle.std.proofs.lemmas.Option.{none-some}
+use Rattle.std.specs.Prelude.{Option, Some, None}
 use Rattle.protocol.specs.Table.{file_room, free_file, no_files, absent_session, no_file, file_at, id_of, file_id_of, padded, is_present}
 use Rattle.protocol.specs.Table.{is_used, session_used, file_used, with_state, put_file, moved}
-use Rattle.protocol.specs.Replies.{no_reply}
 use Rattle.protocol.specs.Change.{change, tells, asks, opens, drops, turns, edited}
 use Rattle.protocol.specs.Files.{opening, settled, failed_file, count_limit}
 use Rattle.protocol.specs.Receives.{named, request_of}
@@ -19,19 +19,15 @@ use Rattle.protocol.specs.Rule.{grown}
 use Rattle.protocol.specs.Sound.{IsId, IsFileId, Held, SoundFile, FileIs, PartFits, Fits, due_in, DueFits, opens_at, FileFor}
 use Rattle.protocol.specs.Sound.{Counted, SoundSession}
 use Rattle.protocol.specs.declared.FileState.{FileState}
-use Rattle.protocol.specs.declared.FileState.TheVariants as FileState
 use Rattle.protocol.specs.declared.FileRecord.{FileRecord}
 use Rattle.protocol.specs.declared.SessionState.{SessionState}
-use Rattle.protocol.specs.declared.SessionState.TheVariants as SessionState
 use Rattle.protocol.specs.declared.Session.{Session}
 use Rattle.protocol.specs.declared.Due.{Due}
-use Rattle.protocol.specs.declared.Due.TheVariants as Due
 use Rattle.protocol.specs.declared.Status.{Status}
 use Rattle.protocol.specs.declared.Told.{Told}
 use Rattle.protocol.specs.declared.Reply.{Reply}
 use Rattle.protocol.specs.declared.Edit.TheVariants as Edit
 use Rattle.protocol.specs.declared.News.{News}
-use Rattle.protocol.specs.declared.News.TheVariants as News
 use Rattle.protocol.specs.declared.Change.{Change}
 use Rattle.protocol.proofs.Counts.{put-counted}
 use Rattle.protocol.proofs.Laws.{is_past, past-used, no_way, set_at, set-each, set-unique, replicate-each, padded-id}
@@ -40,8 +36,8 @@ use Rattle.protocol.proofs.Laws.{is_past, past-used, no_way, set_at, set-each, s
 -- what is due for it afterwards
 abbrev pub due_after : Option Due → News → Option Due
 due_after due (News.Tells w) = due
-due_after due (News.Clears w) = Option.none
-due_after due (News.Asks d) = Option.some d
+due_after due (News.Clears w) = None
+due_after due (News.Asks d) = Some d
 
 abbrev pub asks_something : News → Bool
 asks_something (News.Tells w) = false
@@ -121,8 +117,8 @@ free_for SessionState.Listing j e = e
 free_for SessionState.Serving j e = inl e
 
 fileless : {s : Session} → length s.files ≡ file_room → ((j : ℕ) → file_at s j ≡ free_file)
-    → (session_used s ≡ false → s ≡ absent_session) → (session_used s ≡ true → IsId (id_of s)) → s.id ≡ padded (id_of s) → s.quiet ≤ 2
-    → Counted s → SoundSession s Option.none
+    → (session_used s ≡ false → s ≡ absent_session) → (session_used s ≡ true → IsId (id_of s)) → s.id.bytes ≡ padded (id_of s) → s.quiet ≤ 2
+    → Counted s → SoundSession s None
 fileless {s} room free blank named filled quiet counted =
     record {
       room = room;
@@ -138,7 +134,7 @@ fileless {s} room free blank named filled quiet counted =
       fits = tt;
     }
 
-pub absent-sound : SoundSession absent_session Option.none
+pub absent-sound : SoundSession absent_session None
 absent-sound =
     fileless refl free-at (λ _. refl) (λ e. no_way (sym e)) refl (omega arith) (record { started = refl; done_bytes = refl })
 
@@ -149,41 +145,40 @@ emptied g n s =
       state = g;
       quiet = s.quiet;
       id = s.id;
-      id_len = s.id_len;
       wanted = n;
       started = 0;
       done_bytes = 0;
       files = no_files;
     }
 
-emptied-sound : (g : SessionState) → is_present g ≡ true → (n : ℕ) (s : Session) → IsId (id_of s) → s.id ≡ padded (id_of s) → s.quiet ≤ 2
-    → SoundSession (emptied g n s) Option.none
+emptied-sound : (g : SessionState) → is_present g ≡ true → (n : ℕ) (s : Session) → IsId (id_of s) → s.id.bytes ≡ padded (id_of s) → s.quiet ≤ 2
+    → SoundSession (emptied g n s) None
 emptied-sound g p n s id filled quiet =
     fileless refl free-at (λ z. no_way (sym p ∙ z)) (λ _. id) filled quiet (record { started = refl; done_bytes = refl })
 
 module _ (quiet : ℕ) (k : List ℕ) (le : quiet ≤ 2) (id : IsId k) where
-  new-sound : (g : SessionState) → is_present g ≡ true → (n : ℕ) → SoundSession (emptied g n (asked_session quiet k)) Option.none
+  new-sound : (g : SessionState) → is_present g ≡ true → (n : ℕ) → SoundSession (emptied g n (asked_session quiet k)) None
   new-sound g p n =
       let e = padded-id k id.short in
       emptied-sound g p n (asked_session quiet k) (rw e id) (ap padded (sym e)) le
 
-  pub asked-sound : SoundSession (asked_session quiet k) Option.none
+  pub asked-sound : SoundSession (asked_session quiet k) None
   asked-sound = new-sound SessionState.Asked refl 0
 
-  pub naming-sound : (n : ℕ) → SoundSession (naming_session (asked_session quiet k) n) Option.none
+  pub naming-sound : (n : ℕ) → SoundSession (naming_session (asked_session quiet k) n) None
   naming-sound n = new-sound SessionState.Naming refl n
 
 -- ---- changes
-pub tells-steps : {idle : Bool} {s : Session} {due : Option Due} (w : Told) (r : Reply) → SoundSession s due
+pub tells-steps : {idle : Bool} {s : Session} {due : Option Due} (w : Told) (r : Option Reply) → SoundSession s due
     → Steps idle s due (tells w r)
 tells-steps w r ok = record { sound = ok; same_id = λ u. (u, refl); asking = λ e. no_way (sym e) }
 
-pub drops-steps : {idle : Bool} {s : Session} {due : Option Due} (w : Told) (r : Reply) → Steps idle s due (drops w r)
+pub drops-steps : {idle : Bool} {s : Session} {due : Option Due} (w : Told) (r : Option Reply) → Steps idle s due (drops w r)
 drops-steps w r = record { sound = absent-sound; same_id = λ u. no_way (sym u); asking = λ e. no_way (sym e) }
 
 -- the last path is named
-pub waits-steps : {idle : Bool} {s : Session} (w : Told) (r : Reply) → SoundSession s Option.none → s.state ≡ SessionState.Naming
-    → Steps idle s Option.none (change Edit.Waits no_file (News.Tells w) r)
+pub waits-steps : {idle : Bool} {s : Session} (w : Told) (r : Option Reply) → SoundSession s None → s.state ≡ SessionState.Naming
+    → Steps idle s None (change Edit.Waits no_file (News.Tells w) r)
 waits-steps {s = s} w r ok o =
     let used : session_used s ≡ true = ap is_present o in
     record {
@@ -194,7 +189,7 @@ waits-steps {s = s} w r ok o =
 
 -- the same session with something else due, or nothing
 redue : {s : Session} {due : Option Due} (next : Option Due) → SoundSession s due
-    → ((j : ℕ) → opens_at due ≡ Option.some j → opens_at next ≡ Option.some j) → DueFits s next → SoundSession s next
+    → ((j : ℕ) → opens_at due ≡ Some j → opens_at next ≡ Some j) → DueFits s next → SoundSession s next
 redue next ok opens fits =
     record {
       room = ok.room;
@@ -211,9 +206,9 @@ redue next ok opens fits =
     }
 
 -- a request is settled
-pub clears-steps : {idle : Bool} {s : Session} (w : Told) (r : Reply) → SoundSession s (Option.some Due.Request)
-    → Steps idle s (Option.some Due.Request) (change Edit.Same no_file (News.Clears w) r)
-clears-steps w r ok = record { sound = redue Option.none ok (λ j e. e) tt; same_id = λ u. (u, refl); asking = λ e. no_way (sym e) }
+pub clears-steps : {idle : Bool} {s : Session} (w : Told) (r : Option Reply) → SoundSession s (Some Due.Request)
+    → Steps idle s (Some Due.Request) (change Edit.Same no_file (News.Clears w) r)
+clears-steps w r ok = record { sound = redue None ok (λ j e. e) tt; same_id = λ u. (u, refl); asking = λ e. no_way (sym e) }
 
 -- ---- a session turned to another state
 -- the states in which a session has no file, and nothing is due for it
@@ -251,24 +246,24 @@ due-present (Due.WriteLast j n) = refl
 due-present Due.Commit = refl
 due-present Due.Request = refl
 
-pub turns-steps : {idle : Bool} {s : Session} {due : Option Due} (g : SessionState) (r : Reply) → SoundSession s due
+pub turns-steps : {idle : Bool} {s : Session} {due : Option Due} (g : SessionState) (r : Option Reply) → SoundSession s due
     → is_shut s.state ≡ true → session_used s ≡ true → is_present g ≡ true → Steps idle s due (turns g r)
 turns-steps {s = s} {due} g r ok shut used p =
     record { sound = go due ok; same_id = λ _. (used, refl); asking = λ e. no_way (sym e) }
   where
     go : (due : Option Due) → SoundSession s due → SoundSession (with_state s g) due
-    go Option.none k =
+    go None k =
         fileless k.room (λ j. shut-free s.state shut j (k.file_for j)) (λ e. no_way (sym p ∙ e)) (λ _. k.named used) k.filled
         k.quiet (record { started = k.counted.started; done_bytes = k.counted.done_bytes })
-    go (Option.some d) k = no_way (sym shut ∙ ap is_shut k.fits.0 ∙ due-open d)
+    go (Some d) k = no_way (sym shut ∙ ap is_shut k.fits.0 ∙ due-open d)
 
 -- ---- a file record put in a session
 module _ {s : Session} {due : Option Due} (ok : SoundSession s due) (present : session_used s ≡ true) where
   -- at a place, while no other file is opening
   put-file : (j : ℕ) (f : FileRecord) (next : Option Due) → j < length s.files → SoundFile f → FileFor s.state j f
       → ((n : ℕ) → (n ≡ j → ⊥) → file_used (file_at s n) ≡ true → file_id_of (file_at s n) ≡ file_id_of f → ⊥)
-      → ((n : ℕ) → opens_at due ≡ Option.some n → n ≡ j)
-      → (f.state ≡ FileState.Opening → opens_at next ≡ Option.some j)
+      → ((n : ℕ) → opens_at due ≡ Some n → n ≡ j)
+      → (f.state ≡ FileState.Opening → opens_at next ≡ Some j)
       → DueFits (put_file s j f) next
       → SoundSession (put_file s j f) next
   put-file j f next h file mine new only here fits =
@@ -283,7 +278,7 @@ module _ {s : Session} {due : Option Due} (ok : SoundSession s due) (present : s
         each = each;
         counted = put-counted s j f ok.room each ok.counted;
         opening =
-            set_at (λ (n : ℕ) (x : FileRecord). x.state ≡ FileState.Opening → opens_at next ≡ Option.some n) no_file s.files j f h here
+            set_at (λ (n : ℕ) (x : FileRecord). x.state ≡ FileState.Opening → opens_at next ≡ Some n) no_file s.files j f h here
             (λ n r e. absurd (r (only n (ok.opening n e))));
         fits = fits;
       }
@@ -294,13 +289,13 @@ module _ {s : Session} {due : Option Due} (ok : SoundSession s due) (present : s
 module _ {s : Session} {due : Option Due} (ok : SoundSession s due) (o : s.state ≡ SessionState.Open) where
   -- the record j, which is used and the only one that may be opening, moves past its opening
   pub settled-steps : {idle : Bool} (j : ℕ) (old : FileState) → is_used old ≡ true → FileIs s j old
-      → ((n : ℕ) → opens_at due ≡ Option.some n → n ≡ j)
+      → ((n : ℕ) → opens_at due ≡ Some n → n ≡ j)
       → (g : FileState) → is_past g ≡ true → (n : ℕ) → n ≤ count_limit → Held g n (file_at s j).declared → (w : Status) (size : ℕ)
       → Steps idle s due (settled s j g n w size)
   settled-steps j old u at only g past n le held w size =
       record {
         sound =
-            put-file ok present j (moved (file_at s j) g n) Option.none at.within
+            put-file ok present j (moved (file_at s j) g n) None at.within
             (moved-file (ok.each j) used (rw o at (ok.file_for j)) g past n le held) (rw o (λ e. no_way (sym past ∙ ap is_past e)))
             (λ i r p e. r (ok.alone i j p used e)) only (λ e. no_way (sym past ∙ ap is_past e)) tt;
         same_id = λ _. (present, refl);
@@ -314,40 +309,40 @@ module _ {s : Session} {due : Option Due} (ok : SoundSession s due) (o : s.state
       used = ap is_used at.state ∙ u
 
   pub file-failed-steps : {idle : Bool} (j : ℕ) (old : FileState) → is_used old ≡ true → FileIs s j old
-      → ((n : ℕ) → opens_at due ≡ Option.some n → n ≡ j) → (w : Status) → Steps idle s due (failed_file s j w)
+      → ((n : ℕ) → opens_at due ≡ Some n → n ≡ j) → (w : Status) → Steps idle s due (failed_file s j w)
   file-failed-steps j old u at only w =
       let f = ok.each j in
       settled-steps j old u at only FileState.Failed refl (file_at s j).count f.counted
       (failed-held (file_at s j).state (file_at s j).count (file_at s j).declared (ap is_used at.state ∙ u) f.held) w 0
 
 -- nothing was due, so no file is opening
-pub none-opens : {n j : ℕ} → opens_at Option.none ≡ Option.some n → n ≡ j
-none-opens {n} e = absurd (none-ne-some n e)
+pub none-opens : {n j : ℕ} → opens_at None ≡ Some n → n ≡ j
+none-opens {n} e = absurd (none-some n e)
 
 -- a record that is only named does not open
 named-opening : {A : Type 0} → FileState.Named ≡ FileState.Opening → A
 named-opening e = let z : ◌≡◌ {A = ℕ} 0 1 = cc in absurd (omega arith)
 
-module _ {s : Session} (ok : SoundSession s Option.none) where
-  pub asks-steps : (d : Due) → s.state ≡ due_in d → Fits s d → Steps true s Option.none (asks d)
+module _ {s : Session} (ok : SoundSession s None) where
+  pub asks-steps : (d : Due) → s.state ≡ due_in d → Fits s d → Steps true s None (asks d)
   asks-steps d o fits =
       record {
-        sound = redue (Option.some d) ok (λ j e. absurd (none-ne-some j e)) (o, fits);
+        sound = redue (Some d) ok (λ j e. absurd (none-some j e)) (o, fits);
         same_id = λ u. (u, refl);
         asking = λ _. refl;
       }
 
   -- a new record, whatever is told or asked of it
-  files-steps : (present : session_used s ≡ true) (j : ℕ) (f : FileRecord) (w : News) (r : Reply) → j < length s.files → SoundFile f
+  files-steps : (present : session_used s ≡ true) (j : ℕ) (f : FileRecord) (w : News) (r : Option Reply) → j < length s.files → SoundFile f
       → FileFor s.state j f
       → ((n : ℕ) → (n ≡ j → ⊥) → file_used (file_at s n) ≡ true → file_id_of (file_at s n) ≡ file_id_of f → ⊥)
-      → (f.state ≡ FileState.Opening → opens_at (due_after Option.none w) ≡ Option.some j)
-      → (file_at (put_file s j f) j ≡ f → FileIs (put_file s j f) j f.state → DueFits (put_file s j f) (due_after Option.none w))
-      → Steps true s Option.none (change (Edit.Filed j) f w r)
+      → (f.state ≡ FileState.Opening → opens_at (due_after None w) ≡ Some j)
+      → (file_at (put_file s j f) j ≡ f → FileIs (put_file s j f) j f.state → DueFits (put_file s j f) (due_after None w))
+      → Steps true s None (change (Edit.Filed j) f w r)
   files-steps present j f w r h file mine new here fits =
       record {
         sound =
-            put-file ok present j f (due_after Option.none w) h file mine new (λ n. none-opens) here
+            put-file ok present j f (due_after None w) h file mine new (λ n. none-opens) here
             (fits same (record { within = rw length-set h; state = ap (λ (x : FileRecord). x.state) same }));
         same_id = λ _. (present, refl);
         asking = λ _. refl;
@@ -359,26 +354,26 @@ module _ {s : Session} (ok : SoundSession s Option.none) where
   -- a record that opens, of an id that no file has
   pub opens-steps : s.state ≡ SessionState.Open → (j : ℕ) (k : List ℕ) (l : ℕ) (d : Due) → j < length s.files → IsId k
       → ((n : ℕ) → file_used (file_at s n) ≡ true → file_id_of (file_at s n) ≡ k → ⊥)
-      → opens_at (Option.some d) ≡ Option.some j → due_in d ≡ SessionState.Open
+      → opens_at (Some d) ≡ Some j → due_in d ≡ SessionState.Open
       → (let new = put_file s j (opening k l) in FileIs new j FileState.Opening → (file_at new j).declared ≡ l → Fits new d)
-      → Steps true s Option.none (opens j (opening k l) d)
+      → Steps true s None (opens j (opening k l) d)
   opens-steps o j k l d h id new at due fits =
-      files-steps (ap is_present o) j (opening k l) (News.Asks d) no_reply h (opening-file k l id)
+      files-steps (ap is_present o) j (opening k l) (News.Asks d) None h (opening-file k l id)
       (rw o (λ e. named-opening (sym e))) (λ n _ u e. new n u (e ∙ padded-id k id.short)) (λ _. at)
       (λ same f. (o ∙ sym due, fits f (ap (λ (x : FileRecord). x.declared) same)))
 
   -- a path is named, of an id that none has
-  pub path-steps : s.state ≡ SessionState.Naming → (j : ℕ) (k : List ℕ) (w : Told) (r : Reply) → j < length s.files
+  pub path-steps : s.state ≡ SessionState.Naming → (j : ℕ) (k : List ℕ) (w : Told) (r : Option Reply) → j < length s.files
       → IsFileId FileState.Named k → ((n : ℕ) → file_used (file_at s n) ≡ true → file_id_of (file_at s n) ≡ k → ⊥)
-      → Steps true s Option.none (change (Edit.Filed j) (named k) (News.Tells w) r)
+      → Steps true s None (change (Edit.Filed j) (named k) (News.Tells w) r)
   path-steps o j k w r h id new =
       files-steps (ap is_present o) j (named k) (News.Tells w) r h (named-file k id) (rw o (inr refl))
       (λ n _ u e. new n u (e ∙ padded-id k id.short)) named-opening (λ _ _. tt)
 
   -- a file is asked for: it takes the only place at which this session has a record, so that its id may be any
-  pub request-steps : s.state ≡ SessionState.Serving → (k : List ℕ) → IsFileId FileState.Named k → Steps true s Option.none (request_of k)
+  pub request-steps : s.state ≡ SessionState.Serving → (k : List ℕ) → IsFileId FileState.Named k → Steps true s None (request_of k)
   request-steps o k id =
-      files-steps (ap is_present o) 0 (named k) (News.Asks Due.Request) no_reply (rw ok.room (omega arith)) (named-file k id)
+      files-steps (ap is_present o) 0 (named k) (News.Asks Due.Request) None (rw ok.room (omega arith)) (named-file k id)
       (rw o (inr (refl, refl))) (λ n r u _. other n r u (rw o at (ok.file_for n))) named-opening (λ _ f. (o, f))
     where
       other : (n : ℕ) → (n ≡ 0 → ⊥) → file_used (file_at s n) ≡ true → FileFor SessionState.Serving n (file_at s n) → ⊥

@@ -3,17 +3,17 @@ use Prim.Native.Nat.{ℕ, ◌≤◌, ◌<◌}
 use mathlib.Core.Path.{◌≡◌, refl, sym, ap, ◌∙◌}
 use mathlib.Core.Bool.{Bool, true, false}
 use mathlib.Core.Logic.{◌⊎◌, inl, inr}
-use mathlib.Core.Option.{Option, some-injective}
 use mathlib.Core.List.{List}
 use native.Mathlib.Omega.{arith}
 use lib.ListN.{length}
+use Rattle.std.proofs.lemmas.Option.{same_Some}
+use Rattle.std.specs.Prelude.{Option, Some, None}
 use Rattle.octets.specs.Members.{every}
 use Rattle.frames.proofs.Choices.{by_cond}
 use Rattle.command.specs.Letters.{safe_byte}
 use Rattle.command.specs.declared.FileType.{FileType}
-use Rattle.command.specs.declared.FileType.TheVariants as FileType
 use Rattle.protocol.specs.Table.{id_room, no_file, file_at, file_id_of, is_present, session_used, file_used, is_free}
-use Rattle.protocol.specs.Replies.{no_reply, session_reply, failure_status}
+use Rattle.protocol.specs.Replies.{session_reply, failure_status}
 use Rattle.protocol.specs.Change.{asks, opens}
 use Rattle.protocol.specs.Files.{Request, opening, link_like, declared_by, is_directory, open_due, write_due}
 use Rattle.protocol.specs.Receives.{request_fails}
@@ -22,15 +22,11 @@ use Rattle.protocol.specs.Supplies.{Supply, is_listing, change_for}
 use Rattle.protocol.specs.Sound.{IsId, IsFileId, FileIs, PartFits, SoundSession}
 use Rattle.protocol.specs.declared.FileState.TheVariants as FileState
 use Rattle.protocol.specs.declared.SessionState.{SessionState}
-use Rattle.protocol.specs.declared.SessionState.TheVariants as SessionState
 use Rattle.protocol.specs.declared.Session.{Session}
 use Rattle.protocol.specs.declared.Due.{Due}
-use Rattle.protocol.specs.declared.Due.TheVariants as Due
 use Rattle.protocol.specs.declared.Status.{Status}
-use Rattle.protocol.specs.declared.Status.TheVariants as Status
 use Rattle.protocol.specs.declared.Failure.{Failure}
 use Rattle.protocol.specs.declared.Decision.{Decision}
-use Rattle.protocol.specs.declared.Decision.TheVariants as Decision
 use Rattle.protocol.specs.declared.Told.TheVariants as Told
 use Rattle.protocol.specs.declared.Change.{Change}
 use Rattle.protocol.proofs.Laws.{no_way, equals-same, first-at, found_at, found_nowhere}
@@ -47,9 +43,9 @@ pub record IsReadId (k : List ℕ) : Type 0 where
   pub safe : every safe_byte k ≡ true
   pub short : length k ≤ id_room
 
-module _ {s : Session} (ok : SoundSession s Option.none) (q : Request) (id : IsReadId q.file) where
+module _ {s : Session} (ok : SoundSession s None) (q : Request) (id : IsReadId q.file) where
   abbrev Kept : Change → Type 0
-  Kept = Steps true s Option.none
+  Kept = Steps true s None
 
   -- a new file or path has a free place, and an id that no other has
   module _ (j : ℕ) (n : NewFile s q j) where
@@ -98,8 +94,8 @@ module _ {s : Session} (ok : SoundSession s Option.none) (q : Request) (id : IsR
   way-steps (write_asked last j o p short fits held) =
       write-steps last j q.long o (record { file = started j p; short = short; fits = fits; held = held })
   way-steps (commit_asked o _ e) = asks-steps ok Due.Commit o (zero-started ok.counted e)
-  way-steps (path_named j o n) = path-steps ok o j q.file Told.Path no_reply (within j n) named-id (differs j n)
-  way-steps (last_named o _) = waits-steps Told.LastPath no_reply ok o
+  way-steps (path_named j o n) = path-steps ok o j q.file Told.Path None (within j n) named-id (differs j n)
+  way-steps (last_named o _) = waits-steps Told.LastPath None ok o
   way-steps (request_asked o _) = request-steps ok o q.file named-id
 
   pub obeyed-steps : session_used s ≡ true → Kept (obeyed_by s q)
@@ -107,12 +103,12 @@ module _ {s : Session} (ok : SoundSession s Option.none) (q : Request) (id : IsR
 
 -- ---- an answer to what is due
 -- the file whose open is due is the only one that is opening
-opens-only : {n j : ℕ} → Option.some j ≡ Option.some n → n ≡ j
-opens-only {n} {j} e = sym (some-injective j n e)
+opens-only : {n j : ℕ} → Some j ≡ Some n → n ≡ j
+opens-only {n} {j} e = sym (same_Some j n e)
 
 module _ {s : Session} where
   -- the count is at most the cap, whatever was written
-  pub done-steps : (d : Due) → SoundSession s (Option.some d) → Steps false s (Option.some d) (done_by s d)
+  pub done-steps : (d : Due) → SoundSession s (Some d) → Steps false s (Some d) (done_by s d)
   unfolding done_by
   done-steps (Due.OpenFile j) ok =
       let f = ok.fits in
@@ -130,13 +126,13 @@ module _ {s : Session} where
       let f = ok.fits in
       settled-steps ok f.0 j FileState.Started refl f.1.file (λ i. none-opens) FileState.Done refl (grown s j n) (omega arith)
       (grown-held f.1) Status.Ok (grown s j n)
-  done-steps Due.Commit ok = drops-steps Told.Committed no_reply
-  done-steps Due.Request ok = tells-steps (Told.Refused 18) no_reply ok
+  done-steps Due.Commit ok = drops-steps Told.Committed None
+  done-steps Due.Request ok = tells-steps (Told.Refused 18) None ok
 
-  request-failed : (w : Status) → SoundSession s (Option.some Due.Request) → Steps false s (Option.some Due.Request) (request_fails w s)
+  request-failed : (w : Status) → SoundSession s (Some Due.Request) → Steps false s (Some Due.Request) (request_fails w s)
   request-failed w ok = clears-steps (Told.Status w) _ ok
 
-  pub failed-steps : (e : Failure) (d : Due) → SoundSession s (Option.some d) → Steps false s (Option.some d) (failed_by e s d)
+  pub failed-steps : (e : Failure) (d : Due) → SoundSession s (Some d) → Steps false s (Some d) (failed_by e s d)
   unfolding failed_by
   failed-steps e (Due.OpenFile j) ok =
       file-failed-steps ok ok.fits.0 j FileState.Opening refl ok.fits.1 (λ n. opens-only) (failure_status e)
@@ -146,16 +142,16 @@ module _ {s : Session} where
       file-failed-steps ok ok.fits.0 j FileState.Started refl ok.fits.1.file (λ i. none-opens) (failure_status e)
   failed-steps e (Due.WriteLast j n) ok =
       file-failed-steps ok ok.fits.0 j FileState.Started refl ok.fits.1.file (λ i. none-opens) (failure_status e)
-  failed-steps e Due.Commit ok = drops-steps Told.Discarded (session_reply (failure_status e) s)
+  failed-steps e Due.Commit ok = drops-steps Told.Discarded (Some (session_reply (failure_status e) s))
   failed-steps e Due.Request ok = request-failed (failure_status e) ok
 
-  pub unlisted-steps : (d : Due) → SoundSession s (Option.some d) → Steps false s (Option.some d) (unlisted_by s d)
+  pub unlisted-steps : (d : Due) → SoundSession s (Some d) → Steps false s (Some d) (unlisted_by s d)
   unfolding unlisted_by
-  unlisted-steps (Due.OpenFile j) ok = tells-steps (Told.Refused 18) no_reply ok
-  unlisted-steps (Due.OpenDirectory j) ok = tells-steps (Told.Refused 18) no_reply ok
-  unlisted-steps (Due.Write j n) ok = tells-steps (Told.Refused 18) no_reply ok
-  unlisted-steps (Due.WriteLast j n) ok = tells-steps (Told.Refused 18) no_reply ok
-  unlisted-steps Due.Commit ok = tells-steps (Told.Refused 18) no_reply ok
+  unlisted-steps (Due.OpenFile j) ok = tells-steps (Told.Refused 18) None ok
+  unlisted-steps (Due.OpenDirectory j) ok = tells-steps (Told.Refused 18) None ok
+  unlisted-steps (Due.Write j n) ok = tells-steps (Told.Refused 18) None ok
+  unlisted-steps (Due.WriteLast j n) ok = tells-steps (Told.Refused 18) None ok
+  unlisted-steps Due.Commit ok = tells-steps (Told.Refused 18) None ok
   unlisted-steps Due.Request ok = request-failed Status.Einval ok
 
 -- ---- a decision, whatever is due
@@ -172,21 +168,21 @@ pub decided-steps : {s : Session} {due : Option Due} → SoundSession s due → 
 unfolding decided_by
 decided-steps {s} {due} ok Decision.Allow =
     by_cond (Steps false s due) (is_asked s.state) (λ e. allows (asked-state s.state e))
-    (λ _. tells-steps (Told.Refused 12) no_reply ok)
+    (λ _. tells-steps (Told.Refused 12) None ok)
   where
     -- from either state
     turns : (g : SessionState) → s.state ≡ g → is_shut g ≡ true → is_present g ≡ true → is_present (opened_from g) ≡ true
         → Steps false s due (allowed s)
-    turns g e shut used next = turns-steps _ (session_reply Status.Ok s) ok (rw e shut) (rw e used) (rw e next)
+    turns g e shut used next = turns-steps _ (Some (session_reply Status.Ok s)) ok (rw e shut) (rw e used) (rw e next)
 
     allows : (s.state ≡ SessionState.Asked) ⊎ (s.state ≡ SessionState.Waiting) → Steps false s due (allowed s)
     allows (inl e) = turns SessionState.Asked e refl refl refl
     allows (inr e) = turns SessionState.Waiting e refl refl refl
 decided-steps {s} {due} ok Decision.Deny =
     by_cond (Steps false s due) (is_asked s.state)
-    (λ _. drops-steps Told.Nothing (session_reply Status.Eperm s))
-    (λ _. tells-steps (Told.Refused 12) no_reply ok)
-decided-steps ok Decision.Drop = drops-steps Told.Nothing no_reply
+    (λ _. drops-steps Told.Nothing (Some (session_reply Status.Eperm s)))
+    (λ _. tells-steps (Told.Refused 12) None ok)
+decided-steps ok Decision.Drop = drops-steps Told.Nothing None
 
 -- ---- what the console supplies
 pub listing-state : (g : SessionState) → is_listing g ≡ true → g ≡ SessionState.Listing
@@ -203,12 +199,12 @@ abbrev pub InTurn : Session → Option Due → Supply → Type 0
 InTurn s due (Supply.list e text contents) = s.state ≡ SessionState.Listing
 InTurn s due (Supply.list_failed text id path code) = s.state ≡ SessionState.Listing
 InTurn s due (Supply.home id path) = s.state ≡ SessionState.Listing
-InTurn s due (Supply.part last bytes) = due ≡ Option.some Due.Request
+InTurn s due (Supply.part last bytes) = due ≡ Some Due.Request
 
 pub supplied-steps : {s : Session} {due : Option Due} → SoundSession s due → (u : Supply) → InTurn s due u
     → Steps false s due (change_for u)
-supplied-steps ok (Supply.list e text contents) o = tells-steps Told.Nothing no_reply ok
-supplied-steps ok (Supply.list_failed text id path code) o = tells-steps Told.Nothing no_reply ok
-supplied-steps ok (Supply.home id path) o = turns-steps SessionState.Serving no_reply ok (ap is_shut o) (ap is_present o) refl
-supplied-steps ok (Supply.part false bytes) e = tells-steps Told.Nothing no_reply ok
-supplied-steps ok (Supply.part true bytes) e = rw e (clears-steps Told.Nothing no_reply (rw e at ok))
+supplied-steps ok (Supply.list e text contents) o = tells-steps Told.Nothing None ok
+supplied-steps ok (Supply.list_failed text id path code) o = tells-steps Told.Nothing None ok
+supplied-steps ok (Supply.home id path) o = turns-steps SessionState.Serving None ok (ap is_shut o) (ap is_present o) refl
+supplied-steps ok (Supply.part false bytes) e = tells-steps Told.Nothing None ok
+supplied-steps ok (Supply.part true bytes) e = rw e (clears-steps Told.Nothing None (rw e at ok))

@@ -2,11 +2,11 @@
 use Prim.Native.Nat.{ℕ, ◌≤◌, ◌<◌}
 use mathlib.Core.Path.{◌≡◌, refl, sym, ap, ◌∙◌}
 use mathlib.Core.Bool.{Bool, true, false, cond}
-use mathlib.Core.Option.{Option}
 use mathlib.Core.List.{List}
 use lib.ListN.{length, set, length-set, get_or-eq_default}
 use lib.Dec.{ltb, eqb}
 use borrow.Author.Tests.{ltb-true, ltb-false, eqb-true, eq-eqb, ne_eqb}
+use Rattle.std.specs.Prelude.{Option, Some, None}
 use Rattle.octets.specs.Outcome.{Outcome}
 use Rattle.decimal.specs.declared.Number.{Number}
 use Rattle.frames.proofs.Choices.{by_cond}
@@ -27,21 +27,15 @@ use Rattle.protocol.specs.Sound.{IsId, SoundSession, due_of, Sound}
 use Rattle.protocol.specs.declared.SessionState.TheVariants as SessionState
 use Rattle.protocol.specs.declared.Session.{Session}
 use Rattle.protocol.specs.declared.Kind.{Kind}
-use Rattle.protocol.specs.declared.Kind.TheVariants as Kind
 use Rattle.protocol.specs.declared.Due.{Due}
-use Rattle.protocol.specs.declared.Owed.{Owed}
-use Rattle.protocol.specs.declared.Owed.TheVariants as Owed
 use Rattle.protocol.specs.declared.Table.{Table}
 use Rattle.protocol.specs.declared.Receiver.{Receiver}
 use Rattle.protocol.specs.declared.Failure.{Failure}
 use Rattle.protocol.specs.declared.Decision.{Decision}
 use Rattle.protocol.specs.declared.News.{News}
-use Rattle.protocol.specs.declared.News.TheVariants as News
 use Rattle.protocol.specs.declared.Change.{Change}
 use Rattle.protocol.specs.declared.Stepped.{Stepped}
 use Rattle.protocol.specs.declared.Answered.{Answered}
-use Rattle.protocol.specs.declared.Found.{Found}
-use Rattle.protocol.specs.declared.Found.TheVariants as Found
 use Rattle.protocol.proofs.Laws.{set_at, no_way, equals-same, first-at, found_at, found_nowhere, set-unique, replicate-each}
 use Rattle.protocol.proofs.Laws.{padded-id}
 use Rattle.protocol.proofs.SupplyWays as SupplyWays
@@ -56,35 +50,35 @@ empty-sound =
     record {
       room = refl;
       alone = λ j j' p _ _. no_way (sym p ∙ replicate-each (λ (s : Session). session_used s ≡ false) refl refl session_room j);
-      each = replicate-each (λ (s : Session). SoundSession s Option.none) absent-sound absent-sound session_room;
+      each = replicate-each (λ (s : Session). SoundSession s None) absent-sound absent-sound session_room;
     }
 
 -- ---- what is due after a step of the session at place i
-pub due-here : (o : Owed) (i : ℕ) (w : News) → due_of (owed_after o i w) i ≡ due_after (due_of o i) w
+pub due-here : (o : Option (ℕ × Due)) (i : ℕ) (w : News) → due_of (owed_after o i w) i ≡ due_after (due_of o i) w
 due-here o i (News.Tells w) = refl
-due-here Owed.Nothing i (News.Clears w) = refl
-due-here (Owed.For k d) i (News.Clears w) = go (eqb k i) refl
+due-here None i (News.Clears w) = refl
+due-here (Some (k, d)) i (News.Clears w) = go (eqb k i) refl
   where
-    go : (b : Bool) → eqb k i ≡ b → due_of (cond b Owed.Nothing (Owed.For k d)) i ≡ Option.none
+    go : (b : Bool) → eqb k i ≡ b → due_of (cond b None (Some (k, d))) i ≡ None
     go true e = refl
     go false e = rw e
 due-here o i (News.Asks d) = rw (eq-eqb i i refl)
 
 -- the other sessions keep theirs: an ask is put where nothing is owed
-pub due-other : (o : Owed) (i : ℕ) (w : News) (n : ℕ) → (n ≡ i → ⊥) → (asks_something w ≡ true → o ≡ Owed.Nothing)
+pub due-other : (o : Option (ℕ × Due)) (i : ℕ) (w : News) (n : ℕ) → (n ≡ i → ⊥) → (asks_something w ≡ true → o ≡ None)
     → due_of (owed_after o i w) n ≡ due_of o n
 due-other o i (News.Tells w) n h f = refl
-due-other Owed.Nothing i (News.Clears w) n h f = refl
-due-other (Owed.For k d) i (News.Clears w) n h f = go (eqb k i) refl
+due-other None i (News.Clears w) n h f = refl
+due-other (Some (k, d)) i (News.Clears w) n h f = go (eqb k i) refl
   where
-    go : (b : Bool) → eqb k i ≡ b → due_of (cond b Owed.Nothing (Owed.For k d)) n ≡ due_of (Owed.For k d) n
+    go : (b : Bool) → eqb k i ≡ b → due_of (cond b None (Some (k, d))) n ≡ due_of (Some (k, d)) n
     go true e = let z : k ≡ i = eqb-true k i e in rw (ne_eqb k n (λ q. h (sym q ∙ z)))
     go false e = refl
 due-other o i (News.Asks d) n h f = rw (f refl, ne_eqb i n (λ q. h (sym q)))
 
 module _ {t : Table} (ok : Sound t) where
   -- ---- a session put at a place, with what is owed then
-  put-sound : (i : ℕ) (s : Session) (o : Owed) → i < length t.sessions
+  put-sound : (i : ℕ) (s : Session) (o : Option (ℕ × Due)) → i < length t.sessions
       → (session_used s ≡ true → (j : ℕ) → (j ≡ i → ⊥) → session_used (session_at t j) ≡ true → id_of (session_at t j) ≡ id_of s → ⊥)
       → SoundSession s (due_of o i)
       → ((j : ℕ) → (j ≡ i → ⊥) → due_of o j ≡ due_of t.owed j)
@@ -99,7 +93,7 @@ module _ {t : Table} (ok : Sound t) where
       }
 
   -- a step of the session at a place
-  pub after-sound : {idle : Bool} (i : ℕ) (c : Change) → i < length t.sessions → (idle ≡ true → t.owed ≡ Owed.Nothing)
+  pub after-sound : {idle : Bool} (i : ℕ) (c : Change) → i < length t.sessions → (idle ≡ true → t.owed ≡ None)
       → Steps idle (session_at t i) (due_of t.owed i) c → Sound (after t i c)
   after-sound i c h free s =
       put-sound i (edited_by (session_at t i) c) (owed_after t.owed i c.news) h
@@ -108,15 +102,15 @@ module _ {t : Table} (ok : Sound t) where
       (λ j n. due-other t.owed i c.news j n (λ a. free (s.asking a)))
 
   -- ---- done and failed
-  due_for : {i : ℕ} {d : Due} → t.owed ≡ Owed.For i d → due_of t.owed i ≡ Option.some d
+  due_for : {i : ℕ} {d : Due} → t.owed ≡ Some (i, d) → due_of t.owed i ≡ Some d
   due_for {i} e = rw (e, eq-eqb i i refl)
 
   -- what is owed is due for an open session
-  pub owed-session : {i : ℕ} {d : Due} → t.owed ≡ Owed.For i d → SoundSession (session_at t i) (Option.some d)
+  pub owed-session : {i : ℕ} {d : Due} → t.owed ≡ Some (i, d) → SoundSession (session_at t i) (Some d)
   owed-session {i} e = rw (due_for e) at (ok.each i)
 
   -- so its place is inside
-  pub owed-inside : {i : ℕ} {d : Due} → t.owed ≡ Owed.For i d → i < length t.sessions
+  pub owed-inside : {i : ℕ} {d : Due} → t.owed ≡ Some (i, d) → i < length t.sessions
   owed-inside {i} {d} e = go (ltb i (length t.sessions)) refl
     where
       go : (b : Bool) → ltb i (length t.sessions) ≡ b → i < length t.sessions
@@ -127,33 +121,33 @@ module _ {t : Table} (ok : Sound t) where
 
   -- an answer, by what it makes of a session
   module _ (f : Session → Due → Change)
-      (steps : (s : Session) (d : Due) → SoundSession s (Option.some d) → Steps false s (Option.some d) (f s d)) where
-    answer-sound : (i : ℕ) (d : Due) → t.owed ≡ Owed.For i d → Sound (after t i (f (session_at t i) d))
+      (steps : (s : Session) (d : Due) → SoundSession s (Some d) → Steps false s (Some d) (f s d)) where
+    answer-sound : (i : ℕ) (d : Due) → t.owed ≡ Some (i, d) → Sound (after t i (f (session_at t i) d))
     answer-sound i d e =
         after-sound i (f (session_at t i) d) (owed-inside e) (λ z. no_way (sym z))
         (rw (due_for e) (steps (session_at t i) d (owed-session e)))
 
-    answered-sound : (o : Owed) → t.owed ≡ o → Sound (answered_with t f o).table
-    answered-sound Owed.Nothing e = ok
-    answered-sound (Owed.For i d) e = answer-sound i d e
+    answered-sound : (o : Option (ℕ × Due)) → t.owed ≡ o → Sound (answered_with t f o).table
+    answered-sound None e = ok
+    answered-sound (Some (i, d)) e = answer-sound i d e
 
-  unlisted-for : (o : Owed) → t.owed ≡ o → Sound (unlisted_for t o).table
-  unlisted-for Owed.Nothing e = ok
-  unlisted-for (Owed.For i d) e = answer-sound unlisted_by (λ s d. unlisted-steps d) i d e
+  unlisted-for : (o : Option (ℕ × Due)) → t.owed ≡ o → Sound (unlisted_for t o).table
+  unlisted-for None e = ok
+  unlisted-for (Some (i, d)) e = answer-sound unlisted_by (λ s d. unlisted-steps d) i d e
 
   -- ---- what the console supplies
-  listing-turn : (u : Supply) (i : ℕ) → part_of u ≡ Option.none → turn_of t u ≡ Found.At i
+  listing-turn : (u : Supply) (i : ℕ) → part_of u ≡ None → turn_of t u ≡ Some i
       → (i < length t.sessions) × ((session_at t i).state ≡ SessionState.Listing)
   listing-turn u i n e = let l = turn-lists t u i n e in (l.inside, listing-state (session_at t i).state l.listing)
 
-  pub in-turn : (u : Supply) (i : ℕ) → turn_of t u ≡ Found.At i
+  pub in-turn : (u : Supply) (i : ℕ) → turn_of t u ≡ Some i
       → (i < length t.sessions) × InTurn (session_at t i) (due_of t.owed i) u
   in-turn (Supply.list x text contents) i e = listing-turn (Supply.list x text contents) i refl e
   in-turn (Supply.list_failed text id path code) i e = listing-turn (Supply.list_failed text id path code) i refl e
   in-turn (Supply.home id path) i e = listing-turn (Supply.home id path) i refl e
   in-turn (Supply.part last bytes) i e = let o = turn-owes t last bytes i e in (owed-inside o, due_for o)
 
-  supplied-sound : (u : Supply) (i : ℕ) → turn_of t u ≡ Found.At i → Sound (after t i (change_for u))
+  supplied-sound : (u : Supply) (i : ℕ) → turn_of t u ≡ Some i → Sound (after t i (change_for u))
   supplied-sound u i e =
       let turn = in-turn u i e in
       after-sound i (change_for u) turn.0 (λ z. no_way (sym z)) (supplied-steps (ok.each i) u turn.1)
@@ -165,16 +159,16 @@ pub record ReadWell (c : Command) (text : List ℕ) : Type 0 where
   pub file : IsReadId (file_id_in c text)
   pub quiet : c.quiet ≤ 2
 
-module _ {t : Table} (ok : Sound t) (free : t.owed ≡ Owed.Nothing) {c : Command} {text : List ℕ} (well : ReadWell c text) where
-  none-due : (i : ℕ) → due_of t.owed i ≡ Option.none
+module _ {t : Table} (ok : Sound t) (free : t.owed ≡ None) {c : Command} {text : List ℕ} (well : ReadWell c text) where
+  none-due : (i : ℕ) → due_of t.owed i ≡ None
   none-due i = rw free
 
   abbrev made : Session
   made = asked_session c.quiet (id_in c text)
 
   -- a new session with the command's id
-  new-sound : find_session t (id_in c text) ≡ Found.Nowhere → (i : ℕ) → first is_absent t.sessions ≡ Found.At i
-      → (s : Session) → id_of s ≡ id_in c text → SoundSession s Option.none → Sound (put_session t i s)
+  new-sound : find_session t (id_in c text) ≡ None → (i : ℕ) → first is_absent t.sessions ≡ Some i
+      → (s : Session) → id_of s ≡ id_in c text → SoundSession s None → Sound (put_session t i s)
   new-sound e i p s same sound =
       put-sound ok i s t.owed (first-at is_absent no_session t.sessions i p).0 (λ _. differs) (rw (none-due i) sound) (λ j n. refl)
     where
@@ -183,21 +177,21 @@ module _ {t : Table} (ok : Sound t) (free : t.owed ≡ Owed.Nothing) {c : Comman
           no_way (sym (equals-same _ _ (z ∙ same)) ∙ found_nowhere session_used id_of no_session t.sessions (id_in c text) refl e j u)
 
   -- "four present: EBUSY; else asked"
-  send-sound : find_session t (id_in c text) ≡ Found.Nowhere → (f : Found) → first is_absent t.sessions ≡ f
+  send-sound : find_session t (id_in c text) ≡ None → (f : Option ℕ) → first is_absent t.sessions ≡ f
       → Sound (send_room t made f).table
-  send-sound e Found.Nowhere p = ok
-  send-sound e (Found.At i) p =
+  send-sound e None p = ok
+  send-sound e (Some i) p =
       new-sound e i p made (padded-id (id_in c text) well.id.short) (asked-sound c.quiet (id_in c text) well.quiet well.id)
 
-  receive-sound : find_session t (id_in c text) ≡ Found.Nowhere → (n : Number) (f : Found) → first is_absent t.sessions ≡ f
+  receive-sound : find_session t (id_in c text) ≡ None → (n : Number) (f : Option ℕ) → first is_absent t.sessions ≡ f
       → Sound (receive_room t made n f).table
-  receive-sound e n Found.Nowhere p = ok
-  receive-sound e n (Found.At i) p =
+  receive-sound e n None p = ok
+  receive-sound e n (Some i) p =
       by_cond (λ (x : Stepped). Sound x.table) (bad_paths n) (λ _. ok)
       (λ _. new-sound e i p (naming_session made n.magnitude) (padded-id (id_in c text) well.id.short)
       (naming-sound c.quiet (id_in c text) well.quiet well.id n.magnitude))
 
-  absent-kept : find_session t (id_in c text) ≡ Found.Nowhere → (n : Number) (k : Kind) → Sound (absent_result t made n k).table
+  absent-kept : find_session t (id_in c text) ≡ None → (n : Number) (k : Kind) → Sound (absent_result t made n k).table
   absent-kept e n Kind.Ignore = ok
   absent-kept e n Kind.Ask = send-sound e (first is_absent t.sessions) refl
   absent-kept e n Kind.Receive = receive-sound e n (first is_absent t.sessions) refl
@@ -218,16 +212,16 @@ module _ {t : Table} (ok : Sound t) (free : t.owed ≡ Owed.Nothing) {c : Comman
       q : Request
       q = request_in c text scratch
 
-      go : (f : Found) → find_session t (id_in c text) ≡ f → Sound (found_result t c (id_in c text) q f).table
-      go Found.Nowhere e = absent-kept e c.size (kind_of SessionState.Absent c.action)
-      go (Found.At i) e =
+      go : (f : Option ℕ) → find_session t (id_in c text) ≡ f → Sound (found_result t c (id_in c text) q f).table
+      go None e = absent-kept e c.size (kind_of SessionState.Absent c.action)
+      go (Some i) e =
           let at = found_at session_used id_of no_session t.sessions (id_in c text) i e in
-          let s : SoundSession (session_at t i) Option.none = rw (none-due i) at (ok.each i) in
+          let s : SoundSession (session_at t i) None = rw (none-due i) at (ok.each i) in
           after-sound ok {idle = true} i (obeyed_by (session_at t i) q) at.0 (λ _. free)
           (rw (none-due i) (obeyed-steps s q well.file at.1))
 
 -- ---- the steps of the calls
-pub obey-sound : (t : Table) → Sound t → t.owed ≡ Owed.Nothing → (c : Command) (text scratch : List ℕ) → ReadWell c text
+pub obey-sound : (t : Table) → Sound t → t.owed ≡ None → (c : Command) (text scratch : List ℕ) → ReadWell c text
     → Sound (obey_of t c text scratch).table
 obey-sound t ok free c text scratch well = obeyed-sound ok free well scratch
 
@@ -247,9 +241,9 @@ pub decided-sound : (t : Table) (d : Decision) (k : List ℕ) → Sound t → So
 unfolding decided_of
 decided-sound t d k ok = go (find_session t k) refl
   where
-    go : (f : Found) → find_session t k ≡ f → Sound (decided_at t d f).table
-    go Found.Nowhere e = ok
-    go (Found.At i) e =
+    go : (f : Option ℕ) → find_session t k ≡ f → Sound (decided_at t d f).table
+    go None e = ok
+    go (Some i) e =
         let inside = (found_at session_used id_of no_session t.sessions k i e).0 in
         after-sound ok i (decided_by d (session_at t i)) inside (λ z. no_way (sym z)) (decided-steps (ok.each i) d)
 

@@ -30,7 +30,6 @@ use Rattle.protocol.specs.Files.{count_limit}
 use Rattle.protocol.specs.Replies.{reply_room, status_word, unless_empty, size_text, status_fields, status_text, status_values}
 use Rattle.protocol.specs.Promises.{EveryStatus}
 use Rattle.protocol.specs.declared.Status.{Status}
-use Rattle.protocol.specs.declared.Status.TheVariants as Status
 
 -- ---- the words: bytes, 1 to 8 of them
 pub word_fits : (w : Status) → (every is_byte (status_word w) ≡ true) × (1 ≤ length (status_word w)) × (length (status_word w) ≤ 8)

@@ -2,12 +2,12 @@
 use Prim.Native.Nat.{ℕ, ◌≤◌, ◌<◌}
 use mathlib.Core.Path.{◌≡◌, refl, sym, ◌∙◌}
 use mathlib.Core.Bool.{Bool, true, false, cond}
-use mathlib.Core.Option.{Option}
 use mathlib.Core.List.{List, [], ◌∷◌}
 use native.Mathlib.Omega.{arith}
 use lib.ListN.{length, take}
 use lib.Dec.{ltb}
 use borrow.Author.Tests.{le-ltb}
+use Rattle.std.specs.Prelude.{Option, Some, None}
 use Rattle.octets.specs.Outcome.{Outcome, outcome}
 use Rattle.frames.specs.declared.Framing.{Framing}
 use Rattle.command.specs.Meaning as Meaning
@@ -27,16 +27,11 @@ use Rattle.protocol.specs.Supplied.{parts_among}
 use Rattle.protocol.specs.Machine.{part_of}
 use Rattle.protocol.specs.declared.Session.{Session}
 use Rattle.protocol.specs.declared.Due.{Due}
-use Rattle.protocol.specs.declared.Due.TheVariants as Due
-use Rattle.protocol.specs.declared.Owed.{Owed}
-use Rattle.protocol.specs.declared.Owed.TheVariants as Owed
 use Rattle.protocol.specs.declared.Table.{Table}
 use Rattle.protocol.specs.declared.Receiver.{Receiver}
 use Rattle.protocol.specs.declared.Told.TheVariants as Told
 use Rattle.protocol.specs.declared.Stepped.{Stepped}
 use Rattle.protocol.specs.declared.Answered.{Answered}
-use Rattle.protocol.specs.declared.Found.{Found}
-use Rattle.protocol.specs.declared.Found.TheVariants as Found
 use Rattle.protocol.proofs.Laws.{found_at}
 use Rattle.protocol.proofs.Means.{string-means}
 use Rattle.protocol.proofs.Frames.{written_same, written-same-bytes}
@@ -44,18 +39,18 @@ use Rattle.protocol.proofs.Frames.{written_same, written-same-bytes}
 -- ---- the ways
 pub data Way (r : Receiver) (u : Supply) (out : List ℕ) : Outcome Answered → Type 0 where
   refused : (n : ℕ) → Way r u out (refused_with r n out)
-  held : (i n : ℕ) → turn_of r.table u ≡ Found.At i
+  held : (i n : ℕ) → turn_of r.table u ≡ Some i
       → (framed_of (values_for (session_at r.table i) u) out).answer ≡ Answer.written n
       → is_held_back (session_at r.table i) u ≡ true → is_over u ≡ false → passes_home u ≡ false
       → Way r u out (outcome (answered_by r.framing (step_by r.table i nowhere (change_for u)) 0) out)
-  wrote : (i n : ℕ) → turn_of r.table u ≡ Found.At i
+  wrote : (i n : ℕ) → turn_of r.table u ≡ Some i
       → (framed_of (values_for (session_at r.table i) u) out).answer ≡ Answer.written n
       → is_held_back (session_at r.table i) u ≡ false → is_over u ≡ false → passes_home u ≡ false
       → Way r u out (outcome (answered_by r.framing (step_by r.table i nowhere (change_for u)) n)
       (framed_of (values_for (session_at r.table i) u) out).buffer)
 
 module _ (r : Receiver) (u : Supply) (out : List ℕ) where
-  module _ (i : ℕ) (turn : turn_of r.table u ≡ Found.At i) (over : is_over u ≡ false) where
+  module _ (i : ℕ) (turn : turn_of r.table u ≡ Some i) (over : is_over u ≡ false) where
     abbrev s : Session
     s = session_at r.table i
 
@@ -78,9 +73,9 @@ module _ (r : Receiver) (u : Supply) (out : List ℕ) where
     at-way true p = rw p (Way.refused 9)
     at-way false p = rw p (answer-way p written.answer refl)
 
-  turn-way : is_over u ≡ false → (f : Found) → turn_of r.table u ≡ f → Way r u out (supplied_at r u out f)
-  turn-way over Found.Nowhere e = Way.refused 18
-  turn-way over (Found.At i) e = at-way i e over (passes_home u) refl
+  turn-way : is_over u ≡ false → (f : Option ℕ) → turn_of r.table u ≡ f → Way r u out (supplied_at r u out f)
+  turn-way over None e = Way.refused 18
+  turn-way over (Some i) e = at-way i e over (passes_home u) refl
 
   pub way : Way r u out (supply_of r u out)
   unfolding supply_of
@@ -145,9 +140,9 @@ module _ (f f' : Framing) (t : Table) (u : Supply) (out out' : List ℕ)
   unfolding supply_of
   supply-alike = rw (le-ltb (length out) frame_room room, le-ltb (length out') frame_room room') (go (is_over u))
     where
-      turn : (x : Found) → Alike f f' (supplied_at r u out x) (supplied_at r' u out' x)
-      turn Found.Nowhere = refused-alike 18
-      turn (Found.At i) = at-alike i
+      turn : (x : Option ℕ) → Alike f f' (supplied_at r u out x) (supplied_at r' u out' x)
+      turn None = refused-alike 18
+      turn (Some i) = at-alike i
 
       go : (over : Bool) → Alike f f' (cond over (refused_with r 17 out) (supplied_at r u out (turn_of t u)))
           (cond over (refused_with r' 17 out') (supplied_at r' u out' (turn_of t u)))
@@ -155,10 +150,10 @@ module _ (f f' : Framing) (t : Table) (u : Supply) (out out' : List ℕ)
       go false = turn (turn_of t u)
 
 -- ---- in turn: the listing and the home path
-not_none : {A : Type 0} {p : Part} → Option.some p ≡ Option.none → A
+not_none : {A : Type 0} {p : Part} → Some p ≡ None → A
 not_none e = let z : ◌≡◌ {A = ℕ} 0 1 = cc in absurd (omega arith)
 
-not_at : {A : Type 0} {i : ℕ} → Found.Nowhere ≡ Found.At i → A
+not_at : {A : Type 0} {i : ℕ} → None ≡ Some i → A
 not_at e = let z : ◌≡◌ {A = ℕ} 0 1 = cc in absurd (omega arith)
 
 -- what is supplied of the listing is for a session that lists, by its id
@@ -174,36 +169,36 @@ id_for (Supply.list_failed text id path code) = string_in text id
 id_for (Supply.home id path) = id
 id_for (Supply.part last bytes) = []
 
-pub values-id : (s : Session) (u : Supply) → part_of u ≡ Option.none → Meaning.id_of (values_for s u) ≡ id_for u
+pub values-id : (s : Session) (u : Supply) → part_of u ≡ None → Meaning.id_of (values_for s u) ≡ id_for u
 unfolding values_of slots_of
 values-id s (Supply.list e text contents) h = sym (string-means text e.id)
 values-id s (Supply.list_failed text id path code) h = sym (string-means text id)
 values-id s (Supply.home id path) h = refl
 values-id s (Supply.part last bytes) h = not_none h
 
-turn-found : (t : Table) (u : Supply) → part_of u ≡ Option.none → turn_of t u ≡ listing_at t (find_session t (id_for u))
+turn-found : (t : Table) (u : Supply) → part_of u ≡ None → turn_of t u ≡ listing_at t (find_session t (id_for u))
 turn-found t (Supply.list e text contents) h = refl
 turn-found t (Supply.list_failed text id path code) h = refl
 turn-found t (Supply.home id path) h = refl
 turn-found t (Supply.part last bytes) h = not_none h
 
-pub turn-lists : (t : Table) (u : Supply) (i : ℕ) → part_of u ≡ Option.none → turn_of t u ≡ Found.At i → Lists t u i
+pub turn-lists : (t : Table) (u : Supply) (i : ℕ) → part_of u ≡ None → turn_of t u ≡ Some i → Lists t u i
 turn-lists t u i h e = found (find_session t (id_for u)) refl (sym (turn-found t u h) ∙ e)
   where
-    listed : (k : ℕ) → find_session t (id_for u) ≡ Found.At k → (b : Bool) → is_listing (session_at t k).state ≡ b
-        → cond b (Found.At k) Found.Nowhere ≡ Found.At i → Lists t u i
+    listed : (k : ℕ) → find_session t (id_for u) ≡ Some k → (b : Bool) → is_listing (session_at t k).state ≡ b
+        → cond b (Some k) None ≡ Some i → Lists t u i
     listed k q true l w =
         let z : k ≡ i = cc in
         let f = found_at session_used id_of no_session t.sessions (id_for u) k q in
         rw (← z) (record { inside = f.0; listing = l; id = values-id (session_at t k) u h ∙ sym f.2 })
     listed k q false l w = not_at w
 
-    found : (f : Found) → find_session t (id_for u) ≡ f → listing_at t f ≡ Found.At i → Lists t u i
-    found Found.Nowhere q w = not_at w
-    found (Found.At k) q w = listed k q (is_listing (session_at t k).state) refl w
+    found : (f : Option ℕ) → find_session t (id_for u) ≡ f → listing_at t f ≡ Some i → Lists t u i
+    found None q w = not_at w
+    found (Some k) q w = listed k q (is_listing (session_at t k).state) refl w
 
 -- no part of a file
-pub lists-no-part : (k : Key) (s : Session) (u : Supply) → part_of u ≡ Option.none → parts_among k (values_for s u ∷ []) ≡ []
+pub lists-no-part : (k : Key) (s : Session) (u : Supply) → part_of u ≡ None → parts_among k (values_for s u ∷ []) ≡ []
 unfolding values_of slots_of
 lists-no-part k s (Supply.list e text contents) h = refl
 lists-no-part k s (Supply.list_failed text id path code) h = refl
@@ -211,18 +206,18 @@ lists-no-part k s (Supply.home id path) h = refl
 lists-no-part k s (Supply.part last bytes) h = not_none h
 
 -- ---- in turn: a part of the file that is owed
-pub turn-owes : (t : Table) (last : Bool) (bytes : List ℕ) (i : ℕ) → turn_of t (Supply.part last bytes) ≡ Found.At i
-    → t.owed ≡ Owed.For i Due.Request
+pub turn-owes : (t : Table) (last : Bool) (bytes : List ℕ) (i : ℕ) → turn_of t (Supply.part last bytes) ≡ Some i
+    → t.owed ≡ Some (i, Due.Request)
 turn-owes t last bytes i = go t.owed
   where
-    go : (o : Owed) → request_at o ≡ Found.At i → o ≡ Owed.For i Due.Request
-    go Owed.Nothing e = not_at e
-    go (Owed.For j (Due.OpenFile k)) e = not_at e
-    go (Owed.For j (Due.OpenDirectory k)) e = not_at e
-    go (Owed.For j (Due.Write k n)) e = not_at e
-    go (Owed.For j (Due.WriteLast k n)) e = not_at e
-    go (Owed.For j Due.Commit) e = not_at e
-    go (Owed.For j Due.Request) e = cc
+    go : (o : Option (ℕ × Due)) → request_at o ≡ Some i → o ≡ Some (i, Due.Request)
+    go None e = not_at e
+    go (Some (j, Due.OpenFile k)) e = not_at e
+    go (Some (j, Due.OpenDirectory k)) e = not_at e
+    go (Some (j, Due.Write k n)) e = not_at e
+    go (Some (j, Due.WriteLast k n)) e = not_at e
+    go (Some (j, Due.Commit)) e = not_at e
+    go (Some (j, Due.Request)) e = cc
 
 module _ (id file bytes : List ℕ) where
   pub piece-id : (last : Bool) → Meaning.id_of (piece_values id file bytes last) ≡ id

@@ -2,41 +2,32 @@
 use Prim.Native.Nat.{ℕ}
 use mathlib.Core.Path.{◌≡◌, refl, sym, ap, subst, ◌∙◌}
 use mathlib.Core.Bool.{Bool, true, false, cond}
-use mathlib.Core.Option.{Option}
-use mathlib.Core.List.{List, [], ◌∷◌, ◌++◌}
+use mathlib.Core.List.{List, [], ◌∷◌}
 use native.Mathlib.Omega.{arith}
 use lib.ListN.{take, set}
-use borrow.Author.Tests.{ne_eqb}
+use Rattle.std.specs.Prelude.{Option, Some, None}
 use Rattle.octets.specs.Outcome.{Outcome, outcome}
 use Rattle.frames.specs.declared.Framing.{Framing}
 use Rattle.command.specs.Slots.{nowhere}
-use Rattle.command.specs.Meaning as Meaning
-use Rattle.command.specs.Write.{Answer}
 use Rattle.command.specs.Framed.{framed_of}
-use Rattle.protocol.specs.Table.{no_session, session_at, file_at, id_of, file_id_of, with_state}
+use Rattle.protocol.specs.Table.{session_at, file_at, id_of, file_id_of, with_state}
 use Rattle.protocol.specs.Written.{piece_values}
-use Rattle.protocol.specs.Replies.{no_reply}
 use Rattle.protocol.specs.Change.{tells, cleared, step_by}
-use Rattle.protocol.specs.Calls.{is_owed, answered_by}
+use Rattle.protocol.specs.Calls.{answered_by}
 use Rattle.protocol.specs.Supplies.{Supply, values_for, is_listing, turn_of, is_held_back, change_for, supply_of}
 use Rattle.protocol.specs.History.{Command, Heard, Mark, Part, Question, last_ask, commands_in}
-use Rattle.protocol.specs.Stretches.{Key, is_for, longer, stands, EachStands, AllStand}
-use Rattle.protocol.specs.Supplied.{parts_among, part_taken, written_parts, supplied_parts}
+use Rattle.protocol.specs.Stretches.{Key, is_for, longer, stands, EachStands}
+use Rattle.protocol.specs.Supplied.{parts_among, part_taken}
 use Rattle.protocol.specs.Machine.{is_refused, part_of}
 use Rattle.protocol.specs.Sound.{due_in, Sound}
 use Rattle.protocol.specs.declared.SessionState.{SessionState}
-use Rattle.protocol.specs.declared.SessionState.TheVariants as SessionState
 use Rattle.protocol.specs.declared.Session.{Session}
 use Rattle.protocol.specs.declared.Due.{Due}
-use Rattle.protocol.specs.declared.Due.TheVariants as Due
-use Rattle.protocol.specs.declared.Owed.{Owed}
-use Rattle.protocol.specs.declared.Owed.TheVariants as Owed
 use Rattle.protocol.specs.declared.Table.{Table}
 use Rattle.protocol.specs.declared.Receiver.{Receiver}
 use Rattle.protocol.specs.declared.Told.TheVariants as Told
 use Rattle.protocol.specs.declared.Change.{Change}
 use Rattle.protocol.specs.declared.Answered.{Answered}
-use Rattle.protocol.specs.declared.Found.TheVariants as Found
 use Rattle.protocol.proofs.Laws.{no_way}
 use Rattle.protocol.proofs.Frames.{nothing-told, written-told}
 use Rattle.protocol.proofs.SupplyWays.{Way, refused, held, wrote, way, Lists, turn-lists, lists-no-part, turn-owes}
@@ -107,7 +98,7 @@ module _ (m : List Mark) (p : Option Part) (bs : List ℕ) where
         served = wrote-served w ok.served;
       }
 
-nothing_written : (m : List Mark) → Writes m Option.none []
+nothing_written : (m : List Mark) → Writes m None []
 nothing_written m = record { stand = rw nothing-told tt; part = λ k. rw nothing-told }
 
 -- ---- in a session that lists
@@ -128,7 +119,7 @@ due-lists (Due.WriteLast j n) = refl
 due-lists Due.Commit = refl
 due-lists Due.Request = refl
 
-module _ {t : Table} {m : List Mark} (sound : Sound t) (ok : TableOK t m) {u : Supply} {i : ℕ} (none : part_of u ≡ Option.none)
+module _ {t : Table} {m : List Mark} (sound : Sound t) (ok : TableOK t m) {u : Supply} {i : ℕ} (none : part_of u ≡ None)
     (lists : Lists t u i) where
   abbrev s : Session
   s = session_at t i
@@ -148,7 +139,7 @@ module _ {t : Table} {m : List Mark} (sound : Sound t) (ok : TableOK t m) {u : S
       }
 
   -- nothing is due for it
-  owed-elsewhere : (n : ℕ) (d : Due) → t.owed ≡ Owed.For n d → n ≡ i → ⊥
+  owed-elsewhere : (n : ℕ) (d : Due) → t.owed ≡ Some (n, d) → n ≡ i → ⊥
   owed-elsewhere n d q r =
       no_way (sym lists.listing ∙ ap is_listing (rw r at (owed-session sound q).fits.0) ∙ due-lists d)
 
@@ -164,23 +155,23 @@ module _ {t : Table} {m : List Mark} (sound : Sound t) (ok : TableOK t m) {u : S
       })
       (elsewhere t.owed refl ok.owed) (w.stand, ok.told) (wrote-served m (part_of u) bs w ok.served)
     where
-      elsewhere : (o : Owed) → t.owed ≡ o → AskedLast t.sessions (last_ask m) o
+      elsewhere : (o : Option (ℕ × Due)) → t.owed ≡ o → AskedLast t.sessions (last_ask m) o
           → AskedLast (set t.sessions i (with_state s SessionState.Serving)) (last_ask m) o
-      elsewhere Owed.Nothing q a = tt
-      elsewhere (Owed.For n d) q a =
+      elsewhere None q a = tt
+      elsewhere (Some (n, d)) q a =
           asked-other t.sessions i n (with_state s SessionState.Serving) (last_ask m) d (owed-elsewhere n d q) a
 
 -- ---- a part of the file that is asked for
-module _ {ss : List Session} {i : ℕ} {m : List Mark} (sound : Sound (table ss (Owed.For i Due.Request)))
-    (ok : TableOK (table ss (Owed.For i Due.Request)) m) (last : Bool) (bytes : List ℕ) where
+module _ {ss : List Session} {i : ℕ} {m : List Mark} (sound : Sound (table ss (Some (i, Due.Request))))
+    (ok : TableOK (table ss (Some (i, Due.Request))) m) (last : Bool) (bytes : List ℕ) where
   abbrev asked-for : Session
-  asked-for = session_at (table ss (Owed.For i Due.Request)) i
+  asked-for = session_at (table ss (Some (i, Due.Request))) i
 
   abbrev piece : Command
   piece = piece_values (id_of asked-for) (file_id_of (file_at asked-for 0)) bytes last
 
   abbrev given : Option Part
-  given = Option.some (record { last = last; bytes = bytes })
+  given = Some (record { last = last; bytes = bytes })
 
   asking : Asking asked-for (last_ask m) Due.Request
   asking = ok.owed
@@ -211,7 +202,7 @@ module _ {ss : List Session} {i : ℕ} {m : List Mark} (sound : Sound (table ss 
   no_more : (bs : List ℕ) → Goes m given bs true false
   no_more bs = record { part = λ k. rw requests; commit = λ k _ c. no_way (sym c ∙ rw requests) }
 
-  last-kept : (bs : List ℕ) → Writes m given bs → TableOK (table ss Owed.Nothing) (Mark.wrote given bs ∷ m)
+  last-kept : (bs : List ℕ) → Writes m given bs → TableOK (table ss None) (Mark.wrote given bs ∷ m)
   last-kept bs w =
       record {
         each = λ j. session-wrote m given bs (no_more bs) _ (ok.each j);
@@ -225,7 +216,7 @@ module _ {ss : List Session} {i : ℕ} {m : List Mark} (sound : Sound (table ss 
 pub record Supplied (r : Receiver) (m : List Mark) (u : Supply) (o : Outcome Answered) : Type 0 where
   pub framing : o.answer.receiver.framing ≡ r.framing
   pub ok : TableOK o.answer.receiver.table
-      (Mark.wrote (cond (is_refused o.answer.told) Option.none (part_of u)) (take o.answer.reply_len o.buffer) ∷ m)
+      (Mark.wrote (cond (is_refused o.answer.told) None (part_of u)) (take o.answer.reply_len o.buffer) ∷ m)
   pub none : NoneDone r.table o.answer.receiver.table
 
 -- the bytes of it: one command, or none where it is held back
@@ -239,7 +230,7 @@ Steps f t m u i n b = Supplied (record { framing = f; table = t }) m u (outcome 
 
 module _ (f : Framing) {t : Table} {m : List Mark} (sound : Sound t) (ok : TableOK t m) where
   -- the session stays as it is
-  same-steps : (u : Supply) (i n : ℕ) (b : List ℕ) → change_for u ≡ tells Told.Nothing no_reply → Writes m (part_of u) (take n b)
+  same-steps : (u : Supply) (i n : ℕ) (b : List ℕ) → change_for u ≡ tells Told.Nothing None → Writes m (part_of u) (take n b)
       → Steps f t m u i n b
   same-steps u i n b e w =
       subst (λ (c : Change). Supplied (record { framing = f; table = t }) m u (outcome (answered_by f (step_by t i nowhere c) n) b)) (sym e)
@@ -251,13 +242,13 @@ module _ (f : Framing) {t : Table} {m : List Mark} (sound : Sound t) (ok : Table
       })
 
   -- of the listing, its bytes written or held back
-  list-writes : (u : Supply) (i : ℕ) (bs : List ℕ) → part_of u ≡ Option.none → turn_of t u ≡ Found.At i → Bytes (session_at t i) u bs
+  list-writes : (u : Supply) (i : ℕ) (bs : List ℕ) → part_of u ≡ None → turn_of t u ≡ Some i → Bytes (session_at t i) u bs
       → Writes m (part_of u) bs
   list-writes u i bs none q (told c) = entry-writes sound ok none (turn-lists t u i none q) bs c
   list-writes u i bs none q (silent c _) = rw (none, c) (nothing_written m)
 
   home-steps : (id path : List ℕ) (i n : ℕ) (b : List ℕ) → let u = Supply.home id path in
-      turn_of t u ≡ Found.At i → Bytes (session_at t i) u (take n b) → Steps f t m u i n b
+      turn_of t u ≡ Some i → Bytes (session_at t i) u (take n b) → Steps f t m u i n b
   home-steps id path i n b q c =
       let u = Supply.home id path in
       record {
@@ -267,15 +258,17 @@ module _ (f : Framing) {t : Table} {m : List Mark} (sound : Sound t) (ok : Table
       }
 
 -- a part
-part-steps : (f : Framing) (ss : List Session) (o : Owed) {m : List Mark} → Sound (table ss o) → TableOK (table ss o) m → (last : Bool)
-    (bytes : List ℕ) (i n : ℕ) (b : List ℕ) → o ≡ Owed.For i Due.Request
+part-steps : (f : Framing) (ss : List Session) (o : Option (ℕ × Due)) {m : List Mark} → Sound (table ss o)
+    → TableOK (table ss o) m → (last : Bool)
+    (bytes : List ℕ) (i n : ℕ) (b : List ℕ) → o ≡ Some (i, Due.Request)
     → Bytes (session_at (table ss o) i) (Supply.part last bytes) (take n b) → Steps f (table ss o) m (Supply.part last bytes) i n b
 part-steps f ss o {m} sound ok last bytes i n b e c =
-    subst (λ (x : Owed). Sound (table ss x) → TableOK (table ss x) m → Bytes (session_at (table ss x) i) (Supply.part last bytes) (take n b)
+    subst (λ (x : Option (ℕ × Due)). Sound (table ss x) → TableOK (table ss x) m
+    → Bytes (session_at (table ss x) i) (Supply.part last bytes) (take n b)
     → Steps f (table ss x) m (Supply.part last bytes) i n b) (sym e) (go last) sound ok c
   where
     t : Table
-    t = table ss (Owed.For i Due.Request)
+    t = table ss (Some (i, Due.Request))
 
     go : (v : Bool) → Sound t → TableOK t m → Bytes (session_at t i) (Supply.part v bytes) (take n b)
         → Steps f t m (Supply.part v bytes) i n b
@@ -288,13 +281,13 @@ part-steps f ss o {m} sound ok last bytes i n b e c =
           ok =
               rw (own-cleared i Due.Request)
               (subst (λ (y : Table). TableOK y (Mark.wrote (part_of (Supply.part true bytes)) (take n b) ∷ m))
-              (sym (same-sessions t i Owed.Nothing))
+              (sym (same-sessions t i None))
               (last-kept sound ok true bytes (take n b) (part-writes sound ok true bytes (take n b) c)));
-          none = none-put t i (session_at t i) (cleared i (Owed.For i Due.Request)) (λ j q. (q, refl, refl, refl));
+          none = none-put t i (session_at t i) (cleared i (Some (i, Due.Request))) (λ j q. (q, refl, refl, refl));
         }
 
 steps : (f : Framing) (t : Table) {m : List Mark} → Sound t → TableOK t m → (u : Supply) (i n : ℕ) (b : List ℕ)
-    → turn_of t u ≡ Found.At i → Bytes (session_at t i) u (take n b) → Steps f t m u i n b
+    → turn_of t u ≡ Some i → Bytes (session_at t i) u (take n b) → Steps f t m u i n b
 steps f t sound ok (Supply.list e text contents) i n b q c =
     let u = Supply.list e text contents in same-steps f sound ok u i n b refl (list-writes f sound ok u i (take n b) refl q c)
 steps f t sound ok (Supply.list_failed text id path code) i n b q c =
@@ -311,7 +304,7 @@ supplied r {m} sound ok u out = go (way r u out)
     go (refused n) =
         record {
           framing = refl;
-          ok = same-wrote m Option.none [] (nothing_written m) ok;
+          ok = same-wrote m None [] (nothing_written m) ok;
           none = none-same r.table r.table.owed;
         }
     go (held i n q w h _ _) = steps r.framing r.table sound ok u i 0 out q (silent refl h)

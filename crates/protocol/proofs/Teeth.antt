@@ -2,10 +2,11 @@
 use Prim.Native.Nat.{ℕ, ◌≤◌}
 use mathlib.Core.Path.{◌≡◌, refl, sym, ap, ◌∙◌}
 use mathlib.Core.Bool.{true, false}
-use mathlib.Core.Option.{Option, none-ne-some}
 use mathlib.Core.List.{List, [], ◌∷◌, ◌++◌}
 use native.Mathlib.Omega.{arith}
 use lib.ListN.{length, take}
+use Rattle.std.proofs.lemmas.Option.{none-some}
+use Rattle.std.specs.Prelude.{Some, None}
 use Rattle.octets.specs.Ascii.{ascii}
 use Rattle.frames.specs.Stream.{framed}
 use Rattle.protocol.specs.Table.{fresh_receiver, empty_table, session_at, file_at, is_present, total, started_share}
@@ -27,7 +28,6 @@ use Rattle.protocol.specs.WrongMachines.{keeping_numbers, uncounting, closer_los
 use Rattle.protocol.specs.declared.FileState.TheVariants as FileState
 use Rattle.protocol.specs.declared.SessionState.TheVariants as SessionState
 use Rattle.protocol.specs.declared.Due.TheVariants as Due
-use Rattle.protocol.specs.declared.Owed.TheVariants as Owed
 use Rattle.protocol.specs.declared.Table.{Table}
 use Rattle.protocol.specs.declared.Receiver.{Receiver}
 use Rattle.protocol.specs.declared.Failure.TheVariants as Failure
@@ -102,7 +102,7 @@ abbrev fed_with : Machine → Receiver → Fed
 fed_with m r = (m.feeds r (65 ∷ []) carry₀ scratch₀ reply₀).fed
 
 abbrev owing : Receiver
-owing = record { framing = fresh_receiver.framing; table = with_owed empty_table (Owed.For 0 Due.Commit) }
+owing = record { framing = fresh_receiver.framing; table = with_owed empty_table (Some (0, Due.Commit)) }
 
 -- ---- what each does
 record Computed : Type 0 where
@@ -120,9 +120,9 @@ record Computed : Type 0 where
   never_closing-stays : StaysOpen never_closing ended (last_command never_closing ended) (ascii "A")
   unasked-hands : HandsBadly unasked unallowed (feed data_piece)
   deaf-hands : HandsBadly deaf canceled (feed data_piece)
-  keeping_owed-owes : (table_after keeping_owed dropping).owed ≡ Owed.For 0 (Due.OpenFile 0)
+  keeping_owed-owes : (table_after keeping_owed dropping).owed ≡ Some (0, Due.OpenFile 0)
   keeping_owed-drops : (session_at (table_after keeping_owed dropping) 0).state ≡ SessionState.Absent
-  stuck_opening-owes : due_of (table_after stuck_opening failing).owed 0 ≡ Option.none
+  stuck_opening-owes : due_of (table_after stuck_opening failing).owed 0 ≡ None
   stuck_opening-opens : (file_at (session_at (table_after stuck_opening failing) 0) 0).state ≡ FileState.Opening
   keeping_numbers-counts : (session_at (table_after keeping_numbers started_dropped) 0).started ≡ 1
   keeping_numbers-files : total started_share (session_at (table_after keeping_numbers started_dropped) 0).files ≡ 0
@@ -197,7 +197,7 @@ dropped-owes claim =
 opening_for-good : EverySound stuck_opening → ⊥
 opening_for-good claim =
     let s = (sound-at-last stuck_opening failing claim).each 0 in
-    none-ne-some 0 (sym (ap opens_at computed.stuck_opening-owes) ∙ s.opening 0 computed.stuck_opening-opens)
+    none-some 0 (sym (ap opens_at computed.stuck_opening-owes) ∙ s.opening 0 computed.stuck_opening-opens)
 
 dropped-counts : EveryCount keeping_numbers → ⊥
 dropped-counts claim =

@@ -2,8 +2,8 @@
 use Prim.Native.Nat.{ℕ}
 use mathlib.Core.Path.{◌≡◌, refl, sym}
 use mathlib.Core.Bool.{Bool, true, false}
-use mathlib.Core.Option.{Option}
 use mathlib.Core.List.{List}
+use Rattle.std.specs.Prelude.{None}
 use Rattle.command.specs.Slots.{nowhere}
 use Rattle.command.specs.declared.Place.{Place}
 use Rattle.protocol.specs.Change.{ask_of, told_by}
@@ -15,11 +15,9 @@ use Rattle.protocol.specs.Machine.{is_unfed, is_refused}
 use Rattle.protocol.specs.Cuts.{saying}
 use Rattle.protocol.specs.Isolation.{is_asking}
 use Rattle.protocol.specs.declared.Due.{Due}
-use Rattle.protocol.specs.declared.Due.TheVariants as Due
 use Rattle.protocol.specs.declared.Session.{Session}
 use Rattle.protocol.specs.declared.Failure.{Failure}
 use Rattle.protocol.specs.declared.Told.{Told}
-use Rattle.protocol.specs.declared.Told.TheVariants as Told
 use Rattle.protocol.specs.declared.Change.{Change}
 use Rattle.protocol.proofs.Laws.{no_way}
 
@@ -41,7 +39,7 @@ is_plain Told.Committed = true
 
 -- it is heard as no ask, refuses nothing, and says the same whatever the scratch
 pub record Plain (w : Told) : Type 0 where
-  pub silent : (scratch : List ℕ) → hearing w scratch ≡ Option.none
+  pub silent : (scratch : List ℕ) → hearing w scratch ≡ None
   pub unasking : (scratch : List ℕ) → is_asking (saying w scratch) ≡ false
   pub taken : is_unfed w ≡ false
   pub accepted : is_refused w ≡ false

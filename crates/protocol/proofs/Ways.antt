@@ -8,16 +8,16 @@ use native.Mathlib.Omega.{arith}
 use lib.ListN.{length}
 use lib.Dec.{ltb, eqb}
 use borrow.Author.Tests.{lt-ltb, ltb-false, eqb-true, eqb-false}
+use Rattle.std.specs.Prelude.{Option, Some, None}
 use Rattle.octets.specs.Slices.{equals}
 use Rattle.frames.proofs.Choices.{by_cond}
 use Rattle.pathname.specs.Name.{valid_name}
 use Rattle.command.specs.Slots.{action_code}
 use Rattle.command.specs.declared.Action.{Action}
-use Rattle.command.specs.declared.Action.TheVariants as Action
 use Rattle.protocol.specs.Table.{no_file, file_at, file_id_of, is_present, is_used, file_used, find_file, first, is_free, is_started_state}
 use Rattle.protocol.specs.Table.{is_started}
 use Rattle.protocol.specs.Actions.{result_in, kind_of}
-use Rattle.protocol.specs.Replies.{no_reply, session_reply, file_reply}
+use Rattle.protocol.specs.Replies.{session_reply, file_reply}
 use Rattle.protocol.specs.Change.{change, tells, asks, opens, drops}
 use Rattle.protocol.specs.Files.{Request, ignored, opening, file_status, link_like, is_rsync, bad_permissions, bad_size, declared_by}
 use Rattle.protocol.specs.Files.{is_directory, open_due, passes, ends_short}
@@ -29,21 +29,15 @@ use Rattle.protocol.specs.Receives as Receives
 use Rattle.protocol.specs.Rule.{is_open, drop_told, present_result, obeyed_by}
 use Rattle.protocol.specs.Sound.{Held, Unique}
 use Rattle.protocol.specs.declared.FileState.{FileState}
-use Rattle.protocol.specs.declared.FileState.TheVariants as FileState
 use Rattle.protocol.specs.declared.SessionState.{SessionState}
-use Rattle.protocol.specs.declared.SessionState.TheVariants as SessionState
 use Rattle.protocol.specs.declared.Session.{Session}
 use Rattle.protocol.specs.declared.Due.TheVariants as Due
 use Rattle.protocol.specs.declared.Status.{Status}
-use Rattle.protocol.specs.declared.Status.TheVariants as Status
 use Rattle.protocol.specs.declared.Told.{Told}
-use Rattle.protocol.specs.declared.Told.TheVariants as Told
 use Rattle.protocol.specs.declared.Reply.{Reply}
 use Rattle.protocol.specs.declared.Edit.TheVariants as Edit
 use Rattle.protocol.specs.declared.News.TheVariants as News
 use Rattle.protocol.specs.declared.Change.{Change}
-use Rattle.protocol.specs.declared.Found.{Found}
-use Rattle.protocol.specs.declared.Found.TheVariants as Found
 use Rattle.protocol.proofs.Laws.{no_way, found_at, found_nowhere, unique-other}
 use Rattle.protocol.proofs.Tellings.{is_plain}
 
@@ -61,34 +55,34 @@ brought false = FileState.Started
 
 module _ (s : Session) (q : Request) where
   -- a reply about the session, or about the command's file
-  pub data About : Reply → Type 0 where
-    nobody : About no_reply
-    session : (w : Status) → About (session_reply w s)
-    file : (w : Status) → About (file_reply w s (opening q.file 0) 0)
+  pub data About : Option Reply → Type 0 where
+    nobody : About None
+    session : (w : Status) → About (Some (session_reply w s))
+    file : (w : Status) → About (Some (file_reply w s (opening q.file 0) 0))
 
   -- a new file or path, with room at place j
   pub record NewFile (j : ℕ) : Type 0 where
     pub action : q.action ≡ Action.File
     pub some : length q.file ≡ 0 → ⊥
-    pub new : find_file s q.file ≡ Found.Nowhere
-    pub room : first is_free s.files ≡ Found.At j
+    pub new : find_file s q.file ≡ None
+    pub room : first is_free s.files ≡ Some j
 
   -- a part for the started file at place j
   pub record PartOf (j : ℕ) : Type 0 where
     pub brings : brings q.action ≡ true
     pub ends : ends q.action ≡ false
-    pub found : find_file s q.file ≡ Found.At j
+    pub found : find_file s q.file ≡ Some j
     pub started : (file_at s j).state ≡ FileState.Started
 
   -- its file is unknown, or not started
-  pub data Unstarted : Found → Type 0 where
-    nowhere : Unstarted Found.Nowhere
-    waits : {j : ℕ} → ((file_at s j).state ≡ FileState.Started → ⊥) → Unstarted (Found.At j)
+  pub data Unstarted : Option ℕ → Type 0 where
+    nowhere : Unstarted None
+    waits : {j : ℕ} → ((file_at s j).state ≡ FileState.Started → ⊥) → Unstarted (Some j)
 
   pub data Way : Change → Type 0 where
-    nothing : (w : Told) (r : Reply) → is_plain w ≡ true → About r → ends q.action ≡ false
+    nothing : (w : Told) (r : Option Reply) → is_plain w ≡ true → About r → ends q.action ≡ false
         → (s.state ≡ SessionState.Open → brings q.action ≡ true → Unstarted (find_file s q.file)) → Way (tells w r)
-    dropped : (w : Told) (r : Reply) → is_plain w ≡ true → About r → Way (drops w r)
+    dropped : (w : Told) (r : Option Reply) → is_plain w ≡ true → About r → Way (drops w r)
     open_asked : (j : ℕ) → s.state ≡ SessionState.Open → NewFile j → link_like q.type ≡ false
         → Way (opens j (opening q.file (declared_by q.type q.size)) (open_due (is_directory q.type) j))
     part_failed : (j : ℕ) (w : Status) → s.state ≡ SessionState.Open → PartOf j → Way (failed_file s j w)
@@ -97,9 +91,9 @@ module _ (s : Session) (q : Request) where
         → Way (asks (write_due last j q.long))
     commit_asked : s.state ≡ SessionState.Open → brings q.action ≡ false → s.started ≡ 0 → Way (asks Due.Commit)
     path_named : (j : ℕ) → s.state ≡ SessionState.Naming → NewFile j
-        → Way (change (Edit.Filed j) (named q.file) (News.Tells Told.Path) no_reply)
+        → Way (change (Edit.Filed j) (named q.file) (News.Tells Told.Path) None)
     last_named : s.state ≡ SessionState.Naming → q.action ≡ Action.File
-        → Way (change Edit.Waits no_file (News.Tells Told.LastPath) no_reply)
+        → Way (change Edit.Waits no_file (News.Tells Told.LastPath) None)
     request_asked : s.state ≡ SessionState.Serving → q.action ≡ Action.File → Way (request_of q.file)
 
 is-started : (g : FileState) → is_started_state g ≡ true → g ≡ FileState.Started
@@ -122,12 +116,12 @@ module _ (s : Session) (q : Request) where
     status-way : (w : Status) → Way s q (file_status s q.file w)
     status-way w = nothing (Told.Status w) _ refl (file w) (rw a) (λ _ e. no_way (sym (rw a at e)))
 
-    new-way : (x : Change) → ((length q.file ≡ 0 → ⊥) → find_file s q.file ≡ Found.Nowhere → Way s q x) → Way s q (if_new s q.file x)
+    new-way : (x : Change) → ((length q.file ≡ 0 → ⊥) → find_file s q.file ≡ None → Way s q x) → Way s q (if_new s q.file x)
     new-way x f = go (eqb (length q.file) 0) refl
       where
-        known : (length q.file ≡ 0 → ⊥) → (r : Found) → find_file s q.file ≡ r → Way s q (unless_known s q.file x r)
-        known some Found.Nowhere e = f some e
-        known some (Found.At j) e = status-way Status.Eexist
+        known : (length q.file ≡ 0 → ⊥) → (r : Option ℕ) → find_file s q.file ≡ r → Way s q (unless_known s q.file x r)
+        known some None e = f some e
+        known some (Some j) e = status-way Status.Eexist
 
         go : (b : Bool) → eqb (length q.file) 0 ≡ b
             → Way s q (cond b (file_status s q.file Status.Einval) (unless_known s q.file x (find_file s q.file)))
@@ -136,10 +130,10 @@ module _ (s : Session) (q : Request) where
 
   -- ---- a path
   module _ (o : s.state ≡ SessionState.Naming) (a : q.action ≡ Action.File) where
-    named-way : (length q.file ≡ 0 → ⊥) → find_file s q.file ≡ Found.Nowhere → (f : Found) → first is_free s.files ≡ f
+    named-way : (length q.file ≡ 0 → ⊥) → find_file s q.file ≡ None → (f : Option ℕ) → first is_free s.files ≡ f
         → Way s q (Receives.path_named s q.file f)
-    named-way some new Found.Nowhere r = status-way a Status.Emfile
-    named-way some new (Found.At j) r =
+    named-way some new None r = status-way a Status.Emfile
+    named-way some new (Some j) r =
         by_cond (Way s q) (ltb (j + 1) s.wanted) (λ _. path_named j o (record { action = a; some = some; new = new; room = r }))
         (λ _. last_named o a)
 
@@ -151,12 +145,12 @@ module _ (s : Session) (q : Request) where
 
   -- ---- file, "first that applies"
   module _ (o : s.state ≡ SessionState.Open) (a : q.action ≡ Action.File) where
-    recorded-way : (length q.file ≡ 0 → ⊥) → find_file s q.file ≡ Found.Nowhere → link_like q.type ≡ false
-        → (f : Found) → first is_free s.files ≡ f → Way s q (file_recorded s q f)
-    recorded-way some new e Found.Nowhere r = status-way a Status.Emfile
-    recorded-way some new e (Found.At j) r = open_asked j o (record { action = a; some = some; new = new; room = r }) e
+    recorded-way : (length q.file ≡ 0 → ⊥) → find_file s q.file ≡ None → link_like q.type ≡ false
+        → (f : Option ℕ) → first is_free s.files ≡ f → Way s q (file_recorded s q f)
+    recorded-way some new e None r = status-way a Status.Emfile
+    recorded-way some new e (Some j) r = open_asked j o (record { action = a; some = some; new = new; room = r }) e
 
-    checked-way : (length q.file ≡ 0 → ⊥) → find_file s q.file ≡ Found.Nowhere → Way s q (file_checked s q)
+    checked-way : (length q.file ≡ 0 → ⊥) → find_file s q.file ≡ None → Way s q (file_checked s q)
     unfolding file_checked
     checked-way some new =
         go (link_like q.type) refl (is_rsync q.transmission) (bad_permissions q.permissions) (bad_size q.type q.size)
@@ -182,9 +176,9 @@ module _ (s : Session) (q : Request) where
   -- ---- data, end_data
   module _ (o : s.state ≡ SessionState.Open) (b : brings q.action ≡ true) (e : ends q.action ≡ false) (last : Bool) where
     ignored-way : Unstarted s q (find_file s q.file) → Way s q ignored
-    ignored-way f = nothing Told.Ignored no_reply refl nobody e (λ _ _. f)
+    ignored-way f = nothing Told.Ignored None refl nobody e (λ _ _. f)
 
-    module _ (j : ℕ) (found : find_file s q.file ≡ Found.At j) where
+    module _ (j : ℕ) (found : find_file s q.file ≡ Some j) where
       waits-way : ((file_at s j).state ≡ FileState.Started → ⊥) → Way s q ignored
       waits-way w = ignored-way (rw found (waits w))
 
@@ -222,9 +216,9 @@ module _ (s : Session) (q : Request) where
     unfolding data_of
     part-way = go (find_file s q.file) refl
       where
-        go : (f : Found) → find_file s q.file ≡ f → Way s q (part_found s last q.long f)
-        go Found.Nowhere r = ignored-way (rw r nowhere)
-        go (Found.At j) r = found-way j r
+        go : (f : Option ℕ) → find_file s q.file ≡ f → Way s q (part_found s last q.long f)
+        go None r = ignored-way (rw r nowhere)
+        go (Some j) r = found-way j r
 
   -- ---- by the action table
   finish-way : s.state ≡ SessionState.Open → brings q.action ≡ false → Way s q (finish_of s)
@@ -237,21 +231,22 @@ module _ (s : Session) (q : Request) where
   drop-plain true = refl
   drop-plain false = refl
 
-  cancel-way : Way s q (drops (drop_told s) (session_reply Status.Canceled s))
+  cancel-way : Way s q (drops (drop_told s) (Some (session_reply Status.Canceled s)))
   cancel-way = dropped (drop_told s) _ (drop-plain (is_open s.state)) (session Status.Canceled)
 
   -- one that neither brings nor ends anything
-  idle-way : (a : Action) → q.action ≡ a → brings a ≡ false → ends a ≡ false → (w : Told) (r : Reply) → is_plain w ≡ true → About s q r
+  idle-way : (a : Action) → q.action ≡ a → brings a ≡ false → ends a ≡ false → (w : Told) (r : Option Reply) → is_plain w ≡ true
+      → About s q r
       → Way s q (tells w r)
   idle-way a x b e w r p t = nothing w r p t (rw x e) (λ _ y. no_way (sym (rw x at y) ∙ b))
 
   invalid-way : (a : Action) → q.action ≡ a → brings a ≡ false → ends a ≡ false
-      → Way s q (tells (Told.Status Status.Einval) (session_reply Status.Einval s))
+      → Way s q (tells (Told.Status Status.Einval) (Some (session_reply Status.Einval s)))
   invalid-way a x b e = idle-way a x b e (Told.Status Status.Einval) _ refl (session Status.Einval)
 
   open-way : s.state ≡ SessionState.Open → (a : Action) → q.action ≡ a → Way s q (present_result s q (kind_of SessionState.Open a))
   unfolding kind_of result_in
-  open-way o Action.None a = idle-way Action.None a refl refl Told.Ignored no_reply refl nobody
+  open-way o Action.None a = idle-way Action.None a refl refl Told.Ignored None refl nobody
   open-way o Action.Send a = invalid-way Action.Send a refl refl
   open-way o Action.Receive a = invalid-way Action.Receive a refl refl
   open-way o Action.File a = file-way o a
@@ -259,14 +254,14 @@ module _ (s : Session) (q : Request) where
   open-way o Action.EndData a = part-way o (rw a) (rw a) true
   open-way o Action.Finish a = finish-way o (rw a)
   open-way o Action.Cancel a = cancel-way
-  open-way o Action.Status a = idle-way Action.Status a refl refl Told.Ignored no_reply refl nobody
+  open-way o Action.Status a = idle-way Action.Status a refl refl Told.Ignored None refl nobody
 
-  withdraw-way : Way s q (drops (drop_told s) no_reply)
-  withdraw-way = dropped (drop_told s) no_reply (drop-plain (is_open s.state)) nobody
+  withdraw-way : Way s q (drops (drop_told s) None)
+  withdraw-way = dropped (drop_told s) None (drop-plain (is_open s.state)) nobody
 
   asked-way_of : (a : Action) → q.action ≡ a → Way s q (present_result s q (kind_of SessionState.Asked a))
   unfolding kind_of result_in
-  asked-way_of Action.None a = idle-way Action.None a refl refl Told.Ignored no_reply refl nobody
+  asked-way_of Action.None a = idle-way Action.None a refl refl Told.Ignored None refl nobody
   asked-way_of Action.Send a = withdraw-way
   asked-way_of Action.Receive a = withdraw-way
   asked-way_of Action.File a = withdraw-way
@@ -278,7 +273,7 @@ module _ (s : Session) (q : Request) where
 
   waiting-way : (a : Action) → q.action ≡ a → Way s q (present_result s q (kind_of SessionState.Waiting a))
   unfolding kind_of result_in
-  waiting-way Action.None a = idle-way Action.None a refl refl Told.Ignored no_reply refl nobody
+  waiting-way Action.None a = idle-way Action.None a refl refl Told.Ignored None refl nobody
   waiting-way Action.Send a = withdraw-way
   waiting-way Action.Receive a = withdraw-way
   waiting-way Action.File a = withdraw-way
@@ -290,7 +285,7 @@ module _ (s : Session) (q : Request) where
 
   naming-way : s.state ≡ SessionState.Naming → (a : Action) → q.action ≡ a → Way s q (present_result s q (kind_of SessionState.Naming a))
   unfolding kind_of result_in
-  naming-way o Action.None a = idle-way Action.None a refl refl Told.Ignored no_reply refl nobody
+  naming-way o Action.None a = idle-way Action.None a refl refl Told.Ignored None refl nobody
   naming-way o Action.Send a = withdraw-way
   naming-way o Action.Receive a = withdraw-way
   naming-way o Action.File a = path-way o a
@@ -302,12 +297,12 @@ module _ (s : Session) (q : Request) where
 
   -- data and end_data in an open receive session, which has no started file
   unheard-way : (s.state ≡ SessionState.Open → ⊥) → ends q.action ≡ false → Way s q ignored
-  unheard-way n e = nothing Told.Ignored no_reply refl nobody e (λ o. absurd (n o))
+  unheard-way n e = nothing Told.Ignored None refl nobody e (λ o. absurd (n o))
 
   listing-way : (s.state ≡ SessionState.Open → ⊥) → (a : Action) → q.action ≡ a
       → Way s q (present_result s q (kind_of SessionState.Listing a))
   unfolding kind_of result_in
-  listing-way n Action.None a = idle-way Action.None a refl refl Told.Ignored no_reply refl nobody
+  listing-way n Action.None a = idle-way Action.None a refl refl Told.Ignored None refl nobody
   listing-way n Action.Send a = invalid-way Action.Send a refl refl
   listing-way n Action.Receive a = invalid-way Action.Receive a refl refl
   listing-way n Action.File a = unheard-way n (rw a)
@@ -320,7 +315,7 @@ module _ (s : Session) (q : Request) where
   serving-way : s.state ≡ SessionState.Serving → (s.state ≡ SessionState.Open → ⊥) → (a : Action) → q.action ≡ a
       → Way s q (present_result s q (kind_of SessionState.Serving a))
   unfolding kind_of result_in
-  serving-way o n Action.None a = idle-way Action.None a refl refl Told.Ignored no_reply refl nobody
+  serving-way o n Action.None a = idle-way Action.None a refl refl Told.Ignored None refl nobody
   serving-way o n Action.Send a = invalid-way Action.Send a refl refl
   serving-way o n Action.Receive a = invalid-way Action.Receive a refl refl
   serving-way o n Action.File a = request_asked o a
@@ -352,9 +347,9 @@ pub for-none : (s : Session) (q : Request) → Unique file_used file_id_of no_fi
     → (n : ℕ) → (file_at s n).state ≡ FileState.Started → equals (file_id_of (file_at s n)) q.file ≡ false
 for-none s q alone u n g = go (find_file s q.file) refl u
   where
-    go : (f : Found) → find_file s q.file ≡ f → Unstarted s q f → equals (file_id_of (file_at s n)) q.file ≡ false
-    go Found.Nowhere e nowhere = found_nowhere file_used file_id_of no_file s.files q.file refl e n (ap is_used g)
-    go (Found.At j) e (waits w) = by (ℕ_discrete n j)
+    go : (f : Option ℕ) → find_file s q.file ≡ f → Unstarted s q f → equals (file_id_of (file_at s n)) q.file ≡ false
+    go None e nowhere = found_nowhere file_used file_id_of no_file s.files q.file refl e n (ap is_used g)
+    go (Some j) e (waits w) = by (ℕ_discrete n j)
       where
         by : Dec (n ≡ j) → equals (file_id_of (file_at s n)) q.file ≡ false
         by (yes r) = absurd (w (rw r at g))

@@ -1,11 +1,10 @@
 -- The calls: for any receiver and any lent buffers, the answer and every buffer afterwards.
-use Rattle.std.specs.Prelude.{ℕ, Bool, true, false, cond, ◌||◌, List, length, ltb}
+use Rattle.std.specs.Prelude.{ℕ, Bool, cond, ◌||◌, List, length, ltb, Option, is_some}
 use Rattle.octets.specs.Outcome.{Outcome, outcome}
 use Rattle.frames.specs.Stream.{is_drag_drop, text_limit}
 use Rattle.frames.specs.Calls.{refusal_number, scan_of, text_of}
 use Rattle.frames.specs.declared.Framing.{Framing}
 use Rattle.frames.specs.declared.Report.{Report}
-use Rattle.frames.specs.declared.Report.TheVariants as Report
 use Rattle.frames.specs.declared.Scanned.{Scanned}
 use Rattle.command.specs.Slots.{no_command}
 use Rattle.command.specs.Read.{Answer, scratch_room, read_of}
@@ -13,21 +12,18 @@ use Rattle.command.specs.declared.Command.{Command}
 use Rattle.protocol.specs.Replies.{reply_room, replied_of}
 use Rattle.protocol.specs.Change.{telling}
 use Rattle.protocol.specs.Sessions.{obey_of, settle_done, settle_failed, settle_unlisted, decided_of}
-use Rattle.protocol.specs.declared.Owed.{Owed}
-use Rattle.protocol.specs.declared.Owed.TheVariants as Owed
+use Rattle.protocol.specs.declared.Due.{Due}
 use Rattle.protocol.specs.declared.Table.{Table}
 use Rattle.protocol.specs.declared.Receiver.{Receiver}
 use Rattle.protocol.specs.declared.Failure.{Failure}
 use Rattle.protocol.specs.declared.Decision.TheVariants as Decision
 use Rattle.protocol.specs.declared.Told.{Told}
-use Rattle.protocol.specs.declared.Told.TheVariants as Told
 use Rattle.protocol.specs.declared.Stepped.{Stepped}
 use Rattle.protocol.specs.declared.Fed.{Fed}
 use Rattle.protocol.specs.declared.Answered.{Answered}
 
-abbrev pub is_owed : Owed → Bool
-is_owed Owed.Nothing = false
-is_owed (Owed.For i d) = true
+abbrev pub is_owed : Option (ℕ × Due) → Bool
+is_owed o = is_some o
 
 -- ---- feed
 -- what a feed gives: its answer, and the carry, the scratch and the reply buffer afterwards

@@ -1,6 +1,5 @@
 -- Demand 3, of a machine: every list of calls from a fresh receiver, and what holds at each of them.
-use Rattle.std.specs.Prelude.{ℕ, ◌≤◌, ◌<◌, ◌≡◌, Bool, true, false, cond, ◌&&◌, ◌⊎◌, List, [], ◌∷◌, length, take, eqb}
-use Rattle.std.proofs.Math.Option.{Option}
+use Rattle.std.specs.Prelude.{ℕ, ◌≤◌, ◌<◌, ◌≡◌, Bool, true, false, cond, ◌&&◌, ◌⊎◌, List, [], ◌∷◌, length, take, eqb, Some}
 use Rattle.octets.specs.Ascii.{ascii}
 use Rattle.octets.specs.Slices.{equals}
 use Rattle.octets.specs.Outcome.{Outcome}
@@ -72,7 +71,7 @@ pub record ClosingReply (k : Key) (s quiet : ℕ) (a : Outcome Answered) : Type 
 pub record ClosedWhole (m : Machine) (w : World) (reply : List ℕ) (k : Key) (s quiet : ℕ) : Type 0 where
   pub last_part : LastPartAsked k (last_ask (marks_of w.history))
   pub stretch : Stretch
-  pub started : since k (marks_of (step m w (Call.done reply)).history) ≡ Option.some stretch
+  pub started : since k (marks_of (step m w (Call.done reply)).history) ≡ Some stretch
   pub joined : parts k stretch.marks ≡ contents k stretch.marks
   pub counted : s ≡ length (contents k stretch.marks)
   -- "a declared file closes as done only with s equal to it", as the command of that start declared it

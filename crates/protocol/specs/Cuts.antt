@@ -3,7 +3,6 @@ use Rattle.std.specs.Prelude.{ℕ, suc, ◌≡◌, Bool, true, false, cond, List
 use Rattle.octets.specs.Outcome.{Outcome}
 use Rattle.frames.specs.Calls.{text_of}
 use Rattle.frames.specs.declared.Report.{Report}
-use Rattle.frames.specs.declared.Report.TheVariants as Report
 use Rattle.command.specs.Slots.{values_of}
 use Rattle.command.specs.Framed.{frame_room}
 use Rattle.protocol.specs.Replies.{reply_room}
@@ -14,7 +13,6 @@ use Rattle.protocol.specs.Machine.{Machine, Call, World, Lent, step, start}
 use Rattle.protocol.specs.declared.Status.{Status}
 use Rattle.protocol.specs.declared.Failure.{Failure}
 use Rattle.protocol.specs.declared.Told.{Told}
-use Rattle.protocol.specs.declared.Told.TheVariants as Told
 use Rattle.protocol.specs.declared.Answered.{Answered}
 
 -- ---- what a call gives, places apart

@@ -1,29 +1,22 @@
 -- The rules for file, data, end_data and finish in an open session.
-use Rattle.std.specs.Prelude.{ℕ, ◌+◌, Bool, true, false, ◌&&◌, ◌||◌, cond, List, length, ltb, eqb}
+use Rattle.std.specs.Prelude.{ℕ, ◌+◌, Bool, true, false, ◌&&◌, ◌||◌, cond, List, length, ltb, eqb, Option, Some, None}
 use Rattle.decimal.specs.declared.Number.{Number}
 use Rattle.pathname.specs.Name.{valid_name}
 use Rattle.command.specs.declared.Action.{Action}
 use Rattle.command.specs.declared.FileType.{FileType}
-use Rattle.command.specs.declared.FileType.TheVariants as FileType
 use Rattle.command.specs.declared.Transmission.{Transmission}
-use Rattle.command.specs.declared.Transmission.TheVariants as Transmission
 use Rattle.command.specs.declared.Command.{Command}
 use Rattle.protocol.specs.Lengths.{length_by}
-use Rattle.protocol.specs.Table.{padded, file_at, find_file, first, is_free, is_started, moved}
-use Rattle.protocol.specs.Replies.{no_reply, session_reply, file_reply}
+use Rattle.protocol.specs.Table.{file_at, find_file, first, is_free, is_started, moved, kept_id}
+use Rattle.protocol.specs.Replies.{session_reply, file_reply}
 use Rattle.protocol.specs.Change.{tells, asks, opens, files, drops}
 use Rattle.protocol.specs.declared.FileState.{FileState}
-use Rattle.protocol.specs.declared.FileState.TheVariants as FileState
 use Rattle.protocol.specs.declared.FileRecord.{FileRecord}
 use Rattle.protocol.specs.declared.Session.{Session}
 use Rattle.protocol.specs.declared.Due.{Due}
-use Rattle.protocol.specs.declared.Due.TheVariants as Due
 use Rattle.protocol.specs.declared.Status.{Status}
-use Rattle.protocol.specs.declared.Status.TheVariants as Status
 use Rattle.protocol.specs.declared.Told.TheVariants as Told
 use Rattle.protocol.specs.declared.Change.{Change}
-use Rattle.protocol.specs.declared.Found.{Found}
-use Rattle.protocol.specs.declared.Found.TheVariants as Found
 
 -- a command as the rule of one session sees it: words, numbers and strings, and no place
 pub record Request : Type 0 where
@@ -52,15 +45,15 @@ request c file name =
 
 -- nothing changes and nothing is replied
 abbrev pub ignored : Change
-ignored = tells Told.Ignored no_reply
+ignored = tells Told.Ignored None
 
 -- ---- file, "first that applies"
 abbrev pub opening : (id : List ℕ) (declared : ℕ) → FileRecord
-opening k d = record { state = FileState.Opening; id = padded k; id_len = length k; count = 0; declared = d }
+opening k d = record { state = FileState.Opening; id = kept_id k; count = 0; declared = d }
 
 -- a reply about the command's file, which is all that happens
 abbrev pub file_status : Session → List ℕ → Status → Change
-file_status s file w = tells (Told.Status w) (file_reply w s (opening file 0) 0)
+file_status s file w = tells (Told.Status w) (Some (file_reply w s (opening file 0) 0))
 
 -- "symlink, link or rsync"
 abbrev pub link_like : FileType → Bool
@@ -105,9 +98,9 @@ open_due true j = Due.OpenDirectory j
 open_due false j = Due.OpenFile j
 
 -- "32 records EMFILE; else open is asked and the record is opening"
-abbrev pub file_recorded : Session → Request → Found → Change
-file_recorded s q Found.Nowhere = file_status s q.file Status.Emfile
-file_recorded s q (Found.At j) = opens j (opening q.file (declared_by q.type q.size)) (open_due (is_directory q.type) j)
+abbrev pub file_recorded : Session → Request → Option ℕ → Change
+file_recorded s q None = file_status s q.file Status.Emfile
+file_recorded s q (Some j) = opens j (opening q.file (declared_by q.type q.size)) (open_due (is_directory q.type) j)
 
 -- "symlink, link or rsync ENOTSUP; prm outside 0 to 4095 EINVAL; bad name EINVAL"; the size is "checked just after prm"
 unfoldable pub file_checked : Session → Request → Change
@@ -119,9 +112,9 @@ file_checked s q =
     (file_status s q.file Status.Einval))))
 
 -- "fid known EEXIST"; x is what becomes of a file whose id is new
-abbrev pub unless_known : Session → (file : List ℕ) → Change → Found → Change
-unless_known s file x Found.Nowhere = x
-unless_known s file x (Found.At j) = file_status s file Status.Eexist
+abbrev pub unless_known : Session → (file : List ℕ) → Change → Option ℕ → Change
+unless_known s file x None = x
+unless_known s file x (Some j) = file_status s file Status.Eexist
 
 -- "empty fid EINVAL", before that
 abbrev pub if_new : Session → (file : List ℕ) → Change → Change
@@ -133,7 +126,7 @@ file_of s q = if_new s q.file (file_checked s q)
 -- ---- data, end_data
 -- the record j moves to a state with a count, and a status with that `sz` is replied
 abbrev pub settled : Session → ℕ → FileState → ℕ → Status → ℕ → Change
-settled s j g n w size = let f = file_at s j in files j (moved f g n) w (file_reply w s f size)
+settled s j g n w size = let f = file_at s j in files j (moved f g n) w (Some (file_reply w s f size))
 
 -- "record failed", with its status
 abbrev pub failed_file : Session → ℕ → Status → Change
@@ -173,18 +166,18 @@ part_asked s j last n =
     (asks (write_due last j n)))))
 
 -- "no such record, or not started: ignored, no reply"
-abbrev pub part_found : Session → Bool → ℕ → Found → Change
-part_found s last n Found.Nowhere = ignored
-part_found s last n (Found.At j) = cond (is_started (file_at s j)) (part_asked s j last n) ignored
+abbrev pub part_found : Session → Bool → ℕ → Option ℕ → Change
+part_found s last n None = ignored
+part_found s last n (Some j) = cond (is_started (file_at s j)) (part_asked s j last n) ignored
 
 -- a part of n bytes for the file, the last one or not
 unfoldable pub data_of : Session → Bool → List ℕ → ℕ → Change
 data_of s last file n = part_found s last n (find_file s file)
 
 -- ---- finish: "a record still started: dropped, EINVAL (house rule). Else commit is asked."
-abbrev pub finish_found : Session → Found → Change
-finish_found s Found.Nowhere = asks Due.Commit
-finish_found s (Found.At j) = drops Told.Discarded (session_reply Status.Einval s)
+abbrev pub finish_found : Session → Option ℕ → Change
+finish_found s None = asks Due.Commit
+finish_found s (Some j) = drops Told.Discarded (Some (session_reply Status.Einval s))
 
 -- by a search of the records, as that sentence has it
 abbrev pub finish_by_records : Session → Change
@@ -192,4 +185,4 @@ finish_by_records s = finish_found s (first is_started s.files)
 
 -- by the kept number: "keep in the session the number of started files, for finish". `EveryCount` says that it is the same.
 unfoldable pub finish_of : Session → Change
-finish_of s = cond (eqb s.started 0) (asks Due.Commit) (drops Told.Discarded (session_reply Status.Einval s))
+finish_of s = cond (eqb s.started 0) (asks Due.Commit) (drops Told.Discarded (Some (session_reply Status.Einval s)))

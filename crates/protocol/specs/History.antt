@@ -1,6 +1,5 @@
 -- The history of calls, "made from the calls' arguments and answers, never from records". Newest first.
-use Rattle.std.specs.Prelude.{ℕ, Bool, List, [], ◌∷◌, ◌++◌}
-use Rattle.std.proofs.Math.Option.{Option}
+use Rattle.std.specs.Prelude.{ℕ, Bool, List, [], ◌∷◌, ◌++◌, Option, Some, None}
 use Rattle.octets.specs.Slices.{part_of}
 use Rattle.frames.specs.Stream.{Mode, stream}
 use Rattle.frames.specs.Stream as Stream
@@ -8,9 +7,7 @@ use Rattle.command.specs.Values.{Value}
 use Rattle.command.specs.Meaning.{Meaning}
 use Rattle.protocol.specs.Readings as Readings
 use Rattle.protocol.specs.declared.Ask.{Ask}
-use Rattle.protocol.specs.declared.Ask.TheVariants as Ask
 use Rattle.protocol.specs.declared.Told.{Told}
-use Rattle.protocol.specs.declared.Told.TheVariants as Told
 
 -- a command as read: its values, places apart
 abbrev pub Command : Type 0
@@ -34,19 +31,19 @@ heard_ask Ask.Request scratch = Heard.requests
 
 -- the ask that is told, if one is
 abbrev pub hearing : Told → List ℕ → Option Heard
-hearing Told.Nothing scratch = Option.none
-hearing (Told.Refused n) scratch = Option.none
-hearing Told.Ignored scratch = Option.none
-hearing Told.DragDrop scratch = Option.none
-hearing Told.Asked scratch = Option.none
-hearing Told.Naming scratch = Option.none
-hearing Told.Path scratch = Option.none
-hearing Told.LastPath scratch = Option.none
-hearing (Told.Ask a) scratch = Option.some (heard_ask a scratch)
-hearing (Told.Status w) scratch = Option.none
-hearing Told.Withdrawn scratch = Option.none
-hearing Told.Discarded scratch = Option.none
-hearing Told.Committed scratch = Option.none
+hearing Told.Nothing scratch = None
+hearing (Told.Refused n) scratch = None
+hearing Told.Ignored scratch = None
+hearing Told.DragDrop scratch = None
+hearing Told.Asked scratch = None
+hearing Told.Naming scratch = None
+hearing Told.Path scratch = None
+hearing Told.LastPath scratch = None
+hearing (Told.Ask a) scratch = Some (heard_ask a scratch)
+hearing (Told.Status w) scratch = None
+hearing Told.Withdrawn scratch = None
+hearing Told.Discarded scratch = None
+hearing Told.Committed scratch = None
 
 -- a part that the console supplies, the last one or not
 pub record Part : Type 0 where
@@ -102,13 +99,13 @@ commands_in bs = read_in (stream Mode.outside bs).0
 
 -- "An ask then told is for its id and fid"
 abbrev pub hearing_mark : Option Heard → List Mark → List Mark
-hearing_mark Option.none m = m
-hearing_mark (Option.some a) m = Mark.asked a ∷ m
+hearing_mark None m = m
+hearing_mark (Some a) m = Mark.asked a ∷ m
 
 -- ---- the ask told last, with the command that it was told for
 abbrev pub last_read : List Mark → Option Command
-last_read [] = Option.none
-last_read (Mark.read c ∷ m) = Option.some c
+last_read [] = None
+last_read (Mark.read c ∷ m) = Some c
 last_read (Mark.asked a ∷ m) = last_read m
 last_read (Mark.allow k ∷ m) = last_read m
 last_read (Mark.drop k ∷ m) = last_read m
@@ -116,8 +113,8 @@ last_read (Mark.answer b q ∷ m) = last_read m
 last_read (Mark.wrote p bs ∷ m) = last_read m
 
 abbrev pub ask_for : Option Command → Heard → Question
-ask_for Option.none a = Question.none
-ask_for (Option.some c) a = Question.asks c a
+ask_for None a = Question.none
+ask_for (Some c) a = Question.asks c a
 
 abbrev pub last_ask : List Mark → Question
 last_ask [] = Question.none

@@ -1,8 +1,7 @@
 -- "A statement for the auditors", of a machine: what one session gets does not hang on the others (the field says noninterference).
 -- Two runs from fresh receivers with the same commands, console calls and answers for session A, in the same order, agree on all that A
 -- gets.
-use Rattle.std.specs.Prelude.{ℕ, ◌≡◌, Bool, true, false, not, cond, ◌&&◌, ◌||◌, List, [], ◌∷◌, ◌++◌, take, eqb}
-use Rattle.std.proofs.Math.Option.{Option}
+use Rattle.std.specs.Prelude.{ℕ, ◌≡◌, Bool, true, false, not, cond, ◌&&◌, ◌||◌, List, [], ◌∷◌, ◌++◌, take, eqb, Option, Some, None, is_some}
 use Rattle.octets.specs.Slices.{equals}
 use Rattle.octets.specs.Outcome.{Outcome}
 use Rattle.frames.specs.Stream.{stream}
@@ -23,8 +22,6 @@ use Rattle.protocol.specs.declared.Table.{Table}
 use Rattle.protocol.specs.declared.Failure.{Failure}
 use Rattle.protocol.specs.declared.Told.{Told}
 use Rattle.protocol.specs.declared.Answered.{Answered}
-use Rattle.protocol.specs.declared.Found.{Found}
-use Rattle.protocol.specs.declared.Found.TheVariants as Found
 
 -- ---- "the same commands, console calls and answers for session A", each by its values: places, texts and buffers do not count
 pub data Act : Type 0 where
@@ -158,9 +155,9 @@ abbrev pub records : Session → Option Due → Records
 records s d = record { session = s; due = d }
 
 -- found by the id: "the choice of place" is not part of this. An absent session is free room, and owes nothing.
-abbrev pub records_at : Table → Found → Records
-records_at t Found.Nowhere = records absent_session Option.none
-records_at t (Found.At i) = records (session_at t i) (due_of t.owed i)
+abbrev pub records_at : Table → Option ℕ → Records
+records_at t None = records absent_session None
+records_at t (Some i) = records (session_at t i) (due_of t.owed i)
 
 abbrev pub records_of : List ℕ → Table → Records
 records_of A t = records_at t (find_session t A)
@@ -183,9 +180,8 @@ abbrev pub any_begins : List Act → Bool
 any_begins [] = false
 any_begins (a ∷ as') = begins a || any_begins as'
 
-abbrev pub is_at : Found → Bool
-is_at Found.Nowhere = false
-is_at (Found.At i) = true
+abbrev pub is_at : Option ℕ → Bool
+is_at f = is_some f
 
 -- a place of the table is free: not "EBUSY was not answered", which a receiver that is busy with three present would meet
 abbrev pub has_room : Table → Bool
@@ -194,7 +190,7 @@ has_room t = is_at (first is_absent t.sessions)
 module _ (m : Machine) (A : List ℕ) where
   abbrev pub Met : World → Call → Type 0
   Met w c = let t = w.receiver.table in
-      any_begins (acts_at m A w c) ≡ true → find_session t A ≡ Found.Nowhere → has_room t ≡ true
+      any_begins (acts_at m A w c) ≡ true → find_session t A ≡ None → has_room t ≡ true
 
   abbrev pub AllMet : World → List Call → Type 0
   AllMet w [] = Unit {0}

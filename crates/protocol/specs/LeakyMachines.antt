@@ -1,5 +1,5 @@
 -- Wrong receivers in which one session hangs on another, made by wrapping our calls; `Leaks` says that `Isolated` is false of each.
-use Rattle.std.specs.Prelude.{ℕ, Bool, cond, ◌&&◌, List, length, ltb}
+use Rattle.std.specs.Prelude.{ℕ, Bool, cond, ◌&&◌, List, length, ltb, Option, Some, None}
 use Rattle.octets.specs.Ascii.{ascii}
 use Rattle.octets.specs.Outcome.{outcome}
 use Rattle.octets.specs.Slices.{equals}
@@ -16,12 +16,8 @@ use Rattle.protocol.specs.WrongSupplies.{writing_as}
 use Rattle.protocol.specs.Isolation.{has_room, Isolated}
 use Rattle.protocol.specs.IsolationExamples.{SeesAlike}
 use Rattle.protocol.specs.declared.SessionState.{SessionState}
-use Rattle.protocol.specs.declared.SessionState.TheVariants as SessionState
 use Rattle.protocol.specs.declared.Session.{Session}
 use Rattle.protocol.specs.declared.Due.{Due}
-use Rattle.protocol.specs.declared.Due.TheVariants as Due
-use Rattle.protocol.specs.declared.Owed.{Owed}
-use Rattle.protocol.specs.declared.Owed.TheVariants as Owed
 use Rattle.protocol.specs.declared.Table.{Table}
 use Rattle.protocol.specs.declared.Receiver.{Receiver}
 use Rattle.protocol.specs.declared.Told.TheVariants as Told
@@ -76,7 +72,6 @@ with_quiet s n =
       state = s.state;
       quiet = n;
       id = s.id;
-      id_len = s.id_len;
       wanted = s.wanted;
       started = s.started;
       done_bytes = s.done_bytes;
@@ -86,12 +81,12 @@ with_quiet s n =
 -- ---- what is owed
 -- a drop clears what anybody owes
 abbrev pub clearing : Machine
-clearing = dropping_by (λ r id. let a = drop_of r id in leaving (with_owed a.receiver.table Owed.Nothing) a)
+clearing = dropping_by (λ r id. let a = drop_of r id in leaving (with_owed a.receiver.table None) a)
 
 -- done answers for the session at the first place
-abbrev pub for_the_first : Owed → Owed
-for_the_first Owed.Nothing = Owed.Nothing
-for_the_first (Owed.For i d) = Owed.For 0 d
+abbrev pub for_the_first : Option (ℕ × Due) → Option (ℕ × Due)
+for_the_first None = None
+for_the_first (Some (i, d)) = Some (0, d)
 
 abbrev pub settling_first : Machine
 settling_first = answering_of (λ t o. with_owed t (for_the_first o))
@@ -138,7 +133,6 @@ with_id_of s x =
       state = s.state;
       quiet = s.quiet;
       id = x.id;
-      id_len = x.id_len;
       wanted = s.wanted;
       started = s.started;
       done_bytes = s.done_bytes;
@@ -154,15 +148,15 @@ misnaming =
     outcome (record { receiver = (allow_of r id reply).answer.receiver; told = a.told; reply_len = a.reply_len }) o.buffer)
 
 -- a count goes on from that of the first session's file
-abbrev pub counted_on : Table → Owed → Table
-counted_on t Owed.Nothing = t
-counted_on t (Owed.For i (Due.OpenFile j)) = t
-counted_on t (Owed.For i (Due.OpenDirectory j)) = t
-counted_on t (Owed.For i (Due.Write j n)) =
+abbrev pub counted_on : Table → Option (ℕ × Due) → Table
+counted_on t None = t
+counted_on t (Some (i, Due.OpenFile j)) = t
+counted_on t (Some (i, Due.OpenDirectory j)) = t
+counted_on t (Some (i, Due.Write j n)) =
     let f = file_at (session_at t i) j in with_file t i j (moved f f.state (file_at (session_at t 0) j).count)
-counted_on t (Owed.For i (Due.WriteLast j n)) = t
-counted_on t (Owed.For i Due.Commit) = t
-counted_on t (Owed.For i Due.Request) = t
+counted_on t (Some (i, Due.WriteLast j n)) = t
+counted_on t (Some (i, Due.Commit)) = t
+counted_on t (Some (i, Due.Request)) = t
 
 abbrev pub count_of_the_first : Machine
 count_of_the_first = answering_of counted_on

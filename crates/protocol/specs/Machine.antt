@@ -1,6 +1,5 @@
 -- A machine is eight calls; and what a list of calls on it does, one after another.
-use Rattle.std.specs.Prelude.{ℕ, ◌≡◌, Bool, true, false, cond, ◌||◌, List, [], ◌∷◌, take, eqb}
-use Rattle.std.proofs.Math.Option.{Option}
+use Rattle.std.specs.Prelude.{ℕ, ◌≡◌, Bool, true, false, cond, ◌||◌, List, [], ◌∷◌, take, eqb, Option, Some, None}
 use Rattle.octets.specs.Outcome.{Outcome}
 use Rattle.protocol.specs.Table.{fresh_receiver}
 use Rattle.protocol.specs.Calls.{Feeding, feed_of, allow_of, deny_of, drop_of, done_of, failed_of, unlisted_of}
@@ -9,7 +8,6 @@ use Rattle.protocol.specs.History.{hearing, Part, Event}
 use Rattle.protocol.specs.declared.Receiver.{Receiver}
 use Rattle.protocol.specs.declared.Failure.{Failure}
 use Rattle.protocol.specs.declared.Told.{Told}
-use Rattle.protocol.specs.declared.Told.TheVariants as Told
 use Rattle.protocol.specs.declared.Answered.{Answered}
 
 -- ---- the calls, each a function of the receiver and of what it is lent
@@ -57,35 +55,35 @@ pub record World : Type 0 where
 
 -- ---- refusals that leave "nothing consumed, all memory as before"
 abbrev pub refusal_told : Told → Option ℕ
-refusal_told Told.Nothing = Option.none
-refusal_told (Told.Refused n) = Option.some n
-refusal_told Told.Ignored = Option.none
-refusal_told Told.DragDrop = Option.none
-refusal_told Told.Asked = Option.none
-refusal_told Told.Naming = Option.none
-refusal_told Told.Path = Option.none
-refusal_told Told.LastPath = Option.none
-refusal_told (Told.Ask a) = Option.none
-refusal_told (Told.Status w) = Option.none
-refusal_told Told.Withdrawn = Option.none
-refusal_told Told.Discarded = Option.none
-refusal_told Told.Committed = Option.none
+refusal_told Told.Nothing = None
+refusal_told (Told.Refused n) = Some n
+refusal_told Told.Ignored = None
+refusal_told Told.DragDrop = None
+refusal_told Told.Asked = None
+refusal_told Told.Naming = None
+refusal_told Told.Path = None
+refusal_told Told.LastPath = None
+refusal_told (Told.Ask a) = None
+refusal_told (Told.Status w) = None
+refusal_told Told.Withdrawn = None
+refusal_told Told.Discarded = None
+refusal_told Told.Committed = None
 
 -- of a feed: 9 and 10, and no other. Refusals of a text consume its bytes.
 abbrev pub is_unfed : Told → Bool
 is_unfed w = go (refusal_told w)
   where
     go : Option ℕ → Bool
-    go Option.none = false
-    go (Option.some n) = eqb n 9 || eqb n 10
+    go None = false
+    go (Some n) = eqb n 9 || eqb n 10
 
 -- of any other call: every one
 abbrev pub is_refused : Told → Bool
 is_refused w = go (refusal_told w)
   where
     go : Option ℕ → Bool
-    go Option.none = false
-    go (Option.some n) = true
+    go None = false
+    go (Some n) = true
 
 -- ---- one call after another: "Each call gets the receiver that the one before returned or left"
 abbrev pub after_feed : World → List ℕ → Feeding → World
@@ -105,10 +103,10 @@ after_call w a h = record { receiver = a.receiver; carry = w.carry; history = h 
 
 -- the part that is supplied, if it is one
 abbrev pub part_of : Supply → Option Part
-part_of (Supply.list e text contents) = Option.none
-part_of (Supply.list_failed text id path code) = Option.none
-part_of (Supply.home id path) = Option.none
-part_of (Supply.part last bytes) = Option.some (record { last = last; bytes = bytes })
+part_of (Supply.list e text contents) = None
+part_of (Supply.list_failed text id path code) = None
+part_of (Supply.home id path) = None
+part_of (Supply.part last bytes) = Some (record { last = last; bytes = bytes })
 
 abbrev pub step : Machine → World → Call → World
 step m w (Call.feed piece carry scratch reply) = after_feed w piece (m.feeds w.receiver piece carry scratch reply)
@@ -125,7 +123,7 @@ step m w (Call.unlisted reply) =
 step m w (Call.supply u out) =
     let o = m.supplies w.receiver u out in
     let a = o.answer in
-    after_call w a (Event.wrote (cond (is_refused a.told) Option.none (part_of u)) (take a.reply_len o.buffer) ∷ w.history)
+    after_call w a (Event.wrote (cond (is_refused a.told) None (part_of u)) (take a.reply_len o.buffer) ∷ w.history)
 
 -- "Each feed not refused with 9 or 10 gets the carry as the last such feed left it"; refused calls may be lent anything
 abbrev pub Lent : Machine → World → Call → Type 0

@@ -23,8 +23,8 @@ use Rattle.protocol.specs.declared.Answered.{Answered}
 
 -- ---- the receivers that the type has: the arrays of ids have 32 bytes, at most, at each place
 pub record SizedSession (s : Session) : Type 0 where
-  pub id : length s.id ≤ id_room
-  pub files : (j : ℕ) → length (file_at s j).id ≤ id_room
+  pub id : length s.id.bytes ≤ id_room
+  pub files : (j : ℕ) → length (file_at s j).id.bytes ≤ id_room
 
 abbrev pub Sized : Table → Type 0
 Sized t = (i : ℕ) → SizedSession (session_at t i)

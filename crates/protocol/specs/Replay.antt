@@ -8,7 +8,6 @@ use Rattle.protocol.specs.Machine.{ours, Call, World, step}
 use Rattle.protocol.specs.Cuts.{after}
 use Rattle.protocol.specs.declared.Receiver.{Receiver}
 use Rattle.protocol.specs.declared.Told.{Told}
-use Rattle.protocol.specs.declared.Told.TheVariants as Told
 
 -- by what the feed told: it allows a session that waits for the user, and answers done to an ask
 abbrev pub answers_to : Told → (id reply : List ℕ) → List Call

@@ -1,5 +1,5 @@
 -- Replies: their words, when quiet holds them back, and their bytes.
-use Rattle.std.specs.Prelude.{ℕ, Bool, true, false, cond, ◌&&◌, ◌||◌, List, [], ◌∷◌, ◌++◌, take, length, leb, eqb}
+use Rattle.std.specs.Prelude.{ℕ, Bool, true, false, cond, ◌&&◌, ◌||◌, List, [], ◌∷◌, ◌++◌, length, leb, eqb, Option, Some, None}
 use Rattle.octets.specs.Ascii.{ascii}
 use Rattle.octets.specs.Split.{join}
 use Rattle.octets.specs.Outcome.{Outcome, stored_at}
@@ -9,13 +9,11 @@ use Rattle.frames.specs.Stream.{framed}
 use Rattle.command.specs.Values.{Value, count}
 use Rattle.command.specs.declared.Action.TheVariants as Action
 use Rattle.protocol.specs.Written.{values_with}
-use Rattle.protocol.specs.Table.{zeros}
+use Rattle.protocol.specs.Table.{no_id, id_bytes}
 use Rattle.protocol.specs.declared.FileRecord.{FileRecord}
 use Rattle.protocol.specs.declared.Session.{Session}
 use Rattle.protocol.specs.declared.Status.{Status}
-use Rattle.protocol.specs.declared.Status.TheVariants as Status
 use Rattle.protocol.specs.declared.Failure.{Failure}
-use Rattle.protocol.specs.declared.Failure.TheVariants as Failure
 use Rattle.protocol.specs.declared.Reply.{Reply}
 
 -- "Status is the bare word"
@@ -68,26 +66,18 @@ abbrev pub reply_room : ℕ
 reply_room = 124
 
 -- ---- which reply
--- none is due
-abbrev pub no_reply : Reply
-no_reply =
-    record { due = false; status = Status.Ok; quiet = 0; id = zeros; id_len = 0; file_id = zeros; file_id_len = 0; size = 0 }
-
 -- one about a session, and one about a file of it, by their records
 abbrev pub session_reply : Status → Session → Reply
 session_reply w s =
-    record { due = true; status = w; quiet = s.quiet; id = s.id; id_len = s.id_len; file_id = zeros; file_id_len = 0; size = 0 }
+    record { status = w; quiet = s.quiet; id = s.id; file_id = no_id; size = 0 }
 
 abbrev pub file_reply : Status → Session → FileRecord → ℕ → Reply
 file_reply w s f size =
     record {
-      due = true;
       status = w;
       quiet = s.quiet;
       id = s.id;
-      id_len = s.id_len;
       file_id = f.id;
-      file_id_len = f.id_len;
       size = size;
     }
 
@@ -117,12 +107,12 @@ abbrev pub status_values : List ℕ → List ℕ → ℕ → List ℕ → List V
 status_values id file size word = values_with Action.Status id file size [] word []
 
 -- the bytes of a reply: none where none is due or quiet holds it back
-unfoldable pub reply_bytes : Reply → List ℕ
-reply_bytes r =
-    cond (r.due && cond (is_held r.status r.quiet) false true)
-    (framed (status_text (take r.id_len r.id) (take r.file_id_len r.file_id) r.size (status_word r.status)))
-    []
+unfoldable pub reply_bytes : Option Reply → List ℕ
+reply_bytes None = []
+reply_bytes (Some r) =
+    cond (is_held r.status r.quiet) []
+    (framed (status_text (id_bytes r.id) (id_bytes r.file_id) r.size (status_word r.status)))
 
 -- the reply's length, and the reply buffer afterwards: "bytes beyond it are untouched"; nothing of a reply that does not fit
-unfoldable pub replied_of : Reply → List ℕ → Outcome ℕ
+unfoldable pub replied_of : Option Reply → List ℕ → Outcome ℕ
 replied_of r buf = stored_at (length (reply_bytes r)) 0 (reply_bytes r) buf 0

@@ -1,26 +1,20 @@
 -- The rule of one session: what a command, an answer or a decision of the console makes of it.
-use Rattle.std.specs.Prelude.{ℕ, ◌+◌, min, Bool, true, false, cond}
+use Rattle.std.specs.Prelude.{ℕ, ◌+◌, min, Bool, true, false, cond, Some, None}
 use Rattle.protocol.specs.Table.{file_at}
 use Rattle.protocol.specs.Actions.{kind_of}
-use Rattle.protocol.specs.Replies.{no_reply, session_reply, failure_status}
+use Rattle.protocol.specs.Replies.{session_reply, failure_status}
 use Rattle.protocol.specs.Change.{tells, turns, drops}
 use Rattle.protocol.specs.Files.{Request, ignored, settled, failed_file, count_limit, file_of, data_of, finish_of}
 use Rattle.protocol.specs.Receives.{path_of, request_of, out_of_turn, request_fails}
 use Rattle.protocol.specs.declared.FileState.TheVariants as FileState
 use Rattle.protocol.specs.declared.SessionState.{SessionState}
-use Rattle.protocol.specs.declared.SessionState.TheVariants as SessionState
 use Rattle.protocol.specs.declared.Session.{Session}
 use Rattle.protocol.specs.declared.Kind.{Kind}
-use Rattle.protocol.specs.declared.Kind.TheVariants as Kind
 use Rattle.protocol.specs.declared.Due.{Due}
-use Rattle.protocol.specs.declared.Due.TheVariants as Due
 use Rattle.protocol.specs.declared.Status.{Status}
-use Rattle.protocol.specs.declared.Status.TheVariants as Status
 use Rattle.protocol.specs.declared.Failure.{Failure}
 use Rattle.protocol.specs.declared.Decision.{Decision}
-use Rattle.protocol.specs.declared.Decision.TheVariants as Decision
 use Rattle.protocol.specs.declared.Told.{Told}
-use Rattle.protocol.specs.declared.Told.TheVariants as Told
 use Rattle.protocol.specs.declared.Change.{Change}
 
 -- ---- a command, by the action table
@@ -42,9 +36,9 @@ abbrev pub present_result : Session → Request → Kind → Change
 present_result s q Kind.Ignore = ignored
 present_result s q Kind.Ask = ignored
 present_result s q Kind.Receive = ignored
-present_result s q Kind.Invalid = tells (Told.Status Status.Einval) (session_reply Status.Einval s)
-present_result s q Kind.Cancel = drops (drop_told s) (session_reply Status.Canceled s)
-present_result s q Kind.Withdraw = drops (drop_told s) no_reply
+present_result s q Kind.Invalid = tells (Told.Status Status.Einval) (Some (session_reply Status.Einval s))
+present_result s q Kind.Cancel = drops (drop_told s) (Some (session_reply Status.Canceled s))
+present_result s q Kind.Withdraw = drops (drop_told s) None
 present_result s q Kind.File = file_of s q
 present_result s q Kind.Data = data_of s false q.file q.long
 present_result s q Kind.EndData = data_of s true q.file q.long
@@ -66,7 +60,7 @@ done_by s (Due.OpenFile j) = settled s j FileState.Started 0 Status.Started 0
 done_by s (Due.OpenDirectory j) = settled s j FileState.Done 0 Status.Ok 0
 done_by s (Due.Write j n) = settled s j FileState.Started (grown s j n) Status.Progress (grown s j n)
 done_by s (Due.WriteLast j n) = settled s j FileState.Done (grown s j n) Status.Ok (grown s j n)
-done_by s Due.Commit = drops Told.Committed no_reply
+done_by s Due.Commit = drops Told.Committed None
 done_by s Due.Request = out_of_turn
 
 -- "Failed: record failed, reply the code"; a commit: "dropped, the code"; a request that the console has "failed" gets the code
@@ -75,7 +69,7 @@ failed_as w s (Due.OpenFile j) = failed_file s j w
 failed_as w s (Due.OpenDirectory j) = failed_file s j w
 failed_as w s (Due.Write j n) = failed_file s j w
 failed_as w s (Due.WriteLast j n) = failed_file s j w
-failed_as w s Due.Commit = drops Told.Discarded (session_reply w s)
+failed_as w s Due.Commit = drops Told.Discarded (Some (session_reply w s))
 failed_as w s Due.Request = request_fails w s
 
 unfoldable pub failed_by : Failure → Session → Due → Change
@@ -103,7 +97,7 @@ is_asked SessionState.Serving = false
 
 -- allow and deny of one that is not asked
 abbrev pub not_asked : Change
-not_asked = tells (Told.Refused 12) no_reply
+not_asked = tells (Told.Refused 12) None
 
 -- an open one: a receive session lists first
 abbrev pub opened_from : SessionState → SessionState
@@ -117,14 +111,14 @@ opened_from SessionState.Serving = SessionState.Listing
 
 -- "Allow makes an asked session open, reply OK"
 abbrev pub allowed : Session → Change
-allowed s = turns (opened_from s.state) (session_reply Status.Ok s)
+allowed s = turns (opened_from s.state) (Some (session_reply Status.Ok s))
 
 -- "Deny drops it, reply EPERM"
 abbrev pub denied : Session → Change
-denied s = drops Told.Nothing (session_reply Status.Eperm s)
+denied s = drops Told.Nothing (Some (session_reply Status.Eperm s))
 
 -- "The console may drop any session present, with no reply"
 unfoldable pub decided_by : Decision → Session → Change
 decided_by Decision.Allow s = cond (is_asked s.state) (allowed s) not_asked
 decided_by Decision.Deny s = cond (is_asked s.state) (denied s) not_asked
-decided_by Decision.Drop s = drops Told.Nothing no_reply
+decided_by Decision.Drop s = drops Told.Nothing None

@@ -11,7 +11,7 @@ use Rattle.command.specs.declared.FileType.TheVariants as FileType
 use Rattle.command.specs.declared.Place.{Place}
 use Rattle.protocol.specs.Replies.{reply_room}
 use Rattle.protocol.specs.Supplies.{Supply}
-use Rattle.protocol.specs.History.{Heard, Part, marks_of}
+use Rattle.protocol.specs.History.{Heard, marks_of}
 use Rattle.protocol.specs.Stretches.{Key}
 use Rattle.protocol.specs.Supplied.{supplied_parts}
 use Rattle.protocol.specs.Machine.{Machine, Call, start}

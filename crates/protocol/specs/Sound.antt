@@ -1,6 +1,5 @@
 -- What holds of the table alone, whatever the history: of every table that calls on a fresh receiver make, with any bytes lent.
-use Rattle.std.specs.Prelude.{ℕ, ◌+◌, ◌≤◌, ◌<◌, ◌≡◌, Bool, true, false, cond, ◌⊎◌, List, [], ◌∷◌, length, get_or, eqb}
-use Rattle.std.proofs.Math.Option.{Option}
+use Rattle.std.specs.Prelude.{ℕ, ◌+◌, ◌≤◌, ◌<◌, ◌≡◌, Bool, true, false, cond, ◌⊎◌, List, [], ◌∷◌, length, get_or, eqb, Option, Some, None}
 use Rattle.octets.specs.Members.{every}
 use Rattle.command.specs.Letters.{safe_byte}
 use Rattle.protocol.specs.Table.{session_room, file_room, id_room, free_file, absent_session, no_file, no_session, session_at, file_at}
@@ -8,17 +7,11 @@ use Rattle.protocol.specs.Table.{id_of, file_id_of, padded, first, session_used,
 use Rattle.protocol.specs.Files.{part_limit, count_limit}
 use Rattle.protocol.specs.Machine.{Machine, Call, World, step, start}
 use Rattle.protocol.specs.declared.FileState.{FileState}
-use Rattle.protocol.specs.declared.FileState.TheVariants as FileState
 use Rattle.protocol.specs.declared.FileRecord.{FileRecord}
 use Rattle.protocol.specs.declared.SessionState.{SessionState}
-use Rattle.protocol.specs.declared.SessionState.TheVariants as SessionState
 use Rattle.protocol.specs.declared.Session.{Session}
 use Rattle.protocol.specs.declared.Due.{Due}
-use Rattle.protocol.specs.declared.Due.TheVariants as Due
-use Rattle.protocol.specs.declared.Owed.{Owed}
-use Rattle.protocol.specs.declared.Owed.TheVariants as Owed
 use Rattle.protocol.specs.declared.Table.{Table}
-use Rattle.protocol.specs.declared.Found.TheVariants as Found
 
 -- ---- ids
 -- an id that was read: "safe string, at most 32 bytes", and not empty
@@ -52,7 +45,7 @@ Held FileState.Named n d = n ≡ 0
 pub record SoundFile (f : FileRecord) : Type 0 where
   pub blank : file_used f ≡ false → f ≡ free_file
   pub named : file_used f ≡ true → IsFileId f.state (file_id_of f)
-  pub filled : f.id ≡ padded (file_id_of f)
+  pub filled : f.id.bytes ≡ padded (file_id_of f)
   pub counted : f.count ≤ count_limit
   pub held : Held f.state f.count f.declared
 
@@ -79,7 +72,7 @@ Fits s (Due.OpenFile j) = FileIs s j FileState.Opening
 Fits s (Due.OpenDirectory j) = DirectoryFits s j
 Fits s (Due.Write j n) = PartFits s FileState.Started j n
 Fits s (Due.WriteLast j n) = PartFits s FileState.Done j n
-Fits s Due.Commit = first is_started s.files ≡ Found.Nowhere
+Fits s Due.Commit = first is_started s.files ≡ None
 Fits s Due.Request = FileIs s 0 FileState.Named
 
 -- the state of a session for which that is due: an open one's, which for a request is serving
@@ -92,18 +85,18 @@ due_in Due.Commit = SessionState.Open
 due_in Due.Request = SessionState.Serving
 
 abbrev pub DueFits : Session → Option Due → Type 0
-DueFits s Option.none = Unit {0}
-DueFits s (Option.some d) = (s.state ≡ due_in d) × Fits s d
+DueFits s None = Unit {0}
+DueFits s (Some d) = (s.state ≡ due_in d) × Fits s d
 
 -- the file whose open is due
 abbrev pub opens_at : Option Due → Option ℕ
-opens_at Option.none = Option.none
-opens_at (Option.some (Due.OpenFile j)) = Option.some j
-opens_at (Option.some (Due.OpenDirectory j)) = Option.some j
-opens_at (Option.some (Due.Write j n)) = Option.none
-opens_at (Option.some (Due.WriteLast j n)) = Option.none
-opens_at (Option.some Due.Commit) = Option.none
-opens_at (Option.some Due.Request) = Option.none
+opens_at None = None
+opens_at (Some (Due.OpenFile j)) = Some j
+opens_at (Some (Due.OpenDirectory j)) = Some j
+opens_at (Some (Due.Write j n)) = None
+opens_at (Some (Due.WriteLast j n)) = None
+opens_at (Some Due.Commit) = None
+opens_at (Some Due.Request) = None
 
 -- the file record at place j, by the session's state: an open send session has any, one that names paths has these, one that serves has
 -- the file asked for at its first place, and any other session has none
@@ -128,20 +121,20 @@ pub record SoundSession (s : Session) (due : Option Due) : Type 0 where
   pub blank : session_used s ≡ false → s ≡ absent_session
   pub file_for : (j : ℕ) → FileFor s.state j (file_at s j)
   pub named : session_used s ≡ true → IsId (id_of s)
-  pub filled : s.id ≡ padded (id_of s)
+  pub filled : s.id.bytes ≡ padded (id_of s)
   pub quiet : s.quiet ≤ 2
   -- its files have different ids
   pub alone : Unique file_used file_id_of no_file s.files
   pub each : (j : ℕ) → SoundFile (file_at s j)
   pub counted : Counted s
   -- a file is opening only where its open is due
-  pub opening : (j : ℕ) → (file_at s j).state ≡ FileState.Opening → opens_at due ≡ Option.some j
+  pub opening : (j : ℕ) → (file_at s j).state ≡ FileState.Opening → opens_at due ≡ Some j
   pub fits : DueFits s due
 
 -- what is due for the session at a place
-abbrev pub due_of : Owed → ℕ → Option Due
-due_of Owed.Nothing i = Option.none
-due_of (Owed.For k d) i = cond (eqb k i) (Option.some d) Option.none
+abbrev pub due_of : Option (ℕ × Due) → ℕ → Option Due
+due_of None i = None
+due_of (Some (k, d)) i = cond (eqb k i) (Some d) None
 
 -- ---- the table: present sessions have different ids. What is owed is due for an open session, so its place is one of the four.
 pub record Sound (t : Table) : Type 0 where

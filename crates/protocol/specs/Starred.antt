@@ -1,24 +1,21 @@
 -- The starred cases of document 01's "Both sides of the line", as one list.
-use Rattle.std.specs.Prelude.{ℕ, ◌+◌, ◌≡◌, List, [], ◌∷◌, ◌++◌, length, get_or, replicate}
+use Rattle.std.specs.Prelude.{ℕ, ◌+◌, ◌≡◌, List, [], ◌∷◌, ◌++◌, length, get_or, replicate, Ok, Some}
 use Rattle.octets.specs.Ascii.{ascii}
 use Rattle.octets.specs.Outcome.{outcome}
 use Rattle.base64_codec.specs.Decode.{decode_of}
-use Rattle.base64_codec.specs.declared.Decoded.TheVariants as Decoded
 use Rattle.command.specs.Keys.{keys, number_of}
 use Rattle.command.specs.Values.{Value, Got}
 use Rattle.command.specs.Meaning.{Meaning, meaning_of}
 use Rattle.command.specs.Read.{scratch_room, read_of}
-use Rattle.protocol.specs.Table.{empty_table, session_at, file_at, padded, with_state, put_file, put_session}
+use Rattle.protocol.specs.Table.{empty_table, session_at, file_at, kept_id, with_state, put_file, put_session}
 use Rattle.protocol.specs.Replies.{status_word, status_text}
 use Rattle.protocol.specs.Sessions.{asked_session, settle_done}
 use Rattle.protocol.specs.Calls.{read_act}
 use Rattle.protocol.specs.declared.FileState.TheVariants as FileState
 use Rattle.protocol.specs.declared.SessionState.TheVariants as SessionState
 use Rattle.protocol.specs.declared.Due.TheVariants as Due
-use Rattle.protocol.specs.declared.Owed.TheVariants as Owed
 use Rattle.protocol.specs.declared.Table.{Table}
 use Rattle.protocol.specs.declared.Status.{Status}
-use Rattle.protocol.specs.declared.Status.TheVariants as Status
 
 pub data Case : Type 0 where
   decodes : (text bytes : List ℕ) → Case  -- the Base64 text is these bytes
@@ -36,7 +33,7 @@ abbrev pub halfway : Table
 halfway =
     put_session empty_table 0
     (put_file (with_state (asked_session 0 (ascii "m")) SessionState.Open) 0
-    (record { state = FileState.Started; id = padded (ascii "a"); id_len = 1; count = 3; declared = 0 }))
+    (record { state = FileState.Started; id = kept_id (ascii "a"); count = 3; declared = 0 }))
 
 abbrev pub obeyed : List ℕ → Table
 obeyed text = (read_act halfway text (read_of text (replicate scratch_room 0))).step.table
@@ -45,9 +42,9 @@ abbrev pub count_after : Table → ℕ
 count_after t = (file_at (session_at (settle_done t).table 0) 0).count
 
 abbrev pub Holds : Case → Type 0
-Holds (Case.decodes text bytes) = decode_of text (replicate (length bytes) 0) 0 ≡ outcome (Decoded.Length (length bytes)) bytes
+Holds (Case.decodes text bytes) = decode_of text (replicate (length bytes) 0) 0 ≡ outcome (Ok (length bytes)) bytes
 Holds (Case.reads text key result) = value_of (number_of keys key) (meaning_of text) ≡ result
-Holds (Case.adds text n) = ((obeyed text).owed ≡ Owed.For 0 (Due.Write 0 n)) × (count_after (obeyed text) ≡ 3 + n)
+Holds (Case.adds text n) = ((obeyed text).owed ≡ Some (0, Due.Write 0 n)) × (count_after (obeyed text) ≡ 3 + n)
 Holds (Case.shows w text) = status_text (ascii "m") [] 0 (status_word w) ≡ ascii "5113;ac=status;id=m;st=" ++ text
 
 abbrev pub AllHold : List Case → Type 0

@@ -1,6 +1,5 @@
 -- A file in the history: what was read, handed over and answered for it since its latest start, and whether its session stands.
-use Rattle.std.specs.Prelude.{ℕ, ◌≡◌, Bool, true, false, not, cond, ◌&&◌, ◌||◌, List, [], ◌∷◌, ◌++◌, eqb}
-use Rattle.std.proofs.Math.Option.{Option}
+use Rattle.std.specs.Prelude.{ℕ, ◌≡◌, Bool, true, false, not, cond, ◌&&◌, ◌||◌, List, [], ◌∷◌, ◌++◌, eqb, Option, Some, None}
 use Rattle.octets.specs.Slices.{equals}
 use Rattle.command.specs.Meaning.{action_code, file_type_code, id_of, file_id_of, size_of, data_of}
 use Rattle.protocol.specs.Lengths.{length_by}
@@ -64,30 +63,30 @@ pub record Stretch : Type 0 where
 
 -- the command of the file's start, if the mark is one
 abbrev pub start_at : Key → Mark → Option Command
-start_at k (Mark.read c) = Option.none
-start_at k (Mark.asked a) = Option.none
-start_at k (Mark.allow i) = Option.none
-start_at k (Mark.drop i) = Option.none
-start_at k (Mark.answer false q) = Option.none
-start_at k (Mark.answer true Question.none) = Option.none
-start_at k (Mark.answer true (Question.asks c a)) = cond (starts_for k (Question.asks c a)) (Option.some c) Option.none
-start_at k (Mark.wrote p bs) = Option.none
+start_at k (Mark.read c) = None
+start_at k (Mark.asked a) = None
+start_at k (Mark.allow i) = None
+start_at k (Mark.drop i) = None
+start_at k (Mark.answer false q) = None
+start_at k (Mark.answer true Question.none) = None
+start_at k (Mark.answer true (Question.asks c a)) = cond (starts_for k (Question.asks c a)) (Some c) None
+start_at k (Mark.wrote p bs) = None
 
 -- one mark more
 abbrev pub longer : Mark → Stretch → Stretch
 longer x s = record { command = s.command; marks = x ∷ s.marks }
 
 abbrev pub onward : Mark → Option Stretch → Option Stretch
-onward x Option.none = Option.none
-onward x (Option.some s) = Option.some (longer x s)
+onward x None = None
+onward x (Some s) = Some (longer x s)
 
 -- a start begins anew
 abbrev pub start_or : Option Command → Option Stretch → Option Stretch
-start_or Option.none s = s
-start_or (Option.some c) s = Option.some (record { command = c; marks = [] })
+start_or None s = s
+start_or (Some c) s = Some (record { command = c; marks = [] })
 
 abbrev pub since : Key → List Mark → Option Stretch
-since k [] = Option.none
+since k [] = None
 since k (x ∷ m) = start_or (start_at k x) (onward x (since k m))
 
 -- "the parts handed over for it and answered done, joined"
@@ -126,8 +125,8 @@ allowed_in i (x ∷ l) = allows i x || allowed_in i l
 
 -- a regular start of the file stands: its session was not allowed anew since
 abbrev pub start_stands : Key → Option Stretch → Bool
-start_stands k Option.none = false
-start_stands k (Option.some s) = not (allowed_in k.id s.marks)
+start_stands k None = false
+start_stands k (Some s) = not (allowed_in k.id s.marks)
 
 -- "A session is allowed by a noted allow and stands until a noted drop, or until a cancel or finish is read for it"
 abbrev pub stands : List ℕ → List Mark → Bool
@@ -142,12 +141,12 @@ stands i (Mark.wrote p bs ∷ m) = stands i m
 -- "No part is handed over outside a session that the user allowed and that still stands": at an ask, and at every one so far. Nor is a
 -- file asked for, or anything written to the office, outside one.
 abbrev pub StandsFor : Option Command → Heard → List Mark → Type 0
-StandsFor Option.none a m = ⊥
-StandsFor (Option.some c) Heard.opens m = Unit {0}
-StandsFor (Option.some c) (Heard.writes p) m = stands (id_of c) m ≡ true
-StandsFor (Option.some c) (Heard.writes_last p) m = stands (id_of c) m ≡ true
-StandsFor (Option.some c) Heard.commits m = Unit {0}
-StandsFor (Option.some c) Heard.requests m = stands (id_of c) m ≡ true
+StandsFor None a m = ⊥
+StandsFor (Some c) Heard.opens m = Unit {0}
+StandsFor (Some c) (Heard.writes p) m = stands (id_of c) m ≡ true
+StandsFor (Some c) (Heard.writes_last p) m = stands (id_of c) m ≡ true
+StandsFor (Some c) Heard.commits m = Unit {0}
+StandsFor (Some c) Heard.requests m = stands (id_of c) m ≡ true
 
 -- of each command that was written
 abbrev pub EachStands : List Command → List Mark → Type 0

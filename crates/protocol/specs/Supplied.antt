@@ -1,6 +1,5 @@
 -- A file that the office asks for, in the history: the parts that the console supplied for it since its request, and those written.
-use Rattle.std.specs.Prelude.{Bool, false, cond, ◌&&◌, ℕ, List, [], ◌∷◌, ◌++◌, eqb}
-use Rattle.std.proofs.Math.Option.{Option}
+use Rattle.std.specs.Prelude.{Bool, false, cond, ◌&&◌, List, [], ◌∷◌, ◌++◌, eqb, Option, Some, None}
 use Rattle.command.specs.Meaning.{action_code, data_of}
 use Rattle.protocol.specs.History.{Command, Heard, Mark, Part, Question, last_read, last_ask, ask_for, commands_in}
 use Rattle.protocol.specs.Stretches.{Key, is_for, is_data}
@@ -24,8 +23,8 @@ parts_among k (c ∷ cs) = cond (is_data c && is_for k c) (part_in c ∷ parts_a
 
 -- a part that was taken, if the file is the one asked for last
 abbrev pub part_taken : Key → Question → Option Part → List Part
-part_taken k q Option.none = []
-part_taken k q (Option.some p) = cond (wants k q) (p ∷ []) []
+part_taken k q None = []
+part_taken k q (Some p) = cond (wants k q) (p ∷ []) []
 
 -- "the joined parts written for a file since its request"; the latest request counts
 abbrev pub written_parts : Key → List Mark → List Part

@@ -1,6 +1,5 @@
 -- What the console supplies in an open receive session: the listing, the home path, and the parts of the file that is asked for.
-use Rattle.std.specs.Prelude.{ℕ, ◌-◌, Bool, true, false, cond, List, [], ◌∷◌, length, ltb}
-use Rattle.octets.specs.Ascii.{ascii}
+use Rattle.std.specs.Prelude.{ℕ, ◌-◌, Bool, true, false, cond, List, [], length, ltb, Option, Some, None}
 use Rattle.octets.specs.Outcome.{Outcome, outcome}
 use Rattle.frames.specs.Stream.{text_limit}
 use Rattle.command.specs.Values.{Value, count}
@@ -14,18 +13,14 @@ use Rattle.command.specs.declared.Place.{Place}
 use Rattle.command.specs.declared.Command.{Command}
 use Rattle.protocol.specs.Table.{no_file, session_at, file_at, id_of, file_id_of, find_session}
 use Rattle.protocol.specs.Written.{values_with, piece_values}
-use Rattle.protocol.specs.Replies.{no_reply, status_word, failure_status, is_held}
+use Rattle.protocol.specs.Replies.{status_word, failure_status, is_held}
 use Rattle.protocol.specs.Change.{change, tells, turns, telling, step_by}
 use Rattle.protocol.specs.Files.{part_limit}
 use Rattle.protocol.specs.Sessions.{string_in}
 use Rattle.protocol.specs.Calls.{answered_by}
 use Rattle.protocol.specs.declared.SessionState.{SessionState}
-use Rattle.protocol.specs.declared.SessionState.TheVariants as SessionState
 use Rattle.protocol.specs.declared.Session.{Session}
 use Rattle.protocol.specs.declared.Due.{Due}
-use Rattle.protocol.specs.declared.Due.TheVariants as Due
-use Rattle.protocol.specs.declared.Owed.{Owed}
-use Rattle.protocol.specs.declared.Owed.TheVariants as Owed
 use Rattle.protocol.specs.declared.Table.{Table}
 use Rattle.protocol.specs.declared.Receiver.{Receiver}
 use Rattle.protocol.specs.declared.Status.TheVariants as Status
@@ -36,8 +31,6 @@ use Rattle.protocol.specs.declared.News.TheVariants as News
 use Rattle.protocol.specs.declared.Change.{Change}
 use Rattle.protocol.specs.declared.Entry.{Entry}
 use Rattle.protocol.specs.declared.Answered.{Answered}
-use Rattle.protocol.specs.declared.Found.{Found}
-use Rattle.protocol.specs.declared.Found.TheVariants as Found
 
 -- ---- what is supplied
 pub data Supply : Type 0 where
@@ -124,22 +117,22 @@ is_listing SessionState.Listing = true
 is_listing SessionState.Serving = false
 
 -- "in turn are exactly listing and home OK in an open receive session before that OK"
-abbrev pub listing_at : Table → Found → Found
-listing_at t Found.Nowhere = Found.Nowhere
-listing_at t (Found.At i) = cond (is_listing (session_at t i).state) (Found.At i) Found.Nowhere
+abbrev pub listing_at : Table → Option ℕ → Option ℕ
+listing_at t None = None
+listing_at t (Some i) = cond (is_listing (session_at t i).state) (Some i) None
 
 -- ".. and these answers for the file owed"
-abbrev pub request_at : Owed → Found
-request_at Owed.Nothing = Found.Nowhere
-request_at (Owed.For i (Due.OpenFile j)) = Found.Nowhere
-request_at (Owed.For i (Due.OpenDirectory j)) = Found.Nowhere
-request_at (Owed.For i (Due.Write j n)) = Found.Nowhere
-request_at (Owed.For i (Due.WriteLast j n)) = Found.Nowhere
-request_at (Owed.For i Due.Commit) = Found.Nowhere
-request_at (Owed.For i Due.Request) = Found.At i
+abbrev pub request_at : Option (ℕ × Due) → Option ℕ
+request_at None = None
+request_at (Some (i, Due.OpenFile j)) = None
+request_at (Some (i, Due.OpenDirectory j)) = None
+request_at (Some (i, Due.Write j n)) = None
+request_at (Some (i, Due.WriteLast j n)) = None
+request_at (Some (i, Due.Commit)) = None
+request_at (Some (i, Due.Request)) = Some i
 
 -- the place of the session in which it is in turn
-abbrev pub turn_of : Table → Supply → Found
+abbrev pub turn_of : Table → Supply → Option ℕ
 turn_of t (Supply.list e text contents) = listing_at t (find_session t (string_in text e.id))
 turn_of t (Supply.list_failed text id path code) = listing_at t (find_session t (string_in text id))
 turn_of t (Supply.home id path) = listing_at t (find_session t id)
@@ -169,11 +162,11 @@ is_held_back s (Supply.part last bytes) = false
 
 -- after the home path it serves; a request is "owed until the console has supplied its last part"
 abbrev pub change_for : Supply → Change
-change_for (Supply.list e text contents) = tells Told.Nothing no_reply
-change_for (Supply.list_failed text id path code) = tells Told.Nothing no_reply
-change_for (Supply.home id path) = turns SessionState.Serving no_reply
-change_for (Supply.part false bytes) = tells Told.Nothing no_reply
-change_for (Supply.part true bytes) = change Edit.Same no_file (News.Clears Told.Nothing) no_reply
+change_for (Supply.list e text contents) = tells Told.Nothing None
+change_for (Supply.list_failed text id path code) = tells Told.Nothing None
+change_for (Supply.home id path) = turns SessionState.Serving None
+change_for (Supply.part false bytes) = tells Told.Nothing None
+change_for (Supply.part true bytes) = change Edit.Same no_file (News.Clears Told.Nothing) None
 
 -- ---- the call
 abbrev pub refused_with : Receiver → ℕ → List ℕ → Outcome Answered
@@ -190,9 +183,9 @@ wrote_at r i u out o = go o.answer
         cond (is_held_back (session_at r.table i) u) (outcome (answered_by r.framing s 0) out)
         (outcome (answered_by r.framing s n) o.buffer)
 
-abbrev pub supplied_at : Receiver → Supply → List ℕ → Found → Outcome Answered
-supplied_at r u out Found.Nowhere = refused_with r 18 out
-supplied_at r u out (Found.At i) = wrote_at r i u out (framed_for (session_at r.table i) u out)
+abbrev pub supplied_at : Receiver → Supply → List ℕ → Option ℕ → Outcome Answered
+supplied_at r u out None = refused_with r 18 out
+supplied_at r u out (Some i) = wrote_at r i u out (framed_for (session_at r.table i) u out)
 
 -- "into a lent buffer (under 8,196 bytes: 9)"; "A part over 4,096 bytes gets 17, then a new call out of turn .. 18, then the writer's
 -- refusals, nothing changed"

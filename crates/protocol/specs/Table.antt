@@ -1,20 +1,15 @@
 -- The table of sessions: room, ids, finding, and what is put back.
-use Rattle.std.specs.Prelude.{ℕ, zero, suc, ◌+◌, ◌-◌, min, Bool, true, false, not, cond, ◌&&◌}
-use Rattle.std.specs.Prelude.{List, [], ◌∷◌, ◌++◌, take, get_or, set, replicate}
+use Rattle.std.specs.Prelude.{ℕ, zero, suc, ◌+◌, ◌-◌, min, Bool, true, false, not, cond, ◌&&◌, Option, Some, None}
+use Rattle.std.specs.Prelude.{List, [], ◌∷◌, ◌++◌, take, get_or, length, set, replicate}
 use Rattle.octets.specs.Slices.{equals}
 use Rattle.frames.specs.declared.Framing.TheVariants as Framing
 use Rattle.protocol.specs.declared.FileState.{FileState}
-use Rattle.protocol.specs.declared.FileState.TheVariants as FileState
 use Rattle.protocol.specs.declared.FileRecord.{FileRecord}
 use Rattle.protocol.specs.declared.SessionState.{SessionState}
-use Rattle.protocol.specs.declared.SessionState.TheVariants as SessionState
 use Rattle.protocol.specs.declared.Session.{Session}
-use Rattle.protocol.specs.declared.Owed.{Owed}
-use Rattle.protocol.specs.declared.Owed.TheVariants as Owed
 use Rattle.protocol.specs.declared.Table.{Table}
 use Rattle.protocol.specs.declared.Receiver.{Receiver}
-use Rattle.protocol.specs.declared.Found.{Found}
-use Rattle.protocol.specs.declared.Found.TheVariants as Found
+use Rattle.protocol.specs.declared.id.Id.{Id}
 
 -- ---- room: "four sessions, each with thirty-two file records"; "at most 32 bytes" of an id
 abbrev pub session_room : ℕ
@@ -29,8 +24,21 @@ id_room = 32
 abbrev pub zeros : List ℕ
 zeros = replicate id_room 0
 
+-- "at most 32 bytes" of an id: no id, one in an array of 32 bytes, and the bytes of one
+abbrev pub no_id : Id
+no_id = record { bytes = zeros; len = 0 }
+
+abbrev pub padded : List ℕ → List ℕ
+padded k = take id_room (k ++ zeros)
+
+abbrev pub kept_id : List ℕ → Id
+kept_id k = record { bytes = padded k; len = length k }
+
+abbrev pub id_bytes : Id → List ℕ
+id_bytes i = take i.len i.bytes
+
 abbrev pub free_file : FileRecord
-free_file = record { state = FileState.Free; id = zeros; id_len = 0; count = 0; declared = 0 }
+free_file = record { state = FileState.Free; id = no_id; count = 0; declared = 0 }
 
 abbrev pub no_files : List FileRecord
 no_files = replicate file_room free_file
@@ -40,8 +48,7 @@ absent_session =
     record {
       state = SessionState.Absent;
       quiet = 0;
-      id = zeros;
-      id_len = 0;
+      id = no_id;
       wanted = 0;
       started = 0;
       done_bytes = 0;
@@ -50,7 +57,7 @@ absent_session =
 
 -- "A fresh receiver has no session, no file and nothing owed"
 abbrev pub empty_table : Table
-empty_table = record { sessions = replicate session_room absent_session; owed = Owed.Nothing }
+empty_table = record { sessions = replicate session_room absent_session; owed = None }
 
 abbrev pub fresh_receiver : Receiver
 fresh_receiver = record { framing = Framing.Plain; table = empty_table }
@@ -70,27 +77,23 @@ file_at s j = get_or s.files j no_file
 
 -- ---- ids
 abbrev pub id_of : Session → List ℕ
-id_of s = take s.id_len s.id
+id_of s = id_bytes s.id
 
 abbrev pub file_id_of : FileRecord → List ℕ
-file_id_of f = take f.id_len f.id
-
--- an id in an array of 32 bytes
-abbrev pub padded : List ℕ → List ℕ
-padded k = take id_room (k ++ zeros)
+file_id_of f = id_bytes f.id
 
 -- ---- finding
-abbrev pub later : Found → Found
-later Found.Nowhere = Found.Nowhere
-later (Found.At i) = Found.At (suc i)
+abbrev pub later : Option ℕ → Option ℕ
+later None = None
+later (Some i) = Some (suc i)
 
-abbrev pub here_or : Bool → Found → Found
-here_or true f = Found.At zero
+abbrev pub here_or : Bool → Option ℕ → Option ℕ
+here_or true f = Some zero
 here_or false f = later f
 
 -- the first member of which a test holds
-unfoldable pub first : {A : Type 0} → (A → Bool) → List A → Found
-first p [] = Found.Nowhere
+unfoldable pub first : {A : Type 0} → (A → Bool) → List A → Option ℕ
+first p [] = None
 first p (x ∷ xs) = here_or (p x) (first p xs)
 
 abbrev pub is_present : SessionState → Bool
@@ -162,10 +165,10 @@ abbrev pub has_file_id : List ℕ → FileRecord → Bool
 has_file_id k f = file_used f && equals (file_id_of f) k
 
 -- the place of a session by its id, and of a file of it by its id
-abbrev pub find_session : Table → List ℕ → Found
+abbrev pub find_session : Table → List ℕ → Option ℕ
 find_session t k = first (has_id k) t.sessions
 
-abbrev pub find_file : Session → List ℕ → Found
+abbrev pub find_file : Session → List ℕ → Option ℕ
 find_file s k = first (has_file_id k) s.files
 
 -- ---- put back
@@ -178,7 +181,6 @@ with_state s g =
       state = g;
       quiet = s.quiet;
       id = s.id;
-      id_len = s.id_len;
       wanted = s.wanted;
       started = s.started;
       done_bytes = s.done_bytes;
@@ -192,7 +194,6 @@ waiting s =
       state = SessionState.Waiting;
       quiet = s.quiet;
       id = s.id;
-      id_len = s.id_len;
       wanted = s.wanted;
       started = 0;
       done_bytes = 0;
@@ -213,7 +214,6 @@ put_file s j f =
       state = s.state;
       quiet = s.quiet;
       id = s.id;
-      id_len = s.id_len;
       wanted = s.wanted;
       started = adjusted s.started (started_share old) (started_share new);
       done_bytes = adjusted s.done_bytes (done_share old) (done_share new);
@@ -222,4 +222,4 @@ put_file s j f =
 
 -- a file's record in another state, with a count
 abbrev pub moved : FileRecord → FileState → ℕ → FileRecord
-moved f g n = record { state = g; id = f.id; id_len = f.id_len; count = n; declared = f.declared }
+moved f g n = record { state = g; id = f.id; count = n; declared = f.declared }

@@ -3,7 +3,6 @@ use Rattle.std.specs.Prelude.{ℕ, Bool, cond, List, [], ◌∷◌}
 use Rattle.command.specs.Values.{Value, count}
 use Rattle.command.specs.Slots.{action_code}
 use Rattle.command.specs.declared.Action.{Action}
-use Rattle.command.specs.declared.Action.TheVariants as Action
 
 abbrev pub values_with : Action → (id file : List ℕ) (size : ℕ) (name status contents : List ℕ) → List Value
 values_with a id file size name status contents =

@@ -1,6 +1,6 @@
 -- Wrong receivers, made by wrapping our calls, each with one error. A claim that held of one of them would be worth nothing; `Teeth` says
 -- that the claims are false of each.
-use Rattle.std.specs.Prelude.{cond, ◌&&◌, ℕ, zero, suc, ◌+◌, List, [], ◌∷◌, length}
+use Rattle.std.specs.Prelude.{cond, ◌&&◌, ℕ, zero, suc, ◌+◌, List, [], ◌∷◌, length, Option, Some, None}
 use Rattle.octets.specs.Ascii.{ascii}
 use Rattle.octets.specs.Outcome.{Outcome, outcome}
 use Rattle.octets.specs.Slices.{equals}
@@ -16,13 +16,9 @@ use Rattle.protocol.specs.Claim.{EveryHistory}
 use Rattle.protocol.specs.Cuts.{CutsAlike}
 use Rattle.protocol.specs.Counts.{EveryCount}
 use Rattle.protocol.specs.declared.SessionState.{SessionState}
-use Rattle.protocol.specs.declared.SessionState.TheVariants as SessionState
 use Rattle.protocol.specs.declared.FileRecord.{FileRecord}
 use Rattle.protocol.specs.declared.Session.{Session}
 use Rattle.protocol.specs.declared.Due.{Due}
-use Rattle.protocol.specs.declared.Due.TheVariants as Due
-use Rattle.protocol.specs.declared.Owed.{Owed}
-use Rattle.protocol.specs.declared.Owed.TheVariants as Owed
 use Rattle.protocol.specs.declared.Table.{Table}
 use Rattle.protocol.specs.declared.Receiver.{Receiver}
 use Rattle.protocol.specs.declared.Failure.{Failure}
@@ -159,25 +155,25 @@ mistaking one other f =
     cond (equals piece one) (consuming (length one) (feed_of (f r) other carry scratch reply)) (feed_of r piece carry scratch reply))
 
 -- done answers as if the table were another
-abbrev pub answering_of : (Table → Owed → Table) → Machine
+abbrev pub answering_of : (Table → Option (ℕ × Due) → Table) → Machine
 answering_of f = answering_by (λ r. done_of (with_table r (f r.table r.table.owed)))
 
 -- the table with something else owed, and with another file record
-abbrev pub with_owed : Table → Owed → Table
+abbrev pub with_owed : Table → Option (ℕ × Due) → Table
 with_owed t o = record { sessions = t.sessions; owed = o }
 
 abbrev pub with_file : Table → ℕ → ℕ → FileRecord → Table
 with_file t i j f = put_session t i (put_file (session_at t i) j f)
 
 -- what is owed, a last part changed
-abbrev pub with_last : (ℕ → ℕ → Due) → Owed → Owed
-with_last f Owed.Nothing = Owed.Nothing
-with_last f (Owed.For i (Due.OpenFile j)) = Owed.For i (Due.OpenFile j)
-with_last f (Owed.For i (Due.OpenDirectory j)) = Owed.For i (Due.OpenDirectory j)
-with_last f (Owed.For i (Due.Write j n)) = Owed.For i (Due.Write j n)
-with_last f (Owed.For i (Due.WriteLast j n)) = Owed.For i (f j n)
-with_last f (Owed.For i Due.Commit) = Owed.For i Due.Commit
-with_last f (Owed.For i Due.Request) = Owed.For i Due.Request
+abbrev pub with_last : (ℕ → ℕ → Due) → Option (ℕ × Due) → Option (ℕ × Due)
+with_last f None = None
+with_last f (Some (i, Due.OpenFile j)) = Some (i, Due.OpenFile j)
+with_last f (Some (i, Due.OpenDirectory j)) = Some (i, Due.OpenDirectory j)
+with_last f (Some (i, Due.Write j n)) = Some (i, Due.Write j n)
+with_last f (Some (i, Due.WriteLast j n)) = Some (i, f j n)
+with_last f (Some (i, Due.Commit)) = Some (i, Due.Commit)
+with_last f (Some (i, Due.Request)) = Some (i, Due.Request)
 
 -- ---- wrong counts
 -- one too small, in the record and in the reply
@@ -189,27 +185,27 @@ abbrev pub one_too_small : Machine
 one_too_small = answering_of (λ t o. with_owed t (with_last (λ j n. Due.WriteLast j (less n)) o))
 
 -- that of the last part only, in the record and in the reply
-abbrev pub uncounted : Table → Owed → Table
-uncounted t Owed.Nothing = t
-uncounted t (Owed.For i (Due.OpenFile j)) = t
-uncounted t (Owed.For i (Due.OpenDirectory j)) = t
-uncounted t (Owed.For i (Due.Write j n)) = t
-uncounted t (Owed.For i (Due.WriteLast j n)) = let f = file_at (session_at t i) j in with_file t i j (moved f f.state 0)
-uncounted t (Owed.For i Due.Commit) = t
-uncounted t (Owed.For i Due.Request) = t
+abbrev pub uncounted : Table → Option (ℕ × Due) → Table
+uncounted t None = t
+uncounted t (Some (i, Due.OpenFile j)) = t
+uncounted t (Some (i, Due.OpenDirectory j)) = t
+uncounted t (Some (i, Due.Write j n)) = t
+uncounted t (Some (i, Due.WriteLast j n)) = let f = file_at (session_at t i) j in with_file t i j (moved f f.state 0)
+uncounted t (Some (i, Due.Commit)) = t
+uncounted t (Some (i, Due.Request)) = t
 
 abbrev pub last_only : Machine
 last_only = answering_of uncounted
 
 -- that of each part twice: when its write is asked, and when it is answered
-abbrev pub counted_ahead : Table → Owed → Table
-counted_ahead t Owed.Nothing = t
-counted_ahead t (Owed.For i (Due.OpenFile j)) = t
-counted_ahead t (Owed.For i (Due.OpenDirectory j)) = t
-counted_ahead t (Owed.For i (Due.Write j n)) = let f = file_at (session_at t i) j in with_file t i j (moved f f.state (f.count + n))
-counted_ahead t (Owed.For i (Due.WriteLast j n)) = t
-counted_ahead t (Owed.For i Due.Commit) = t
-counted_ahead t (Owed.For i Due.Request) = t
+abbrev pub counted_ahead : Table → Option (ℕ × Due) → Table
+counted_ahead t None = t
+counted_ahead t (Some (i, Due.OpenFile j)) = t
+counted_ahead t (Some (i, Due.OpenDirectory j)) = t
+counted_ahead t (Some (i, Due.Write j n)) = let f = file_at (session_at t i) j in with_file t i j (moved f f.state (f.count + n))
+counted_ahead t (Some (i, Due.WriteLast j n)) = t
+counted_ahead t (Some (i, Due.Commit)) = t
+counted_ahead t (Some (i, Due.Request)) = t
 
 abbrev pub counted_twice : Machine
 counted_twice =
@@ -249,17 +245,17 @@ abbrev pub reopening : Machine
 reopening = mistaking directory_piece directory_piece (λ r. with_table r (with_file r.table 0 0 free_file))
 
 -- no EEXIST: a file command for a done file opens its record again, and its count goes on from the old one
-abbrev pub count_kept : Table → Owed → Answered → Answered
-count_kept t Owed.Nothing a = a
-count_kept t (Owed.For i (Due.OpenFile j)) a =
+abbrev pub count_kept : Table → Option (ℕ × Due) → Answered → Answered
+count_kept t None a = a
+count_kept t (Some (i, Due.OpenFile j)) a =
     let t' = a.receiver.table in
     let f = file_at (session_at t' i) j in
     leaving (with_file t' i j (moved f f.state (file_at (session_at t i) j).count)) a
-count_kept t (Owed.For i (Due.OpenDirectory j)) a = a
-count_kept t (Owed.For i (Due.Write j n)) a = a
-count_kept t (Owed.For i (Due.WriteLast j n)) a = a
-count_kept t (Owed.For i Due.Commit) a = a
-count_kept t (Owed.For i Due.Request) a = a
+count_kept t (Some (i, Due.OpenDirectory j)) a = a
+count_kept t (Some (i, Due.Write j n)) a = a
+count_kept t (Some (i, Due.WriteLast j n)) a = a
+count_kept t (Some (i, Due.Commit)) a = a
+count_kept t (Some (i, Due.Request)) a = a
 
 abbrev pub going_on : Machine
 going_on =
@@ -315,7 +311,6 @@ with_numbers s x =
       state = s.state;
       quiet = s.quiet;
       id = s.id;
-      id_len = s.id_len;
       wanted = s.wanted;
       started = x.started;
       done_bytes = x.done_bytes;
@@ -338,7 +333,7 @@ uncounting =
 abbrev pub stuck_opening : Machine
 stuck_opening =
     failing_by (λ r code reply.
-    let b = failed_of r code reply in outcome (leaving (with_owed r.table Owed.Nothing) b.answer) b.buffer)
+    let b = failed_of r code reply in outcome (leaving (with_owed r.table None) b.answer) b.buffer)
 
 -- ---- cuts
 -- a closer is lost whose 1B and 5C fall in two pieces

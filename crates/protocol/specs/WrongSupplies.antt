@@ -1,8 +1,8 @@
 -- Receivers that are wrong in what they write to the office, made by wrapping our calls, each with one error; `SupplyTeeth` says that the
 -- claim is false of each.
-use Rattle.std.specs.Prelude.{Bool, true, false, ℕ, List}
+use Rattle.std.specs.Prelude.{false, ℕ, List}
 use Rattle.octets.specs.Ascii.{ascii}
-use Rattle.octets.specs.Outcome.{Outcome, outcome}
+use Rattle.octets.specs.Outcome.{outcome}
 use Rattle.frames.specs.Stream.{framed}
 use Rattle.protocol.specs.Table.{session_at, put_session, with_state}
 use Rattle.protocol.specs.Receives.{named}
@@ -12,11 +12,8 @@ use Rattle.protocol.specs.Claim.{EveryHistory}
 use Rattle.protocol.specs.Serving.{ServesWhole}
 use Rattle.protocol.specs.WrongMachines.{supplying_by, with_table, with_file, mistaking, status_piece}
 use Rattle.protocol.specs.declared.SessionState.{SessionState}
-use Rattle.protocol.specs.declared.SessionState.TheVariants as SessionState
-use Rattle.protocol.specs.declared.Table.{Table}
 use Rattle.protocol.specs.declared.Receiver.{Receiver}
 use Rattle.protocol.specs.declared.Told.TheVariants as Told
-use Rattle.protocol.specs.declared.Answered.{Answered}
 
 -- ---- pieces of the session m, beside `file_piece`, which names its path and asks for its file
 abbrev pub receive_piece : List ℕ

@@ -6,6 +6,8 @@
 #![tactic(auto)]
 
 mod actions;
+mod id;
+pub mod refusals;
 
 ghost use Rattle.std.specs.Prelude.{◌≡◌};
 ghost use Rattle.protocol.specs.Claim.{EveryHistory};
@@ -14,6 +16,7 @@ ghost use Rattle.protocol.specs.Isolation.{Isolated};
 ghost use Rattle.protocol.specs.IsolationExamples.{SeesAlike};
 ghost use Rattle.protocol.specs.LeakyMachines.{Leaks};
 ghost use Rattle.protocol.specs.Machine.{ours};
+ghost use Rattle.protocol.specs.Replies.{failure_status};
 ghost use Rattle.protocol.specs.Counts.{EveryCount};
 ghost use Rattle.protocol.specs.Sound.{EverySound};
 ghost use Rattle.protocol.specs.Starred.{AllHold, starred};
@@ -25,6 +28,7 @@ ghost use Rattle.protocol.specs.WrongSupplies.{SupplyTeeth};
 use command::{Command, FileType, Place};
 use decimal::Number;
 use frames::{Framing, Report};
+pub use id::Id;
 
 // ---- The receiver: nested arrays by value.
 #[derive(Clone, Copy)]
@@ -38,15 +42,15 @@ pub enum FileState {
     Named,
 }
 
-// A file record: its id is the first id_len bytes of id, and a length of 0 was not declared. It holds no
-// file type: what was opened is told from the command read.
+// A file record: a length of 0 was not declared. It holds no file type: what was opened is told from the
+// command read. The state is last, so that free records are written as one run of zeros: with room between
+// it and the id a compiler writes them one by one, and takes each session apart.
 #[derive(Clone, Copy)]
 pub struct FileRecord {
-    pub state: FileState,
-    pub id: [u8; 32],
-    pub id_len: usize,
+    pub id: Id,
     pub count: u64,
     pub declared: u64,
+    pub state: FileState,
 }
 
 // A send session is asked and then open. A receive session names its paths, waits for the user, and is
@@ -68,8 +72,7 @@ pub enum SessionState {
 pub struct Session {
     pub state: SessionState,
     pub quiet: u64,
-    pub id: [u8; 32],
-    pub id_len: usize,
+    pub id: Id,
     pub wanted: u64,
     pub started: u64,
     pub done_bytes: u64,
@@ -88,17 +91,11 @@ pub enum Due {
     Request,
 }
 
-// What the console owes an answer to: nothing, or what is due for the session at a place.
-#[derive(Clone, Copy)]
-pub enum Owed {
-    Nothing,
-    For(usize, Due),
-}
-
+// What the console owes an answer to is the place of a session, with what is due for it.
 #[derive(Clone, Copy)]
 pub struct Table {
     pub sessions: [Session; Table::SESSIONS],
-    pub owed: Owed,
+    pub owed: Option<(usize, Due)>,
 }
 
 // What a command does, by the action table.
@@ -165,6 +162,20 @@ pub enum Failure {
     Enospc,
 }
 
+// "It answers done, or failed with EPERM, EIO, ENOENT, ENOSPC"
+impl From<Failure> for Status {
+    ghost from_gives = { λ failure status. status ≡ failure_status failure };
+
+    fn from(failure: Failure) -> Status {
+        match failure {
+            Failure::Eperm => Status::Eperm,
+            Failure::Eio => Status::Eio,
+            Failure::Enoent => Status::Enoent,
+            Failure::Enospc => Status::Enospc,
+        }
+    }
+}
+
 // What the console decides of a session.
 #[derive(Clone, Copy)]
 pub enum Decision {
@@ -177,7 +188,7 @@ pub enum Decision {
 #[derive(Clone, Copy)]
 pub enum Told {
     Nothing,
-    // A refusal, by its number in document 01.
+    // A refusal, by its number in document 01 (`refusals`).
     Refused(u8),
     // A command was read, and the rule ignores it.
     Ignored,
@@ -200,17 +211,13 @@ pub enum Told {
     Committed,
 }
 
-// A reply that is due, or none. Its ids are the first so many bytes of their arrays; a size of 0 is
-// left out, as is an empty file id.
+// A reply that is due. A size of 0 is left out, as is an empty file id.
 #[derive(Clone, Copy)]
 pub struct Reply {
-    pub due: bool,
     pub status: Status,
     pub quiet: u64,
-    pub id: [u8; 32],
-    pub id_len: usize,
-    pub file_id: [u8; 32],
-    pub file_id_len: usize,
+    pub id: Id,
+    pub file_id: Id,
     pub size: u64,
 }
 
@@ -242,7 +249,7 @@ pub struct Change {
     pub edit: Edit,
     pub file: FileRecord,
     pub news: News,
-    pub reply: Reply,
+    pub reply: Option<Reply>,
 }
 
 // What a step gives: the table afterwards, what is told, and the reply.
@@ -250,7 +257,7 @@ pub struct Change {
 pub struct Stepped {
     pub table: Table,
     pub told: Told,
-    pub reply: Reply,
+    pub reply: Option<Reply>,
 }
 
 // What feed answers: the receiver, how many bytes of the piece it consumed, where the reported text
@@ -292,24 +299,16 @@ pub struct Answered {
     pub reply_len: usize,
 }
 
-// Where something stands in an array.
-#[derive(Clone, Copy)]
-pub enum Found {
-    Nowhere,
-    At(usize),
-}
-
 // ---- Free room, the fresh receiver and the action table.
 impl FileRecord {
     // "Over 4,096 decoded bytes" a part fails its file.
     pub const PART_LIMIT: usize = 4096;
 
     pub const FREE: FileRecord = FileRecord {
-        state: FileState::Free,
-        id: [0; 32],
-        id_len: 0,
+        id: Id::NONE,
         count: 0,
         declared: 0,
+        state: FileState::Free,
     };
 }
 
@@ -320,8 +319,7 @@ impl Session {
     pub const ABSENT: Session = Session {
         state: SessionState::Absent,
         quiet: 0,
-        id: [0; 32],
-        id_len: 0,
+        id: Id::NONE,
         wanted: 0,
         started: 0,
         done_bytes: 0,
@@ -335,25 +333,13 @@ impl Table {
 
     pub const EMPTY: Table = Table {
         sessions: [Session::ABSENT; Table::SESSIONS],
-        owed: Owed::Nothing,
+        owed: None,
     };
 }
 
 impl Reply {
     // "No reply is longer than 124 bytes": what a reply buffer has at least.
     pub const ROOM: usize = 124;
-
-    // None is due.
-    pub const NONE: Reply = Reply {
-        due: false,
-        status: Status::Ok,
-        quiet: 0,
-        id: [0; 32],
-        id_len: 0,
-        file_id: [0; 32],
-        file_id_len: 0,
-        size: 0,
-    };
 }
 
 impl Receiver {

@@ -19,6 +19,7 @@ ghost use Rattle.protocol.specs.Machine.{ours};
 ghost use Rattle.protocol.specs.Promises.{EveryCall};
 
 use acts::act;
+use protocol::refusals::{ASK_OWED, SHORT_BUFFER};
 use protocol::{Answered, Decision, Failure, Fed, Receiver};
 use replies::{answered, fed, guarded, is_short, refused};
 pub use supplies::{home, last_part, list, list_failed, part};
@@ -36,19 +37,16 @@ pub fn feed(
         ≡ feed_of receiver piece.now carry.old scratch.old reply.old }
     ensures every_call { EveryCall ours }
 {
-    let framing = receiver.framing;
-    let table = receiver.table;
     if is_short(carry.len(), scratch.len(), reply.len()) {
-        return refused(receiver, 9);
+        return refused(receiver, SHORT_BUFFER);
     }
-    let owed = table.owed;
-    if sessions::is_owed(owed) {
-        return refused(receiver, 10);
+    if receiver.table.owed.is_some() {
+        return refused(receiver, ASK_OWED);
     }
-    let scanned = frames::scan(framing, piece, carry);
-    let report = scanned.report;
-    let done = act(table, report, frames::text(piece, carry, report), scratch);
-    fed(table, scanned, done, reply)
+    let scanned = frames::scan(receiver.framing, piece, carry);
+    let text = frames::text(piece, carry, scanned.report);
+    let done = act(receiver.table, scanned.report, text, scratch);
+    fed(receiver.table, scanned, done, reply)
 }
 
 // The user lets the asked session with this id be open: reply OK.
@@ -56,10 +54,9 @@ pub fn feed(
 pub fn allow(receiver: Receiver, id: &[u8], reply: &mut [u8]) -> Answered
     ensures { outcome result reply.new ≡ allow_of receiver id.now reply.old }
 {
-    let table = receiver.table;
     guarded(
         receiver,
-        sessions::decide(table, Decision::Allow, id),
+        sessions::decide(receiver.table, Decision::Allow, id),
         reply,
     )
 }
@@ -69,8 +66,11 @@ pub fn allow(receiver: Receiver, id: &[u8], reply: &mut [u8]) -> Answered
 pub fn deny(receiver: Receiver, id: &[u8], reply: &mut [u8]) -> Answered
     ensures { outcome result reply.new ≡ deny_of receiver id.now reply.old }
 {
-    let table = receiver.table;
-    guarded(receiver, sessions::decide(table, Decision::Deny, id), reply)
+    guarded(
+        receiver,
+        sessions::decide(receiver.table, Decision::Deny, id),
+        reply,
+    )
 }
 
 // The console drops the session with this id, asked or open, and what it owed is cleared.
@@ -78,8 +78,11 @@ pub fn deny(receiver: Receiver, id: &[u8], reply: &mut [u8]) -> Answered
 pub fn drop(receiver: Receiver, id: &[u8]) -> Answered
     ensures { result ≡ drop_of receiver id.now }
 {
-    let table = receiver.table;
-    answered(receiver, sessions::decide(table, Decision::Drop, id), 0)
+    answered(
+        receiver,
+        sessions::decide(receiver.table, Decision::Drop, id),
+        0,
+    )
 }
 
 // The console has done what it was asked last.
@@ -87,8 +90,7 @@ pub fn drop(receiver: Receiver, id: &[u8]) -> Answered
 pub fn done(receiver: Receiver, reply: &mut [u8]) -> Answered
     ensures { outcome result reply.new ≡ done_of receiver reply.old }
 {
-    let table = receiver.table;
-    guarded(receiver, sessions::done(table), reply)
+    guarded(receiver, sessions::done(receiver.table), reply)
 }
 
 // The console has failed to do what it was asked last.
@@ -96,8 +98,7 @@ pub fn done(receiver: Receiver, reply: &mut [u8]) -> Answered
 pub fn failed(receiver: Receiver, failure: Failure, reply: &mut [u8]) -> Answered
     ensures { outcome result reply.new ≡ failed_of receiver failure reply.old }
 {
-    let table = receiver.table;
-    guarded(receiver, sessions::failed(table, failure), reply)
+    guarded(receiver, sessions::failed(receiver.table, failure), reply)
 }
 
 // The console calls the file that it was asked for "a directory or not listed": reply EINVAL.
@@ -105,6 +106,5 @@ pub fn failed(receiver: Receiver, failure: Failure, reply: &mut [u8]) -> Answere
 pub fn unlisted(receiver: Receiver, reply: &mut [u8]) -> Answered
     ensures { outcome result reply.new ≡ unlisted_of receiver reply.old }
 {
-    let table = receiver.table;
-    guarded(receiver, sessions::unlisted(table), reply)
+    guarded(receiver, sessions::unlisted(receiver.table), reply)
 }

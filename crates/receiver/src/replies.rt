@@ -11,6 +11,7 @@ ghost use Rattle.receiver.specs.Fed.{fed_with};
 use crate::acts::Acted;
 use command::Command;
 use frames::{Framing, Report, Scanned};
+use protocol::refusals::SHORT_BUFFER;
 use protocol::{Answered, Fed, Receiver, Reply, Table, Told};
 use sessions::next::{Next, put};
 
@@ -18,13 +19,7 @@ use sessions::next::{Next, put};
 pub fn is_short(carry: usize, scratch: usize, reply: usize) -> bool
     ensures { result ≡ (ltb carry text_limit || (ltb scratch scratch_room || ltb reply reply_room)) }
 {
-    if carry < Framing::TEXT_LIMIT {
-        return true;
-    }
-    if scratch < Command::SCRATCH_ROOM {
-        return true;
-    }
-    reply < Reply::ROOM
+    carry < Framing::TEXT_LIMIT || scratch < Command::SCRATCH_ROOM || reply < Reply::ROOM
 }
 
 // A feed that consumes nothing and changes nothing.
@@ -32,7 +27,7 @@ pub(crate) fn refused(receiver: Receiver, number: u8) -> Fed
     ensures { result ≡ Calls.feed_refused receiver number }
 {
     Fed {
-        receiver: receiver,
+        receiver,
         consumed: 0,
         report: Report::Nothing,
         told: Told::Refused(number),
@@ -46,23 +41,17 @@ pub(crate) fn refused(receiver: Receiver, number: u8) -> Fed
 pub(crate) fn fed(table: Table, scanned: Scanned, acted: Acted, buffer: &mut [u8]) -> Fed
     ensures { outcome result buffer.new ≡ fed_with scanned (taken table acted.next) acted.command buffer.old }
 {
-    let framing = scanned.framing;
-    let report = scanned.report;
-    let command = acted.command;
-    let next = acted.next;
-    let told = next.told;
-    let due = next.reply;
-    let n = reply::send(due, buffer);
+    let reply_len = reply::send(acted.next.reply, buffer);
     Fed {
         receiver: Receiver {
-            framing: framing,
-            table: put(table, next),
+            framing: scanned.framing,
+            table: put(table, acted.next),
         },
         consumed: scanned.consumed,
-        report: report,
-        told: told,
-        command: command,
-        reply_len: n,
+        report: scanned.report,
+        told: acted.next.told,
+        command: acted.command,
+        reply_len,
     }
 }
 
@@ -73,28 +62,24 @@ pub(crate) fn guarded(receiver: Receiver, next: Next, buffer: &mut [u8]) -> Answ
 {
     if buffer.len() < Reply::ROOM {
         return Answered {
-            receiver: receiver,
-            told: Told::Refused(9),
+            receiver,
+            told: Told::Refused(SHORT_BUFFER),
             reply_len: 0,
         };
     }
-    let due = next.reply;
-    let n = reply::send(due, buffer);
-    answered(receiver, next, n)
+    let reply_len = reply::send(next.reply, buffer);
+    answered(receiver, next, reply_len)
 }
 
 pub(crate) fn answered(receiver: Receiver, next: Next, reply_len: usize) -> Answered
     ensures { result ≡ Calls.answered_by receiver.framing (taken receiver.table next) reply_len }
 {
-    let framing = receiver.framing;
-    let table = receiver.table;
-    let told = next.told;
     Answered {
         receiver: Receiver {
-            framing: framing,
-            table: put(table, next),
+            framing: receiver.framing,
+            table: put(receiver.table, next),
         },
-        told: told,
-        reply_len: reply_len,
+        told: next.told,
+        reply_len,
     }
 }

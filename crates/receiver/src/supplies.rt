@@ -2,20 +2,17 @@
 // file that it asks for.
 ghost use Rattle.std.specs.Prelude.{◌≡◌, true, false};
 ghost use Rattle.octets.specs.Outcome.{outcome};
-ghost use Rattle.protocol.specs.Table.{find_session};
 ghost use Rattle.protocol.specs.Supplies.{Supply, supply_of};
 ghost use Rattle.supplying.specs.Supplied.{supply_in};
-ghost use Rattle.supplying.specs.Turns.{concerned};
 ghost use Rattle.receiver.specs.Supplied.{next_of};
 
 use crate::replies::answered;
 use command::Place;
-use protocol::{Answered, Entry, Failure, Found, Receiver, Reply, Table};
-use sessions::find::find_session;
+use protocol::{Answered, Entry, Failure, Receiver};
 use sessions::next::Next;
 use sessions::places::session_at;
-use supplying::turns::{id_in, in_turn, is_part, request_at, seat};
-use supplying::{Supplied, Supplying, supply_at};
+use supplying::turns::{concerned, in_turn};
+use supplying::{Given, Left, Supplying, supply_at};
 
 // Supplies something whose strings stand in two slices, and writes its frame at the start of out. Refused
 // with 9 where out has under 8,196 bytes, 17 for a part over 4,096 bytes, 18 out of turn, and then as the
@@ -30,41 +27,30 @@ pub fn supply<'a>(
     ensures { outcome result out.new
         ≡ supply_of receiver (supply_in supplying text.now contents.now) out.old }
 {
+    let given = Given {
+        supplying,
+        text,
+        contents,
+    };
     let table = receiver.table;
-    let owed = table.owed;
-    let found = concern(table, supplying, text);
-    let place = seat(found);
+    let found = concerned(given, table.owed, &table.sessions);
+    let place = found.unwrap_or(0);
     let session = session_at(table, place);
-    let state = session.state;
-    let turn = in_turn(supplying, state, found);
-    let supplied = supply_at(supplying, turn, session, owed, text, contents, out);
-    answered(receiver, next_of(place, supplied), supplied.written)
-}
-
-// The session that is concerned.
-fn concern(table: Table, supplying: Supplying, text: &[u8]) -> Found
-    ensures { result ≡ concerned supplying table.owed text.now (find_session table) }
-{
-    let owed = table.owed;
-    if is_part(supplying) {
-        return request_at(owed);
-    }
-    find_session(table, id_in(supplying, text))
+    let turn = in_turn(supplying, session.state, found);
+    let left = supply_at(given, turn, session, table.owed, out);
+    answered(receiver, next_of(place, left), left.written)
 }
 
 // What the table takes back; the frame is no reply.
-fn next_of(place: usize, supplied: Supplied) -> Next
-    ensures { result ≡ next_of place supplied }
+fn next_of(place: usize, left: Left) -> Next
+    ensures { result ≡ next_of place left }
 {
-    let session = supplied.session;
-    let owed = supplied.owed;
-    let told = supplied.told;
     Next {
-        place: place,
-        session: session,
-        owed: owed,
-        told: told,
-        reply: Reply::NONE,
+        place,
+        session: left.session,
+        owed: left.owed,
+        told: left.told,
+        reply: None,
     }
 }
 

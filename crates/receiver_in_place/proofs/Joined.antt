@@ -1,86 +1,76 @@
--- A call put together: of what the functions that it calls promise, its own promise. `now` is the receiver after `heads_of`, which
--- leaves it. The session that is copied out is read at any default d: its place is one of the table.
+-- A call put together: of what the functions that it calls promise, its own promise. The session that is copied out is read at any
+-- default d: its place is one of the table.
 use Prim.Native.Nat.{ℕ, ◌<◌}
 use mathlib.Core.Path.{◌≡◌, sym, ◌∙◌, ap}
 use native.Mathlib.Omega.{arith}
-use mathlib.Core.Bool.{true, false}
 use mathlib.Core.List.{List}
 use lib.ListN.{length, get_or}
+use Rattle.std.specs.Prelude.{Option, Ok, Err}
 use Rattle.std.proofs.lemmas.List.{get_or_default}
-use Rattle.octets.specs.Outcome.{outcome}
-use Rattle.protocol.specs.Table.{no_session, session_at}
-use Rattle.protocol.specs.declared.Session.{Session}
+use Rattle.octets.specs.Outcome.{Outcome, outcome}
+use Rattle.frames.specs.Calls.{text_of}
+use Rattle.command.specs.declared.Command.{Command}
+use Rattle.protocol.specs.Table.{no_session, session_at, find_session}
 use Rattle.protocol.specs.Calls.{feeding, feed_of}
 use Rattle.protocol.specs.Supplies.{supply_of}
+use Rattle.protocol.specs.declared.Session.{Session}
+use Rattle.protocol.specs.declared.Told.{Told}
 use Rattle.protocol.specs.declared.Receiver.{Receiver}
-use Rattle.supplying.specs.Supplied.{supply_in}
+use Rattle.supplying.specs.Supplied.{given_in}
 use Rattle.supplying.specs.Turns as Turns
-use Rattle.supplying.specs.declared.Supplying.{Supplying}
-use Rattle.session_in_place.specs.Heads.{heads_of, find_head}
-use Rattle.session_in_place.specs.Steps.{aimed}
+use Rattle.supplying.specs.declared.Given.{Given}
+use Rattle.supplying.specs.declared.Left.{Left}
+use Rattle.session_in_place.specs.Steps.{place_of, takes, left_in}
 use Rattle.session_in_place.specs.Calls.{answered, called_of, concerned, answer_at}
-use Rattle.session_in_place.specs.Feeds.{Hearing, hearing, hear_of, Acting, acting, act_of, fed_in}
+use Rattle.session_in_place.specs.Feeds.{Hearing, hearing, hear_of, act_of, fed_in}
 use Rattle.session_in_place.specs.Supplies.{supply_at}
 use Rattle.session_in_place.specs.declared.Call.{Call}
-use Rattle.session_in_place.specs.declared.heads.Heads.{Heads}
-use Rattle.session_in_place.specs.declared.steps.Aim.{Aim}
-use Rattle.session_in_place.specs.declared.steps.Left.{Left}
 use Rattle.session_in_place.specs.declared.feeds.Heard.{Heard}
-use Rattle.session_in_place.proofs.Halves.{takes, left_in, unread_fed, left_fed, reframed}
-use Rattle.session_in_place.proofs.InPlace.{answers, in-place-answer, in-place-supply, without_step, with_step}
-use Rattle.session_in_place.proofs.InPlace.{in-place-unread, in-place-feed}
+use Rattle.session_in_place.proofs.Halves.{unread_fed, left_fed, reframed}
+use Rattle.session_in_place.proofs.InPlace.{answers, in-place-answer, in-place-supply, by_said, in-place-feed}
 
-module _ (r now : Receiver) (hs : Heads) (same : now ≡ r) (told : hs ≡ heads_of r.table) where
-  -- ---- answer, answer_for
-  module _ (four : length now.table.sessions ≡ 4) (aim : Aim) (d : Session) (l : Left) (b : List ℕ) where
-    copied : aim.place < 4 → get_or now.table.sessions aim.place d ≡ session_at now.table aim.place
-    copied lt = get_or_default now.table.sessions aim.place d no_session (omega arith)
+module _ (r : Receiver) (four : length r.table.sessions ≡ 4) (f : Option ℕ) (i : ℕ) (at : i ≡ place_of f) (inside : i < 4)
+    (d : Session) where
+  copied : get_or r.table.sessions i d ≡ session_at r.table (place_of f)
+  copied = get_or_default r.table.sessions i d no_session (omega arith) ∙ ap (session_at r.table) at
 
-    pub answer-joined : (k : Call) (id reply : List ℕ) → (aim ≡ aimed (concerned k now.table.owed hs id)) × (aim.place < 4)
-        → outcome l b ≡ answer_at k aim.found (get_or now.table.sessions aim.place d) now.table.owed reply
-        → outcome (answered (takes now aim.place l) (left_in l)) b ≡ called_of r k id reply
-    answer-joined k id reply at step =
-        let at' = rw (same, told) at at.0 in
-        let step' = rw (copied at.1, at', same) at step in
-        rw (at', same)
-        (ap (answers r (aimed (concerned k r.table.owed (heads_of r.table) id)).place) step'
-        ∙ in-place-answer r k id reply (rw same at four))
+  -- ---- answer
+  pub answer-joined : (k : Call) (id reply b : List ℕ) (l : Left) → f ≡ concerned k r.table.owed r.table.sessions id
+      → outcome l b ≡ answer_at k f (get_or r.table.sessions i d) r.table.owed reply
+      → outcome (answered (takes r i l) (left_in l)) b ≡ called_of r k id reply
+  answer-joined k id reply b l found step =
+      let step' = rw copied at step in
+      rw at (ap (answers r (place_of f)) step' ∙ rw found (in-place-answer r k id reply four))
 
-    -- ---- supply
-    pub supply-joined : (x : Supplying) (text contents out : List ℕ)
-        → (aim ≡ aimed (Turns.concerned x now.table.owed text (find_head hs))) × (aim.place < 4)
-        → outcome l b ≡ supply_at x aim.found (get_or now.table.sessions aim.place d) now.table.owed text contents out
-        → outcome (answered (takes now aim.place l) (left_in l)) b ≡ supply_of r (supply_in x text contents) out
-    supply-joined x text contents out at step =
-        let at' = rw (same, told) at at.0 in
-        let step' = rw (copied at.1, at', same) at step in
-        rw (at', same)
-        (ap (answers r (aimed (Turns.concerned x r.table.owed text (find_head (heads_of r.table)))).place) step'
-        ∙ in-place-supply r x text contents out (rw same at four))
+  -- ---- supply
+  pub supply-joined : (g : Given) (out b : List ℕ) (l : Left)
+      → f ≡ Turns.concerned g.supplying r.table.owed g.text.now (find_session r.table)
+      → outcome l b ≡ supply_at g f (get_or r.table.sessions i d) r.table.owed out
+      → outcome (answered (takes r i l) (left_in l)) b ≡ supply_of r (given_in g) out
+  supply-joined g out b l found step =
+      let step' = rw copied at step in
+      rw at (ap (answers r (place_of f)) step' ∙ rw found (in-place-supply r g out four))
 
-  -- ---- feed
-  module _ (piece carry scratch reply : List ℕ) (h : Heard) (c s : List ℕ)
-      (half : hearing h c s ≡ hear_of now.framing now.table.owed hs piece carry scratch (length reply)) where
-    whole : hearing h c s ≡ hear_of r.framing r.table.owed (heads_of r.table) piece carry scratch (length reply)
-    whole = rw (same, told) at half
+-- ---- feed
+module _ (r : Receiver) (four : length r.table.sessions ≡ 4) (piece carry scratch reply : List ℕ) (h : Heard) (c s : List ℕ)
+    (half : hearing h c s ≡ hear_of r.framing r.table.owed r.table.sessions piece carry scratch (length reply)) where
+  whole : by_said r piece reply (hearing h c s) h.said ≡ feed_of r piece carry scratch reply
+  whole = ap (λ (x : Hearing). by_said r piece reply x x.heard.said) half ∙ in-place-feed r piece reply four carry scratch
 
-    -- where no command was read
-    pub unread-joined : h.unread ≡ true
-        → feeding (fed_in (reframed now h.framing) (unread_fed h)) c s reply ≡ feed_of r piece carry scratch reply
-    unread-joined q =
-        rw same
-        (ap (without_step r piece reply) whole
-        ∙ in-place-unread r piece reply carry scratch (ap (λ (x : Hearing). x.heard.unread) (sym whole) ∙ q))
+  -- where no command was read
+  pub unread-joined : (w : Told) → h.said ≡ Err w
+      → feeding (fed_in (reframed r h.framing) (unread_fed h w)) c s reply ≡ feed_of r piece carry scratch reply
+  unread-joined w q = ap (by_said r piece reply (hearing h c s)) (sym q) ∙ whole
 
-    pub feed-joined : length now.table.sessions ≡ 4 → (d : Session) (l : Left) (c' s' y : List ℕ) → h.place < 4 → h.unread ≡ false
-        → acting l c' s' y ≡ act_of h (get_or now.table.sessions h.place d) now.table.owed piece c s reply
-        → feeding (fed_in (takes (reframed now h.framing) h.place l) (left_fed h l)) c' s' y ≡ feed_of r piece carry scratch reply
-    feed-joined four d l c' s' y lt q step =
-        let copied = get_or_default now.table.sessions h.place d no_session (omega arith) in
-        let step' = rw (copied, same) at step in
-        rw same
-        (ap
-        (λ (a : Acting). feeding (fed_in (takes (reframed r h.framing) h.place a.left) (left_fed h a.left)) a.carry a.scratch a.reply)
-        step'
-        ∙ ap (with_step r piece reply) whole
-        ∙ in-place-feed r piece reply carry scratch (rw same at four) (ap (λ (x : Hearing). x.heard.unread) (sym whole) ∙ q))
+  pub feed-joined : (i : ℕ) → i ≡ place_of h.found → i < 4 → (k : Command) → h.said ≡ Ok k
+      → (d : Session) (l : Left) (y text : List ℕ) → text ≡ text_of piece c h.report
+      → outcome l y ≡ act_of h.found (get_or r.table.sessions i d) r.table.owed k text s reply
+      → feeding (fed_in (takes (reframed r h.framing) i l) (left_fed h k l)) c s y ≡ feed_of r piece carry scratch reply
+  feed-joined i at inside k q d l y text is step =
+      let step' = rw (copied r four h.found i at inside d, is) at step in
+      rw at
+      (ap
+      (λ (o : Outcome Left). feeding (fed_in (takes (reframed r h.framing) (place_of h.found) o.answer) (left_fed h k o.answer)) c s
+      o.buffer)
+      step'
+      ∙ (ap (by_said r piece reply (hearing h c s)) (sym q) ∙ whole))

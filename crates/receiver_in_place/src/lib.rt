@@ -1,59 +1,32 @@
 // The console's calls on a receiver that is lent and changed where it lies: feed, supply, and answer for
 // the others. Answers, the receiver afterwards and every lent byte are those of the calls by value, for any
-// receiver and any buffers. A call copies one session out and back, and of the others only their states
-// and ids out.
+// receiver and any buffers. A call copies one session out and back.
 //
 // Not here: what a call gives (`protocol`), what it does with the one session (`session_in_place`).
 #![tactic(auto)]
 
-ghost use Rattle.std.specs.Prelude.{◌≡◌};
+ghost use Rattle.std.specs.Prelude.{◌≡◌, ◌<◌};
 ghost use Rattle.octets.specs.Outcome.{outcome};
 ghost use Rattle.protocol.specs.Calls.{feeding, feed_of};
 ghost use Rattle.protocol.specs.Supplies.{supply_of};
 ghost use Rattle.supplying.specs.Supplied.{supply_in};
 ghost use Rattle.session_in_place.specs.Calls.{answered, called_of, fed_id};
 ghost use Rattle.session_in_place.specs.Feeds.{fed_in};
-ghost use Rattle.session_in_place.specs.Heads.{heads_of};
+ghost use Rattle.session_in_place.specs.Steps.{takes, left_in};
 
+use command::Command;
 use protocol::Receiver;
-use session_in_place::calls::{aim_for, aim_of, answer_at};
+use session_in_place::calls;
+use session_in_place::calls::answer_at;
 use session_in_place::feeds::{act, hear};
-use session_in_place::heads::{Head, Heads};
-use session_in_place::supplies::{aim_supply, supply_in};
+use session_in_place::steps::place_of;
+use session_in_place::supplies::supply_in;
 pub use session_in_place::{AnsweredInPlace, Call, FedInPlace};
 pub use supplying::Supplying;
+use supplying::{Given, Left, turns};
 
-// ---- The calls. Each is straight on, but for the return of a feed in which no command was read: what
-// is decided, the functions that they call decide.
-// The heads of the four sessions.
-#[tactic(auto, unfolding(session_in_place::specs::Heads::heads_of))]
-fn heads_of(receiver: &mut Receiver) -> Heads
-    ensures { (result ≡ heads_of receiver.old.table) × (receiver.new ≡ receiver.old) }
-{
-    Heads {
-        first: Head {
-            state: receiver.table.sessions[0].state,
-            id: receiver.table.sessions[0].id,
-            id_len: receiver.table.sessions[0].id_len,
-        },
-        second: Head {
-            state: receiver.table.sessions[1].state,
-            id: receiver.table.sessions[1].id,
-            id_len: receiver.table.sessions[1].id_len,
-        },
-        third: Head {
-            state: receiver.table.sessions[2].state,
-            id: receiver.table.sessions[2].id,
-            id_len: receiver.table.sessions[2].id_len,
-        },
-        fourth: Head {
-            state: receiver.table.sessions[3].state,
-            id: receiver.table.sessions[3].id,
-            id_len: receiver.table.sessions[3].id_len,
-        },
-    }
-}
-
+// ---- The calls. What is decided, the functions that they call decide. Carry, scratch, reply and out are
+// lent one by one, as a console lends them.
 // Takes one piece through the first thing to report.
 pub fn feed<'r, 'p, 'b>(
     receiver: &'r mut Receiver,
@@ -65,38 +38,47 @@ pub fn feed<'r, 'p, 'b>(
     ensures { feeding (fed_in receiver.new result) carry.new scratch.new reply.new
         ≡ feed_of receiver.old piece.now carry.old scratch.old reply.old }
 {
-    let heads = heads_of(receiver);
-    let framing = receiver.framing;
     let owed = receiver.table.owed;
-    let heard = hear(framing, owed, heads, piece, carry, scratch, reply.len());
-    receiver.framing = heard.framing;
-    if heard.unread {
-        return FedInPlace {
-            consumed: heard.consumed,
-            report: heard.report,
-            told: heard.told,
-            command: heard.command,
-            reply_len: 0,
-        };
-    }
-    let i = heard.place;
-    let left = act(
-        heard,
-        receiver.table.sessions[i],
+    let heard = hear(
+        receiver.framing,
         owed,
+        &receiver.table.sessions,
         piece,
         carry,
         scratch,
+        reply.len(),
+    );
+    receiver.framing = heard.framing;
+    let command = match heard.said {
+        Ok(command) => command,
+        Err(told) => {
+            return FedInPlace {
+                consumed: heard.consumed,
+                report: heard.report,
+                told,
+                command: Command::NONE,
+                reply_len: 0,
+            };
+        }
+    };
+    let i = place_of(heard.found);
+    let text = frames::text(piece, carry, heard.report);
+    let left = act(
+        heard.found,
+        receiver.table.sessions[i],
+        owed,
+        command,
+        text,
+        scratch,
         reply,
     );
-    receiver.table.sessions[i] = left.session;
-    receiver.table.owed = left.owed;
+    let answered = put_back(receiver, i, left);
     FedInPlace {
         consumed: heard.consumed,
         report: heard.report,
-        told: left.told,
-        command: heard.command,
-        reply_len: left.reply_len,
+        told: answered.told,
+        command,
+        reply_len: answered.reply_len,
     }
 }
 
@@ -110,17 +92,11 @@ pub fn answer<'r, 'i, 'b>(
     ensures { outcome (answered receiver.new result) reply.new
         ≡ called_of receiver.old call id.now reply.old }
 {
-    let heads = heads_of(receiver);
     let owed = receiver.table.owed;
-    let aim = aim_of(call, owed, heads, id);
-    let i = aim.place;
-    let left = answer_at(call, aim.found, receiver.table.sessions[i], owed, reply);
-    receiver.table.sessions[i] = left.session;
-    receiver.table.owed = left.owed;
-    AnsweredInPlace {
-        told: left.told,
-        reply_len: left.reply_len,
-    }
+    let found = calls::concerned(call, owed, &receiver.table.sessions, id);
+    let i = place_of(found);
+    let left = answer_at(call, found, receiver.table.sessions[i], owed, reply);
+    put_back(receiver, i, left)
 }
 
 // The same, by the id of the command that a feed reported: where it lies, in that feed's piece or in the
@@ -137,17 +113,9 @@ pub fn answer_for<'r, 'p, 'b>(
         ≡ called_of receiver.old call (fed_id fed piece.now carry.old) reply.old)
         × (carry.new ≡ carry.old) }
 {
-    let heads = heads_of(receiver);
-    let owed = receiver.table.owed;
-    let aim = aim_for(call, owed, heads, fed, piece, carry);
-    let i = aim.place;
-    let left = answer_at(call, aim.found, receiver.table.sessions[i], owed, reply);
-    receiver.table.sessions[i] = left.session;
-    receiver.table.owed = left.owed;
-    AnsweredInPlace {
-        told: left.told,
-        reply_len: left.reply_len,
-    }
+    let text = frames::text(piece, carry, fed.report);
+    let id = octets::part(text, fed.command.id.start, fed.command.id.len);
+    answer(receiver, call, id, reply)
 }
 
 // What is supplied in a receive session: its strings stand in the text and the contents.
@@ -161,23 +129,30 @@ pub fn supply<'r, 's, 'b>(
     ensures { outcome (answered receiver.new result) out.new
         ≡ supply_of receiver.old (supply_in supplying text.now contents.now) out.old }
 {
-    let heads = heads_of(receiver);
-    let owed = receiver.table.owed;
-    let aim = aim_supply(supplying, owed, heads, text);
-    let i = aim.place;
-    let left = supply_in(
+    let given = Given {
         supplying,
-        aim.found,
-        receiver.table.sessions[i],
-        owed,
         text,
         contents,
-        out,
-    );
+    };
+    let owed = receiver.table.owed;
+    let found = turns::concerned(given, owed, &receiver.table.sessions);
+    let i = place_of(found);
+    let left = supply_in(given, found, receiver.table.sessions[i], owed, out);
+    put_back(receiver, i, left)
+}
+
+// What a call leaves is put back: the session at its place, and what is owed. Inlined, since a call would
+// copy the session once more.
+#[inline(always)]
+fn put_back(receiver: &mut Receiver, i: usize, left: Left) -> AnsweredInPlace
+    requires { i < 4 }
+    ensures receiver { receiver.new ≡ takes receiver.old i left }
+    ensures answer { result ≡ left_in left }
+{
     receiver.table.sessions[i] = left.session;
     receiver.table.owed = left.owed;
     AnsweredInPlace {
         told: left.told,
-        reply_len: left.reply_len,
+        reply_len: left.written,
     }
 }

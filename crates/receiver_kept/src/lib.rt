@@ -1,5 +1,5 @@
-// The calls in place on a receiver that is taken and given by value: it lies in a local, and is lent to
-// each, so whoever calls these lends none.
+// The calls in place on a receiver that is taken and given by value: it is lent to each from where it was
+// taken to, so whoever calls these lends none.
 //
 // Not here: speed. A console that wants it keeps the receiver where it lies, and lends it itself.
 #![tactic(auto)]
@@ -16,7 +16,7 @@ use receiver_in_place::{Call, Supplying};
 
 // A feed in place.
 pub fn feed<'p, 'b>(
-    receiver: Receiver,
+    mut receiver: Receiver,
     piece: &'p [u8],
     carry: &'b mut [u8],
     scratch: &'b mut [u8],
@@ -25,10 +25,9 @@ pub fn feed<'p, 'b>(
     ensures { feeding result carry.new scratch.new reply.new
         ≡ feed_of receiver piece.now carry.old scratch.old reply.old }
 {
-    let mut kept = receiver;
-    let fed = receiver_in_place::feed(&mut kept, piece, carry, scratch, reply);
+    let fed = receiver_in_place::feed(&mut receiver, piece, carry, scratch, reply);
     Fed {
-        receiver: kept,
+        receiver,
         consumed: fed.consumed,
         report: fed.report,
         told: fed.told,
@@ -38,13 +37,17 @@ pub fn feed<'p, 'b>(
 }
 
 // Any other call but supply in place.
-pub fn answer<'i, 'b>(receiver: Receiver, call: Call, id: &'i [u8], reply: &'b mut [u8]) -> Answered
+pub fn answer<'i, 'b>(
+    mut receiver: Receiver,
+    call: Call,
+    id: &'i [u8],
+    reply: &'b mut [u8],
+) -> Answered
     ensures { outcome result reply.new ≡ called_of receiver call id.now reply.old }
 {
-    let mut kept = receiver;
-    let answered = receiver_in_place::answer(&mut kept, call, id, reply);
+    let answered = receiver_in_place::answer(&mut receiver, call, id, reply);
     Answered {
-        receiver: kept,
+        receiver,
         told: answered.told,
         reply_len: answered.reply_len,
     }
@@ -52,7 +55,7 @@ pub fn answer<'i, 'b>(receiver: Receiver, call: Call, id: &'i [u8], reply: &'b m
 
 // What is supplied in a receive session, in place.
 pub fn supply<'s, 'b>(
-    receiver: Receiver,
+    mut receiver: Receiver,
     supplying: Supplying,
     text: &'s [u8],
     contents: &'s [u8],
@@ -61,10 +64,9 @@ pub fn supply<'s, 'b>(
     ensures { outcome result out.new
         ≡ supply_of receiver (supply_in supplying text.now contents.now) out.old }
 {
-    let mut kept = receiver;
-    let answered = receiver_in_place::supply(&mut kept, supplying, text, contents, out);
+    let answered = receiver_in_place::supply(&mut receiver, supplying, text, contents, out);
     Answered {
-        receiver: kept,
+        receiver,
         told: answered.told,
         reply_len: answered.reply_len,
     }

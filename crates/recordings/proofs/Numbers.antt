@@ -6,20 +6,22 @@ use mathlib.Core.List.{List, [], ◌∷◌}
 use native.Mathlib.Omega.{arith}
 use lib.ListN.{length, get_or, drop}
 use lib.Dec.{ltb}
+use Rattle.std.specs.Prelude.{Result, Ok, Err}
 use Rattle.octets.specs.Ascii.{ascii}
 use Rattle.octets.specs.Members.{every}
 use Rattle.octets.specs.Slices.{equals, starts_with}
 use Rattle.octets.specs.Split.{split}
 use Rattle.base64_codec.specs.Decode.{verdict_of, bytes_of}
-use Rattle.base64_codec.specs.declared.Verdict.{Verdict}
+use Rattle.base64_codec.specs.declared.Fault.{Fault}
 use Rattle.decimal.specs.Read.{parse_of}
-use Rattle.decimal.specs.declared.Parsed.{Parsed}
-use Rattle.decimal.specs.declared.Parsed.TheVariants.{Integer, Malformed, OutOfRange}
+use Rattle.decimal.specs.declared.Number.{Number}
+use Rattle.decimal.specs.declared.ParseError.{ParseError}
 use Rattle.frames.specs.Stream.{text_limit}
 use Rattle.command.specs.Refusals.{refusal_number}
 use Rattle.command.specs.Keys.{Alias, Kind, place_in, keys, kind_at, number_of}
 use Rattle.command.specs.Letters.{safe_byte, text_byte}
-use Rattle.command.specs.Values.{Got, alias_read, word_read, over, safe_read, integer_read, base64_refusal, base64_read, value_read}
+use Rattle.command.specs.Values.{Got, alias_read, word_read, over, safe_read}
+use Rattle.command.specs.Values.{integer_refusal, integer_read, base64_refusal, base64_read, value_read}
 use Rattle.command.specs.Fields.{Turn, and_then, is_key, equals_sign, key_of, value_of, field_read, fields_read, text_read}
 use Rattle.command.specs.Meaning.{Field, stored, once, meant, blank, values_in, missing, Meaning, finished, meaning_of}
 use Rattle.command.specs.declared.Refusal.{Refusal}
@@ -51,14 +53,13 @@ unfolding alias_read
 alias-some unknown [] v = number-some unknown
 alias-some unknown (a ∷ more) v = by_test GotSome (equals v a.text) (λ _. tt) (λ _. alias-some unknown more v)
 
-integer-some : (p : Parsed) → GotSome (integer_read p)
-integer-some (Integer n) = tt
-integer-some Malformed = omega arith
-integer-some OutOfRange = omega arith
+integer-some : (p : Result Number ParseError) → GotSome (integer_read p)
+integer-some (Ok n) = tt
+integer-some (Err error) = number-some (integer_refusal error)
 
-base64-some : (w : Verdict) (b : List ℕ) → GotSome (base64_read w b)
-base64-some (Verdict.Valid padding) b = tt
-base64-some (Verdict.Invalid fault) b = number-some (base64_refusal fault)
+base64-some : (w : Result ℕ Fault) (b : List ℕ) → GotSome (base64_read w b)
+base64-some (Ok padding) b = tt
+base64-some (Err fault) b = number-some (base64_refusal fault)
 
 value-some : (k : Kind) (v : List ℕ) → GotSome (value_read k v)
 unfolding value_read word_read safe_read

@@ -14,8 +14,7 @@ use Rattle.octets.proofs.Lists.{drop_at, drop-end, part-rest}
 use Rattle.frames.specs.Stream.{Mode, is_command, framed}
 use Rattle.command.specs.Meaning.{Meaning, meaning_of}
 use Rattle.recordings.specs.Pieces.{Piece, opened, by_meaning, closed_piece, abandoned_piece, cut, outside_first, joined, pieces_after}
-use Rattle.recordings.specs.Walk.{next_escape, meant, closed_of, abandoned_of, text_at, escape_at}
-use Rattle.recordings.specs.declared.sights.Sight.{Sight}
+use Rattle.recordings.specs.Walk.{next_escape, Seen, meant, closed_of, abandoned_of, text_at, escape_at}
 use Rattle.recordings.proofs.Escapes.{Next, next-escape}
 use Rattle.recordings.proofs.Runs.{run-outside, cut-closed, cut-abandoned, escape-on}
 use Rattle.recordings.proofs.Runs.{plain_end, escape_end, open-end, open-escape-end}
@@ -25,15 +24,15 @@ abbrev pub between : List ℕ → ℕ → ℕ → List ℕ
 between xs from to = take (to - from) (drop from xs)
 
 -- a sight at a place is right: it goes on, and the pieces from that place on are what it says and those from where it ends
-abbrev pub Sees : List ℕ → ℕ → Sight → Type 0
-Sees xs at (Sight.Outside to) =
+abbrev pub Sees : List ℕ → ℕ → Seen → Type 0
+Sees xs at (Seen.outside to) =
     (at < to) × (to ≤ length xs)
     × ((p : List ℕ) → pieces_after p (drop at xs) ≡ pieces_after (p ++ between xs at to) (drop to xs))
-Sees xs at (Sight.Kept start end) =
+Sees xs at (Seen.keeps start end) =
     (at ≤ start) × (start < end) × (end ≤ length xs)
     × ((p : List ℕ) → pieces_after p (drop at xs)
     ≡ outside_first (p ++ between xs at start) (Piece.kept (between xs start end) ∷ pieces_after [] (drop end xs)))
-Sees xs at (Sight.Refused start end n) =
+Sees xs at (Seen.refuses start end n) =
     (at ≤ start) × (start < end) × (end ≤ length xs)
     × ((p : List ℕ) → pieces_after p (drop at xs)
     ≡ outside_first (p ++ between xs at start) (Piece.refused n (between xs start end) ∷ pieces_after [] (drop end xs)))
@@ -56,7 +55,7 @@ module _ (xs : List ℕ) (at i e : ℕ) (f : List ℕ) (n : Next xs at i) (s : i
       ap (take (e - at)) (n.parts ∙ ap (λ (x : List ℕ). between xs at i ++ x) d ∙ sym (append_assoc (between xs at i) f (drop e xs)))
       ∙ take_at (between xs at i ++ f) (drop e xs) (e - at) (omega (arith, length-append (between xs at i) f, n.size, n.from))
 
-  pub sees-outside : Base (Piece.outside f) → Sees xs at (Sight.Outside e)
+  pub sees-outside : Base (Piece.outside f) → Sees xs at (Seen.outside e)
   unfolding joined
   sees-outside b = (
     omega (arith, n.from),
@@ -65,11 +64,11 @@ module _ (xs : List ℕ) (at i e : ℕ) (f : List ℕ) (n : Next xs at i) (s : i
         ∙ ap (λ (q : List ℕ). pieces_after q (drop e xs)) (append_assoc p (between xs at i) f ∙ ap (λ (x : List ℕ). p ++ x) (sym whole)),
   )
 
-  pub sees-kept : Base (Piece.kept f) → Sees xs at (Sight.Kept i e)
+  pub sees-kept : Base (Piece.kept f) → Sees xs at (Seen.keeps i e)
   unfolding joined
   sees-kept b = (n.from, s, w, λ p. rw here (base-at (Piece.kept f) b p))
 
-  pub sees-refused : (k : ℕ) → Base (Piece.refused k f) → Sees xs at (Sight.Refused i e k)
+  pub sees-refused : (k : ℕ) → Base (Piece.refused k f) → Sees xs at (Seen.refuses i e k)
   unfolding joined
   sees-refused k b = (n.from, s, w, λ p. rw here (base-at (Piece.refused k f) b p))
 
@@ -78,7 +77,7 @@ module _ (xs : List ℕ) (at i e : ℕ) (f : List ℕ) (n : Next xs at i) (s : i
 abbrev Ends : List ℕ → Type 0
 Ends ys = (q : List ℕ) → pieces_after q ys ≡ outside_first (q ++ ys) []
 
-sees-end : (xs : List ℕ) (at i : ℕ) → at < length xs → Next xs at i → Ends (drop i xs) → Sees xs at (Sight.Outside (length xs))
+sees-end : (xs : List ℕ) (at i : ℕ) → at < length xs → Next xs at i → Ends (drop i xs) → Sees xs at (Seen.outside (length xs))
 unfolding cut joined
 sees-end xs at i h n e = (
   h,
@@ -113,7 +112,7 @@ module _ (xs : List ℕ) (at i j : ℕ) (h : at < length xs) (n : Next xs at i) 
   opens : (z : List ℕ) → drop j xs ≡ z → drop i xs ≡ opened (t ++ z)
   opens z e = o ∙ ap opened (m.parts ∙ ap (λ (x : List ℕ). t ++ x) e)
 
-  sees-open : length xs < j + 2 → Sees xs at (Sight.Outside (length xs))
+  sees-open : length xs < j + 2 → Sees xs at (Seen.outside (length xs))
   sees-open l = sees-end xs at i h n (by (tail xs (i + 2) j m l))
     where
       by : (drop j xs ≡ []) ⊎ (drop j xs ≡ 0x1B ∷ []) → Ends (drop i xs)
@@ -147,7 +146,7 @@ module _ (xs : List ℕ) (at i j : ℕ) (h : at < length xs) (n : Next xs at i) 
         meaning (Meaning.refused r) k =
             sees-refused xs at i (j + 2) (framed t) n (omega (arith, m.from)) l d size r (base (Piece.refused r (framed t)) k)
 
-        by : (u : Bool) → is_command t ≡ u → Sees xs at (cond u (meant (meaning_of t) i (j + 2)) (Sight.Outside (j + 2)))
+        by : (u : Bool) → is_command t ≡ u → Sees xs at (cond u (meant (meaning_of t) i (j + 2)) (Seen.outside (j + 2)))
         by true k = meaning (meaning_of t) (rw k)
         by false k =
             sees-outside xs at i (j + 2) (framed t) n (omega (arith, m.from)) l d size (base (Piece.outside (framed t)) (rw k))
@@ -172,7 +171,7 @@ module _ (xs : List ℕ) (at i j : ℕ) (h : at < length xs) (n : Next xs at i) 
         size : length (opened t) ≡ j - i
         size = omega (arith, m.size, m.from)
 
-        by : (u : Bool) → is_command t ≡ u → Sees xs at (cond u (Sight.Refused i j 2) (Sight.Outside j))
+        by : (u : Bool) → is_command t ≡ u → Sees xs at (cond u (Seen.refuses i j 2) (Seen.outside j))
         by true k =
             sees-refused xs at i j (opened t) n (omega (arith, m.from)) m.within d size 2 (base (Piece.refused 2 (opened t)) (rw k))
         by false k =
@@ -188,7 +187,7 @@ module _ (xs : List ℕ) (at i j : ℕ) (h : at < length xs) (n : Next xs at i) 
     where
       by : (u : Bool) → leb (j + 2) (length xs) ≡ u
           → Sees xs at (cond u (cond (eqb (get_or xs (j + 1) 0) 0x5C) (closed_of t i (j + 2)) (abandoned_of t i j))
-          (Sight.Outside (length xs)))
+          (Seen.outside (length xs)))
       by true e = sees-ended (leb-true (j + 2) (length xs) e) (eqb (get_or xs (j + 1) 0) 0x5C) refl
       by false e = sees-open (leb-false (j + 2) (length xs) e)
 
@@ -198,7 +197,7 @@ module _ (xs : List ℕ) (at i : ℕ) (h : at < length xs) (n : Next xs at i) wh
   escape-ends (inl e) q = rw e (plain_end q [] tt)
   escape-ends (inr e) q = rw e (escape_end q)
 
-  sees-lone : i + 2 ≤ length xs → (get_or xs (i + 1) 0 ≡ 0x5D → ⊥) → Sees xs at (Sight.Outside (i + 1))
+  sees-lone : i + 2 ≤ length xs → (get_or xs (i + 1) 0 ≡ 0x5D → ⊥) → Sees xs at (Seen.outside (i + 1))
   unfolding joined
   sees-lone l e =
       let b = get_or xs (i + 1) 0 in
@@ -211,7 +210,7 @@ module _ (xs : List ℕ) (at i : ℕ) (h : at < length xs) (n : Next xs at i) wh
       ∙ ap (pieces_after (q ++ 0x1B ∷ [])) k)
 
   sees-two : i + 2 ≤ length xs → (u : Bool) → eqb (get_or xs (i + 1) 0) 0x5D ≡ u
-      → Sees xs at (cond u (text_at xs i (next_escape xs (i + 2))) (Sight.Outside (i + 1)))
+      → Sees xs at (cond u (text_at xs i (next_escape xs (i + 2))) (Seen.outside (i + 1)))
   sees-two l true e =
       let j = next_escape xs (i + 2) in
       sees-text xs at i j h n (two xs at i n l ∙ rw (eqb-true (get_or xs (i + 1) 0) 0x5D e)) (next-escape xs (i + 2) j l refl)
@@ -222,8 +221,8 @@ module _ (xs : List ℕ) (at i : ℕ) (h : at < length xs) (n : Next xs at i) wh
   sees-escape = by (leb (i + 2) (length xs)) refl
     where
       by : (u : Bool) → leb (i + 2) (length xs) ≡ u
-          → Sees xs at (cond u (cond (eqb (get_or xs (i + 1) 0) 0x5D) (text_at xs i (next_escape xs (i + 2))) (Sight.Outside (i + 1)))
-          (Sight.Outside (length xs)))
+          → Sees xs at (cond u (cond (eqb (get_or xs (i + 1) 0) 0x5D) (text_at xs i (next_escape xs (i + 2))) (Seen.outside (i + 1)))
+          (Seen.outside (length xs)))
       by true e = sees-two (leb-true (i + 2) (length xs) e) (eqb (get_or xs (i + 1) 0) 0x5D) refl
       by false e = sees-end xs at i h n (escape-ends (tail xs at i n (leb-false (i + 2) (length xs) e)))
 

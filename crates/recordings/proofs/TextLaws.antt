@@ -12,9 +12,8 @@ use Rattle.octets.proofs.Compare.{starts-sound}
 use Rattle.frames.specs.Stream.{mark, is_command}
 use Rattle.frames.proofs.Choices.{by_cond}
 use Rattle.recordings.specs.Laws.{text_in}
-use Rattle.recordings.specs.Walk.{next_escape, closed_of, abandoned_of, text_at, escape_at}
+use Rattle.recordings.specs.Walk.{next_escape, Seen, closed_of, abandoned_of, text_at, escape_at}
 use Rattle.recordings.specs.Texts.{closed_text, abandoned_text, text_from, escape_text, next_text, text_between, sight_of}
-use Rattle.recordings.specs.declared.sights.Sight.{Sight}
 use Rattle.recordings.specs.declared.texts.TextSight.{TextSight}
 use Rattle.recordings.proofs.SightLaws.{between, Sees, next-sees}
 
@@ -46,7 +45,7 @@ module _ (xs : List ℕ) where
       let t = take (end - (start + 2)) (drop (start + 2) xs) in
       let b = eqb (get_or xs (end + 1) 0) 0x5C in
       choice (sight_of xs) (leb (end + 2) (length xs)) (cond b (closed_text t start (end + 2)) (abandoned_text t start end)) _
-      ∙ ap (λ (s : Sight). cond (leb (end + 2) (length xs)) s (Sight.Outside (length xs)))
+      ∙ ap (λ (s : Seen). cond (leb (end + 2) (length xs)) s (Seen.outside (length xs)))
       (choice (sight_of xs) b (closed_text t start (end + 2)) (abandoned_text t start end)
       ∙ rw (closed-read start end, abandoned-read t start end))
 
@@ -56,7 +55,7 @@ module _ (xs : List ℕ) where
       let b = eqb (get_or xs (i + 1) 0) 0x5D in
       let s = text_from xs i (next_escape xs (i + 2)) in
       choice (sight_of xs) (leb (i + 2) (length xs)) (cond b s (TextSight.Outside (i + 1))) _
-      ∙ ap (λ (s : Sight). cond (leb (i + 2) (length xs)) s (Sight.Outside (length xs)))
+      ∙ ap (λ (s : Seen). cond (leb (i + 2) (length xs)) s (Seen.outside (length xs)))
       (choice (sight_of xs) b s (TextSight.Outside (i + 1)) ∙ rw (text-read i (next_escape xs (i + 2))))
 
   -- as `mend` sees them

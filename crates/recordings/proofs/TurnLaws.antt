@@ -11,14 +11,14 @@ use lib.Dec.{ltb, leb}
 use borrow.Author.Tests.{ltb-true, ltb-false, le-leb}
 use Rattle.octets.specs.Outcome.{Outcome, outcome}
 use Rattle.octets.specs.Slices.{part_of, copy_at}
-use Rattle.octets.specs.declared.Stored.{Stored}
+use Rattle.std.specs.Prelude.{Option}
 use Rattle.octets.proofs.Stores.{sets-append}
 use Rattle.octets.proofs.Lists.{drop-end}
 use Rattle.frames.proofs.Choices.{by_cond}
 use Rattle.recordings.specs.Pieces.{Piece, cut, outside_first, joined, pieces_after, pieces_of, kept_bytes, rows_from, dropped}
 use Rattle.recordings.specs.Pieces.{mended_of, list_of}
-use Rattle.recordings.specs.Walk.{next_escape, escape_at, with_row, tallied, outside_to, refused_to, kept_to, Walk, walk, turn_of, Walked}
-use Rattle.recordings.specs.declared.sights.Sight.{Sight}
+use Rattle.recordings.specs.Walk.{next_escape, Seen, escape_at, with_row, tallied, outside_to, refused_to, kept_to, Walk, walk}
+use Rattle.recordings.specs.Walk.{turn_of, Walked}
 use Rattle.recordings.specs.declared.walk.Tally.{Tally}
 use Rattle.recordings.proofs.PieceLaws.{rows-length}
 use Rattle.recordings.proofs.SightLaws.{between, Sees, next-sees}
@@ -66,7 +66,7 @@ bytes-put f out at h = rw (le-leb (at + length f) (length out) h)
 bytes-size : (f out : List ℕ) (at : ℕ) → length (copy_at f out at).buffer ≡ length out
 unfolding copy_at
 bytes-size f out at =
-    by_cond (λ (o : Outcome Stored). length o.buffer ≡ length out) (leb (at + length f) (length out))
+    by_cond (λ (o : Outcome (Option ℕ)). length o.buffer ≡ length out) (leb (at + length f) (length out))
     (λ _. length-sets out at f) (λ _. refl)
 
 module _ (xs out₀ list₀ : List ℕ) where
@@ -190,17 +190,17 @@ module _ (xs out₀ list₀ : List ℕ) where
       let z : t.at - t.mark ≡ 0 = omega arith in
       record { ordered = omega arith; within = h; left = rw z s }
 
-  turn-walks : (t : Tally) (out list : List ℕ) (s : Sight) → Walking (walk t out list) → Sees xs t.at s
+  turn-walks : (t : Tally) (out list : List ℕ) (s : Seen) → Walking (walk t out list) → Sees xs t.at s
       → Walking (turn_of s t xs out list)
   unfolding turn_of kept_to refused_to
-  turn-walks t out list (Sight.Outside to) w e =
+  turn-walks t out list (Seen.outside to) w e =
       let q = e.2 (between xs t.mark t.at) in
       record {
         ordered = omega (arith, w.ordered, e.0);
         within = e.1;
         left = rw (q, between_join xs t.mark t.at to w.ordered (omega (arith, e.0))) at w.left;
       }
-  turn-walks t out list (Sight.Kept start end) w e =
+  turn-walks t out list (Seen.keeps start end) w e =
       let q = e.3 (between xs t.mark t.at) in
       let ps : List Piece = Piece.kept (between xs start end) ∷ pieces_after [] (drop end xs) in
       let s = rw (q, between_join xs t.mark t.at start w.ordered e.0) at w.left in
@@ -211,7 +211,7 @@ module _ (xs out₀ list₀ : List ℕ) where
       anew k.answer k.buffer o.buffer refl e.2
       (kept-left o.answer end out o.buffer (pieces_after [] (drop end xs)) (omega (arith, m, e.1)) e.2 (between xs start end)
       (ap (λ (i : ℕ). between xs i end) (sym m)) a)
-  turn-walks t out list (Sight.Refused start end n) w e =
+  turn-walks t out list (Seen.refuses start end n) w e =
       let q = e.3 (between xs t.mark t.at) in
       let ps : List Piece = Piece.refused n (between xs start end) ∷ pieces_after [] (drop end xs) in
       let s = rw (q, between_join xs t.mark t.at start w.ordered e.0) at w.left in
@@ -224,14 +224,14 @@ module _ (xs out₀ list₀ : List ℕ) where
       (ap (λ (i : ℕ). between xs i end) (sym m)) (omega (arith, m, e.1)) a)
 
   -- each turn goes on
-  turn-goes : (t : Tally) (out list : List ℕ) (s : Sight) → Sees xs t.at s → t.at < (turn_of s t xs out list).tally.at
+  turn-goes : (t : Tally) (out list : List ℕ) (s : Seen) → Sees xs t.at s → t.at < (turn_of s t xs out list).tally.at
   unfolding turn_of kept_to refused_to
-  turn-goes t out list (Sight.Outside to) e = e.0
-  turn-goes t out list (Sight.Kept start end) e = omega (arith, e.0, e.1)
-  turn-goes t out list (Sight.Refused start end n) e = omega (arith, e.0, e.1)
+  turn-goes t out list (Seen.outside to) e = e.0
+  turn-goes t out list (Seen.keeps start end) e = omega (arith, e.0, e.1)
+  turn-goes t out list (Seen.refuses start end n) e = omega (arith, e.0, e.1)
 
   -- a turn of the loop, and that it comes nearer to the end
-  pub turned : {w : Walk} (t : Tally) (out list : List ℕ) (s : Sight) → Walking (walk t out list) → t.at < length xs
+  pub turned : {w : Walk} (t : Tally) (out list : List ℕ) (s : Seen) → Walking (walk t out list) → t.at < length xs
       → s ≡ escape_at xs (next_escape xs t.at) → w ≡ turn_of s t xs out list
       → Walking w × (length xs - w.tally.at < length xs - t.at)
   turned t out list s w h e k =

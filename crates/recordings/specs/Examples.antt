@@ -1,10 +1,10 @@
 -- Examples of the rules, each a recording with its list and what is kept of it.
-use Rattle.std.specs.Prelude.{ℕ, ◌≡◌, List, [], ◌∷◌, replicate}
+use Rattle.std.specs.Prelude.{ℕ, ◌≡◌, List, [], ◌∷◌, replicate, Ok, Err}
 use Prim.Native.String.{String}
 use Rattle.frames.specs.DragDrop.{noisy}
 use Rattle.recordings.specs.Pieces.{mended_of, list_of}
-use Rattle.recordings.specs.Mend.{mend_of}
-use Rattle.recordings.specs.declared.Mended.TheVariants.{Done, Refused}
+use Rattle.recordings.specs.Mend.{mended, mend_of}
+use Rattle.recordings.specs.declared.Refusal.TheVariants.{NoRoom}
 
 -- a recording is quoted, E stands for its byte 1B
 pub record Example : Type 0 where
@@ -52,10 +52,10 @@ AllMend (e ∷ es) = ((list_of e.recording ≡ e.rows) × (mended_of e.recording
 
 -- the room: what is needed is enough, and one less is not
 pub record Rooms : Type 0 where
-  pub output_only : (mend_of (noisy send) (replicate 21 0) []).answer ≡ Done 21 0
-  pub short_output : (mend_of (noisy send) (replicate 20 0) []).answer ≡ Refused 9
-  pub short_list : (mend_of (noisy "xE]5113;ac=send;id=mE\\y") (replicate 21 0) (replicate 5 0)).answer ≡ Refused 9
-  pub empty : (mend_of [] [] []).answer ≡ Done 0 0
+  pub output_only : (mend_of (noisy send) (replicate 21 0) []).answer ≡ Ok (mended 21 0)
+  pub short_output : (mend_of (noisy send) (replicate 20 0) []).answer ≡ Err NoRoom
+  pub short_list : (mend_of (noisy "xE]5113;ac=send;id=mE\\y") (replicate 21 0) (replicate 5 0)).answer ≡ Err NoRoom
+  pub empty : (mend_of [] [] []).answer ≡ Ok (mended 0 0)
 
 abbrev pub MendExamples : Type 0
 MendExamples = AllMend examples × Rooms

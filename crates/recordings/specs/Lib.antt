@@ -1,3 +1,4 @@
+pub mod Refusals
 pub mod Pieces
 pub mod Laws
 pub mod Mend

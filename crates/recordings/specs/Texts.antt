@@ -2,8 +2,7 @@
 use Rattle.std.specs.Prelude.{ℕ, ◌+◌, ◌-◌, cond, List, length, take, drop, get_or, leb, eqb}
 use Rattle.frames.specs.Stream.{is_command}
 use Rattle.command.specs.Meaning.{meaning_of}
-use Rattle.recordings.specs.Walk.{next_escape, meant}
-use Rattle.recordings.specs.declared.sights.Sight.{Sight}
+use Rattle.recordings.specs.Walk.{next_escape, Seen, meant}
 use Rattle.recordings.specs.declared.texts.TextSight.{TextSight}
 
 -- a text with its closer, and one without; its piece lies from a place up to another
@@ -36,7 +35,7 @@ abbrev pub text_between : List ℕ → ℕ → ℕ → List ℕ
 text_between xs start end = take (end - 2 - (start + 2)) (drop (start + 2) xs)
 
 -- what it is once it is read
-abbrev pub sight_of : List ℕ → TextSight → Sight
-sight_of xs (TextSight.Outside to) = Sight.Outside to
+abbrev pub sight_of : List ℕ → TextSight → Seen
+sight_of xs (TextSight.Outside to) = Seen.outside to
 sight_of xs (TextSight.Text start end) = meant (meaning_of (text_between xs start end)) start end
-sight_of xs (TextSight.Abandoned start end) = Sight.Refused start end 2
+sight_of xs (TextSight.Abandoned start end) = Seen.refuses start end 2

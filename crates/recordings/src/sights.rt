@@ -2,42 +2,60 @@
 ghost use Rattle.std.specs.Prelude.{◌≡◌, ◌+◌, ◌≤◌, length};
 ghost use Rattle.command.specs.Meaning.{meaning_of};
 ghost use Rattle.command.specs.Read.{scratch_room};
-ghost use Rattle.recordings.specs.Walk.{next_escape, escape_at, meant};
+ghost use Rattle.recordings.specs.Walk.{next_escape, escape_at, meant, fault_number, seen};
 ghost use Rattle.recordings.specs.Texts.{text_between};
 
 use crate::texts::{TextSight, next_text};
-use command::Reading;
+use command::Refusal;
+
+// What is wrong with a command that is not kept: its text is abandoned, or refused by the reader.
+#[derive(Clone, Copy)]
+pub enum Fault {
+    Abandoned,
+    Refused(Refusal),
+}
+
+impl Fault {
+    // The number that the list has of it.
+    pub(crate) fn number(self) -> u8
+        ensures { result ≡ fault_number self }
+    {
+        match self {
+            Fault::Abandoned => 2,
+            Fault::Refused(refusal) => refusal.number(),
+        }
+    }
+}
 
 // Bytes outside a command up to a place; or, from a place up to another, a frame to keep, or a command
-// that is refused, with the refusal's number.
-#[derive(Drop)]
+// with a fault.
+#[derive(Clone, Copy)]
 pub enum Sight {
     Outside(usize),
     Kept(usize, usize),
-    Refused(usize, usize, u8),
+    Faulty(usize, usize, Fault),
 }
 
 // What stands next from a place on, which is outside texts.
 pub(crate) fn next(recording: &[u8], at: usize, scratch: &mut [u8]) -> Sight
     requires { (at ≤ length recording.now) × (scratch_room ≤ length scratch.old) }
-    ensures { result ≡ escape_at recording.now (next_escape recording.now at) }
+    ensures { seen result ≡ escape_at recording.now (next_escape recording.now at) }
 {
     match next_text(recording, at) {
         TextSight::Outside(to) => Sight::Outside(to),
         TextSight::Text(start, end) => judged(recording, start, end, scratch),
-        TextSight::Abandoned(start, end) => Sight::Refused(start, end, 2),
+        TextSight::Abandoned(start, end) => Sight::Faulty(start, end, Fault::Abandoned),
     }
 }
 
 // A command frame from a place up to another: kept if its text reads without refusal.
 fn judged(recording: &[u8], start: usize, end: usize, scratch: &mut [u8]) -> Sight
     requires { (start + 4 ≤ end) × (end ≤ length recording.now) × (scratch_room ≤ length scratch.old) }
-    ensures { result ≡ meant (meaning_of (text_between recording.now start end)) start end }
+    ensures { seen result ≡ meant (meaning_of (text_between recording.now start end)) start end }
 {
-    let from = start + 2;
-    let to = end - 2;
-    match command_reader::read(&recording[from..to], scratch) {
-        Reading::Read(_) => Sight::Kept(start, end),
-        Reading::Refused(refusal) => Sight::Refused(start, end, refusal.number()),
+    let text = &recording[start + 2..end - 2];
+    match command_reader::read(text, scratch) {
+        Ok(_) => Sight::Kept(start, end),
+        Err(refusal) => Sight::Faulty(start, end, Fault::Refused(refusal)),
     }
 }

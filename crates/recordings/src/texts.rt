@@ -3,9 +3,9 @@
 // A search always starts where the bytes are outside texts: the 1B that abandons a text is read again
 // as one outside, where the byte after it means the same. So nothing is carried from one text to the
 // next.
-ghost use Rattle.std.specs.Prelude.{◌≡◌, ◌+◌, ◌≤◌, length};
+ghost use Rattle.std.specs.Prelude.{◌≡◌, ◌+◌, ◌≤◌, length, cond};
 ghost use Rattle.frames.specs.Stream.{is_command};
-ghost use Rattle.recordings.specs.Texts.{next_text, text_from, closed_text, abandoned_text};
+ghost use Rattle.recordings.specs.Texts.{next_text, text_from};
 ghost use Rattle.recordings.specs.Walk.{next_escape};
 
 // Bytes outside a command up to a place; or, from a place up to another, a command text with its opener
@@ -34,7 +34,7 @@ pub fn next_text(recording: &[u8], at: usize) -> TextSight
 }
 
 // The text whose opener stands at a place.
-#[tactic(auto, unfolding(crate::specs::Texts::text_from))]
+#[tactic(auto, unfolding(crate::specs::Texts::text_from, crate::specs::Texts::closed_text, crate::specs::Texts::abandoned_text))]
 fn text(recording: &[u8], start: usize) -> TextSight
     requires { start + 2 ≤ length recording.now }
     ensures { result ≡ text_from recording.now start (next_escape recording.now (start + 2)) }
@@ -44,33 +44,23 @@ fn text(recording: &[u8], start: usize) -> TextSight
     if !octets::fits(end, 2, recording.len()) {
         return TextSight::Outside(recording.len());
     }
+    let text = &recording[from..end];
     let after = end + 2;
     if recording[end + 1] == 0x5C {
-        return closed(&recording[from..end], start, after);
+        return if_command(text, TextSight::Text(start, after), after);
     }
-    abandoned(&recording[from..end], start, end)
+    if_command(text, TextSight::Abandoned(start, end), end)
 }
 
-// A text with its closer, whose frame lies from a place up to another.
-#[tactic(auto, unfolding(crate::specs::Texts::closed_text))]
-fn closed(text: &[u8], start: usize, end: usize) -> TextSight
-    ensures { result ≡ closed_text text.now start end }
+// What is seen of a command's text; any other, up to its end, is outside commands.
+fn if_command(text: &[u8], sight: TextSight, end: usize) -> TextSight
+    ensures { result ≡ cond (is_command text.now) sight (TextSight.Outside end) }
 {
     if is_command(text) {
-        return TextSight::Text(start, end);
+        sight
+    } else {
+        TextSight::Outside(end)
     }
-    TextSight::Outside(end)
-}
-
-// A text that is abandoned, up to the 1B that does it.
-#[tactic(auto, unfolding(crate::specs::Texts::abandoned_text))]
-fn abandoned(text: &[u8], start: usize, end: usize) -> TextSight
-    ensures { result ≡ abandoned_text text.now start end }
-{
-    if is_command(text) {
-        return TextSight::Abandoned(start, end);
-    }
-    TextSight::Outside(end)
 }
 
 fn is_command(text: &[u8]) -> bool

@@ -12,13 +12,12 @@ use Rattle.streams.specs.Streams.{is_well}
 use Rattle.replay.specs.Pieces.{OnAfter}
 use Rattle.replay.specs.declared.console.Onward.{Onward}
 
--- the feed of what was left, l, as it is by value
-pub fed-after : (h g : Receiver) (r : FedInPlace) (c₀ s₀ y₀ c s y l piece : List ℕ) (len : ℕ) (o o' : Onward) → l ≡ piece
+-- the feed of what was left, as it is by value
+pub fed-after : (h g : Receiver) (r : FedInPlace) (c₀ s₀ y₀ c s y l : List ℕ) (len : ℕ) (o o' : Onward)
     → feeding (fed_in g r) c s y ≡ feed_of h l c₀ s₀ y₀ → OnAfter len r.consumed o o'
-    → OnAfter len (feed_of h piece c₀ s₀ y₀).fed.consumed o o'
-fed-after h g r c₀ s₀ y₀ c s y l piece len o o' is fed on =
-    let e = fed ∙ ap (λ (k : List ℕ). feed_of h k c₀ s₀ y₀) is in
-    subst (λ (n : ℕ). OnAfter len n o o') (ap (λ (f : Feeding). f.fed.consumed) e) on
+    → OnAfter len (feed_of h l c₀ s₀ y₀).fed.consumed o o'
+fed-after h g r c₀ s₀ y₀ c s y l len o o' fed on =
+    subst (λ (n : ℕ). OnAfter len n o o') (ap (λ (f : Feeding). f.fed.consumed) fed) on
 
 pub answered-after : (len used : ℕ) (o o' o'' : Onward) → OnAfter len used o o'
     → (is_well o''.run ≡ true → (is_well o'.run ≡ true) × (o''.at ≡ o'.at)) → OnAfter len used o o''

@@ -8,6 +8,7 @@ use native.Mathlib.Omega.{arith}
 use lib.ListN.{length, take, drop, length-drop}
 use lib.Seq.{sets, length-sets, take-add}
 use lib.Dec.{leb}
+use Rattle.std.specs.Prelude.{Option}
 use Rattle.octets.specs.Outcome.{outcome}
 use Rattle.frames.specs.Calls.{scan_of}
 use Rattle.protocol.specs.Replies.{reply_room, reply_bytes, replied_of}
@@ -144,7 +145,7 @@ answerable-last [] x a h = (h, tt)
 answerable-last (y ∷ xs) x a h = (a.0, answerable-last xs x a.1 h)
 
 -- ---- the reply buffer is as long as it was
-replied-length : (y : Reply) (buf : List ℕ) → length (replied_of y buf).buffer ≡ length buf
+replied-length : (y : Option Reply) (buf : List ℕ) → length (replied_of y buf).buffer ≡ length buf
 unfolding replied_of
 replied-length y buf = go (leb (0 + length (reply_bytes y)) (length buf))
   where

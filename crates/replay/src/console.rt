@@ -8,10 +8,9 @@
 ghost use Rattle.std.specs.Prelude.{◌≡◌, true, ◌-◌, ◌≤◌, length, drop};
 ghost use Rattle.protocol.specs.Calls.{feed_of};
 ghost use Rattle.streams.specs.Streams.{is_well, Keeps};
-ghost use Rattle.replay.specs.Plans.{is_over, call_for, LeftByTurn};
+ghost use Rattle.replay.specs.Plans.{call_for, LeftByTurn};
 ghost use Rattle.replay.specs.Pieces.{OnAfter, Takes};
 
-use octets::Stored;
 use protocol::{Receiver, Reply, Told};
 use receiver_in_place::{Call, FedInPlace};
 use streams::Run;
@@ -36,12 +35,10 @@ pub struct Onward {
     pub replies_end: usize,
 }
 
-// What follows a feed: the call to answer with, whether nothing is to answer, and where the piece goes
-// on then.
+// What follows a feed: the call to answer with, if anything is to answer, and where the piece goes on then.
 #[derive(Clone, Copy)]
 pub struct Plan {
-    pub call: Call,
-    pub is_over: bool,
+    pub call: Option<Call>,
     pub onward: Onward,
 }
 
@@ -62,16 +59,13 @@ pub(crate) fn take<'p, 'b>(
     let mut receiver = before;
     let mut onward = Onward {
         at: 0,
-        run: run,
+        run,
         replies_end: Reply::ROOM,
     };
     while onward.at < piece.len() {
         onward = turn(&mut receiver, piece, onward, carry, scratch, reply);
     }
-    Taken {
-        receiver: receiver,
-        onward: onward,
-    }
+    Taken { receiver, onward }
 }
 
 // Feeds a piece from a place on through the first thing to report, and answers that as `answers_to` says.
@@ -93,87 +87,52 @@ fn turn<'r, 'p, 'b>(
     let left = rest(piece, onward.at);
     let fed = receiver_in_place::feed(receiver, left, carry, scratch, reply);
     let plan = planned(fed, onward, piece.len(), reply);
-    if plan.is_over {
+    let Some(call) = plan.call else {
         return plan.onward;
-    }
-    let answered = receiver_in_place::answer_for(receiver, plan.call, fed, left, carry, reply);
+    };
+    let answered = receiver_in_place::answer_for(receiver, call, fed, left, carry, reply);
     finish(plan.onward, answered.reply_len, piece.len(), reply)
 }
 
 // ---- What is decided and written.
 // What of a piece is left at a place.
-fn rest<'p>(piece: &'p [u8], at: usize) -> &'p [u8]
+fn rest(piece: &[u8], at: usize) -> &[u8]
     ensures { result.now ≡ drop at piece.now }
 {
-    if at > piece.len() {
-        return &piece[..0];
-    }
-    &piece[at..]
+    &piece[at.min(piece.len())..]
 }
 
 // Sends the feed's reply, and plans what follows.
-fn planned<'b>(fed: FedInPlace, onward: Onward, len: usize, reply: &'b mut [u8]) -> Plan
-    ensures { (len - result.onward.at ≤ (len - onward.at) - 1) × (result.is_over ≡ is_over fed.told)
-        × (result.call ≡ call_for fed.told) × OnAfter len fed.consumed onward result.onward }
+fn planned(fed: FedInPlace, onward: Onward, len: usize, reply: &mut [u8]) -> Plan
+    ensures { (len - result.onward.at ≤ (len - onward.at) - 1) × (result.call ≡ call_for fed.told)
+        × OnAfter len fed.consumed onward result.onward }
 {
-    let told = fed.told;
     let sent = send(onward, fed.reply_len, reply);
     Plan {
-        call: call_for(told),
-        is_over: is_over(told),
+        call: call_for(fed.told),
         onward: moved(sent, fed.consumed, len),
     }
 }
 
-fn call_for(told: Told) -> Call
+// The call that answers; none, where nothing is to answer.
+fn call_for(told: Told) -> Option<Call>
     ensures { result ≡ call_for told }
 {
     match told {
-        Told::Asked => Call::Allow,
-        Told::LastPath => Call::Allow,
-        Told::Ask(_) => Call::Done,
-        Told::Nothing => Call::Done,
-        Told::Refused(_) => Call::Done,
-        Told::Ignored => Call::Done,
-        Told::DragDrop => Call::Done,
-        Told::Naming => Call::Done,
-        Told::Path => Call::Done,
-        Told::Status(_) => Call::Done,
-        Told::Withdrawn => Call::Done,
-        Told::Discarded => Call::Done,
-        Told::Committed => Call::Done,
-    }
-}
-
-// Whether nothing is to answer.
-fn is_over(told: Told) -> bool
-    ensures { result ≡ is_over told }
-{
-    match told {
-        Told::Asked => false,
-        Told::LastPath => false,
-        Told::Ask(_) => false,
-        Told::Nothing => true,
-        Told::Refused(_) => true,
-        Told::Ignored => true,
-        Told::DragDrop => true,
-        Told::Naming => true,
-        Told::Path => true,
-        Told::Status(_) => true,
-        Told::Withdrawn => true,
-        Told::Discarded => true,
-        Told::Committed => true,
+        Told::Asked => Some(Call::Allow),
+        Told::LastPath => Some(Call::Allow),
+        Told::Ask(_) => Some(Call::Done),
+        _ => None,
     }
 }
 
 // Sends an answer's reply.
-fn finish<'b>(onward: Onward, n: usize, len: usize, reply: &'b mut [u8]) -> Onward
+fn finish(onward: Onward, n: usize, len: usize, reply: &mut [u8]) -> Onward
     ensures { (len - result.at ≤ len - onward.at)
         × (is_well result.run ≡ true → (is_well onward.run ≡ true) × (result.at ≡ onward.at)) }
 {
     let sent = send(onward, n, reply);
-    let run = sent.run;
-    if run.is_well() {
+    if sent.run.is_well() {
         return sent;
     }
     Onward { at: len, ..sent }
@@ -184,9 +143,7 @@ fn finish<'b>(onward: Onward, n: usize, len: usize, reply: &'b mut [u8]) -> Onwa
 fn moved(onward: Onward, used: usize, len: usize) -> Onward
     ensures { (len - result.at ≤ (len - onward.at) - 1) × OnAfter len used onward result }
 {
-    let at = onward.at;
-    let run = onward.run;
-    if !run.is_well() {
+    if !onward.run.is_well() {
         return Onward { at: len, ..onward };
     }
     if used == 0 {
@@ -196,23 +153,17 @@ fn moved(onward: Onward, used: usize, len: usize) -> Onward
             ..onward
         };
     }
-    if at > len {
-        return Onward { at: len, ..onward };
-    }
-    if used > len - at {
-        return Onward { at: len, ..onward };
-    }
     Onward {
-        at: at + used,
+        at: onward.at.saturating_add(used).min(len),
         ..onward
     }
 }
 
 // Puts a reply of n bytes behind those that wait. Where no room is left there, all are written.
-fn send<'b>(onward: Onward, n: usize, reply: &'b mut [u8]) -> Onward
+fn send(onward: Onward, n: usize, reply: &mut [u8]) -> Onward
     ensures { (result.at ≡ onward.at) × Keeps onward.run result.run }
 {
-    let Stored::End(end) = put_by(reply, onward.replies_end, n) else {
+    let Some(end) = put_by(reply, onward.replies_end, n) else {
         let run = flush(onward, reply);
         return Onward {
             run: run.text(octets::part(reply, 0, n)),
@@ -226,19 +177,24 @@ fn send<'b>(onward: Onward, n: usize, reply: &'b mut [u8]) -> Onward
     }
 }
 
-// Copies the first n bytes of the reply buffer to a place of it, through a buffer of its own: two parts
-// of one buffer are not lent at once.
-fn put_by<'b>(reply: &'b mut [u8], at: usize, n: usize) -> Stored {
-    let mut last = [0u8; Reply::ROOM];
-    octets::copy_at(octets::part(reply, 0, n), &mut last, 0);
-    octets::copy_at(octets::part(&last, 0, n), reply, at)
+// Copies the reply of n bytes to a place behind it, and says where it ends there.
+fn put_by(reply: &mut [u8], at: usize, n: usize) -> Option<usize> {
+    if reply.len() < Reply::ROOM {
+        return None;
+    }
+    let (last, waiting) = reply.split_at_mut(Reply::ROOM);
+    let end = octets::copy_at(
+        octets::part(last, 0, n),
+        waiting,
+        at.saturating_sub(Reply::ROOM),
+    )?;
+    Some(Reply::ROOM.saturating_add(end))
 }
 
 // Writes the replies that wait.
 pub(crate) fn flush(onward: Onward, reply: &[u8]) -> Run
     ensures { Keeps onward.run result }
 {
-    let run = onward.run;
-    let n = octets::size::less(onward.replies_end, Reply::ROOM);
-    run.text(octets::part(reply, Reply::ROOM, n))
+    let waiting = onward.replies_end.saturating_sub(Reply::ROOM);
+    onward.run.text(octets::part(reply, Reply::ROOM, waiting))
 }

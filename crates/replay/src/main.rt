@@ -8,23 +8,22 @@ use command::Command;
 use frames::Framing;
 use protocol::Receiver;
 use std::io::{Stdin, Stdout};
-use streams::{Got, Run};
+use streams::Run;
 
 fn main(rt: HostRuntime) {
     replay(rt.stdin(), rt.stdout()).end(rt.stderr(), b"replay");
 }
 
-// A proved loop has to end, and nothing says that the input does. So the loop counts its turns down,
-// from a number that no run uses up.
+// A proved loop has to end, and nothing says that the input does. So the loop counts its turns, up
+// to a number that no run uses up.
 fn replay(input: Stdin, out: Stdout) -> Run {
-    let mut piece = [0u8; 65536];
-    let mut carry = [0u8; Framing::TEXT_LIMIT];
-    let mut scratch = [0u8; Command::SCRATCH_ROOM];
-    let mut reply = [0u8; console::REPLIES];
+    let mut piece = [0; 65536];
+    let mut carry = [0; Framing::TEXT_LIMIT];
+    let mut scratch = [0; Command::SCRATCH_ROOM];
+    let mut reply = [0; console::REPLIES];
     let mut receiver = Receiver::fresh();
-    let mut turns = u64::MAX;
-    while turns > 0 {
-        let Got::Bytes(n) = streams::read(input, &mut piece) else {
+    for _ in 0..u64::MAX {
+        let Some(n) = streams::read(input, &mut piece) else {
             return Run::NotRead;
         };
         if n == 0 {
@@ -43,7 +42,6 @@ fn replay(input: Stdin, out: Stdout) -> Run {
             return run;
         }
         receiver = taken.receiver;
-        turns -= 1;
     }
     Run::Well(out)
 }

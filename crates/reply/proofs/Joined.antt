@@ -1,10 +1,9 @@
 -- The parts of a reply, one after another, are its bytes.
-use Prim.Native.Nat.{ℕ, ◌+◌}
+use Prim.Native.Nat.{ℕ}
 use mathlib.Core.Path.{◌≡◌, refl, sym}
-use mathlib.Core.Bool.{Bool, true, false, cond, ◌&&◌}
+use mathlib.Core.Bool.{true, false}
 use mathlib.Core.List.{List, [], ◌∷◌, ◌++◌, append_assoc, append-nil}
-use native.Mathlib.Omega.{arith}
-use lib.ListN.{length, length-append, take}
+use Rattle.std.specs.Prelude.{Some, None}
 use Rattle.octets.specs.Ascii.{ascii}
 use Rattle.octets.specs.Split.{join}
 use Rattle.base64_codec.specs.Encode as Base64
@@ -12,6 +11,7 @@ use Rattle.frames.specs.Stream.{framed}
 use Rattle.protocol.specs.Replies.{status_word, is_held, unless_empty, size_text, status_text, reply_bytes}
 use Rattle.protocol.specs.declared.Reply.{Reply}
 use Rattle.reply.specs.Parts.{key_for, parts_of, joined}
+use Rattle.protocol.specs.Table.{id_bytes}
 
 -- each field with a `;` before it
 abbrev led : List (List ℕ) → List ℕ
@@ -45,31 +45,18 @@ reply-parts id file size word =
       append-nil (Base64.text_of word),
     )
 
--- how long they are
-pub parts-length : (id file size word : List ℕ)
-    → length (joined (parts_of id file size word))
-    ≡ 16 + length (key_for (ascii ";id=") id) + length id + length (key_for (ascii ";fid=") file) + length file
-    + length (key_for (ascii ";sz=") size) + length size + 4 + length word + 2
-unfolding joined
-parts-length id file size word = simp length-append (omega arith)
-
--- ---- by the reply: due and not held back, not due, held back
-pub sent : (r : Reply) → r.due ≡ true → is_held r.status r.quiet ≡ false
-    → reply_bytes r
-    ≡ joined (parts_of (take r.id_len r.id) (take r.file_id_len r.file_id)
+-- ---- by the reply: sent, or held back
+pub sent : (r : Reply) → is_held r.status r.quiet ≡ false
+    → reply_bytes (Some r)
+    ≡ joined (parts_of (id_bytes r.id) (id_bytes r.file_id)
     (size_text r.size) (Base64.text_of (status_word r.status)))
 unfolding reply_bytes
-sent r d h =
-    rw (d, h) (reply-parts (take r.id_len r.id) (take r.file_id_len r.file_id) r.size (status_word r.status))
+sent r h = rw h (reply-parts (id_bytes r.id) (id_bytes r.file_id) r.size (status_word r.status))
 
-pub not-due : (r : Reply) → r.due ≡ false → reply_bytes r ≡ []
+pub none-due : reply_bytes None ≡ []
 unfolding reply_bytes
-not-due r d = rw d
+none-due = refl
 
-pub held : (r : Reply) → is_held r.status r.quiet ≡ true → reply_bytes r ≡ []
+pub held : (r : Reply) → is_held r.status r.quiet ≡ true → reply_bytes (Some r) ≡ []
 unfolding reply_bytes
-held r h = rw h (none r.due _)
-  where
-    none : (t : Bool) (bs : List ℕ) → cond (t && false) bs [] ≡ []
-    none true bs = refl
-    none false bs = refl
+held r h = rw h

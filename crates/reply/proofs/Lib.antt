@@ -1,3 +1,4 @@
 pub mod Putting
 pub mod Joined
 pub mod TextLaws
+pub mod WriterLaws

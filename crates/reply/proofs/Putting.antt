@@ -11,22 +11,22 @@ use lib.Dec.{leb}
 use borrow.Author.Tests.{le-leb, lt-leb}
 use Rattle.octets.specs.Outcome.{Outcome, outcome}
 use Rattle.octets.specs.Slices.{copy_at}
-use Rattle.octets.specs.declared.Stored.{Stored}
+use Rattle.std.specs.Prelude.{Option, Some, None, unwrap_or}
 use Rattle.octets.proofs.Stores.{sets-append}
-use Rattle.reply.specs.Puts.{place_after, put, put_all}
+use Rattle.reply.specs.Puts.{put, put_all}
 use Rattle.reply.specs.Parts.{joined, written}
 
 -- ---- one part
 -- as `copy_at` stores it
-pub put-copied : (part buf : List ℕ) (at : ℕ) (o : Outcome Stored) → o ≡ copy_at part buf at
-    → outcome (place_after o.answer at) o.buffer ≡ put (outcome at buf) part
+pub put-copied : (part buf : List ℕ) (at : ℕ) (o : Outcome (Option ℕ)) → o ≡ copy_at part buf at
+    → outcome (unwrap_or o.answer at) o.buffer ≡ put (outcome at buf) part
 unfolding copy_at put
 put-copied part buf at o e = ap placed e ∙ go (leb (at + length part) (length buf))
   where
-    placed : Outcome Stored → Outcome ℕ
-    placed q = outcome (place_after q.answer at) q.buffer
+    placed : Outcome (Option ℕ) → Outcome ℕ
+    placed q = outcome (unwrap_or q.answer at) q.buffer
 
-    go : (t : Bool) → placed (cond t (outcome (Stored.End (at + length part)) (sets buf at part)) (outcome Stored.NoRoom buf))
+    go : (t : Bool) → placed (cond t (outcome (Some (at + length part)) (sets buf at part)) (outcome None buf))
         ≡ cond t (outcome (at + length part) (sets buf at part)) (outcome at buf)
     go true = refl
     go false = refl

@@ -1,14 +1,8 @@
 -- "Replies are put together field by field into the lent reply buffer": parts put one after another.
-use Rattle.std.specs.Prelude.{ℕ, ◌+◌, List, [], ◌∷◌, length}
-use denote.Ref.{at_last}
+use Rattle.std.specs.Prelude.{ℕ, ◌+◌, List, [], ◌∷◌, length, map}
+use denote.Ref.{Bor, at_last}
 use Rattle.octets.specs.Outcome.{Outcome, outcome, stored_at}
-use Rattle.octets.specs.declared.Stored.{Stored}
 use Rattle.reply.specs.declared.writer.Writer.{Writer}
-
--- where bytes end that were to be stored from a place on: there, where they did not fit
-abbrev pub place_after : Stored → ℕ → ℕ
-place_after (Stored.End end) at = end
-place_after Stored.NoRoom at = at
 
 -- place and buffer after one more part, which is left out where it does not fit
 unfoldable pub put : Outcome ℕ → List ℕ → Outcome ℕ
@@ -24,3 +18,13 @@ abbrev pub stored : Writer → List ℕ → Writer
 stored w part =
     let o = put (outcome w.at w.buf.now) part in
     record { buf = at_last w.buf o.buffer; at = o.answer }
+
+-- and after each of some parts
+abbrev pub stored_all : Writer → List (List ℕ) → Writer
+stored_all w parts =
+    let o = put_all (outcome w.at w.buf.now) parts in
+    record { buf = at_last w.buf o.buffer; at = o.answer }
+
+-- the bytes of parts that are lent
+abbrev pub texts : List (Bor (List ℕ)) → List (List ℕ)
+texts parts = map (λ part. part.now) parts

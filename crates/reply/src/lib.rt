@@ -14,29 +14,29 @@ ghost use Rattle.protocol.specs.Promises.{EveryStatus};
 ghost use Rattle.protocol.specs.Replies.{is_progress, is_held, replied_of};
 
 use protocol::{Reply, Status};
+pub use texts::word_of;
 
-// Stores a reply at the buffer's start and says how long it is. A reply that is not due, that quiet
-// holds back, or that does not fit has length 0 and leaves the buffer as before. That every reply is
-// canonical text and reads back as what it says stands here too.
-pub fn send(reply: Reply, buffer: &mut [u8]) -> usize
+// Stores a reply at the buffer's start and says how long it is. Where none is due, quiet holds it back, or
+// it does not fit, the length is 0 and the buffer as before. That every reply is canonical text and reads
+// back as what it says stands here too.
+pub fn send(reply: Option<Reply>, buffer: &mut [u8]) -> usize
     ensures buffer_after { outcome result buffer.new ≡ replied_of reply buffer.old }
     ensures every_status { EveryStatus }
 {
-    if !reply.due {
+    let Some(reply) = reply else {
         return 0;
-    }
-    let status = reply.status;
-    if is_held(status, reply.quiet) {
+    };
+    if is_held(reply.status, reply.quiet) {
         return 0;
     }
     let size = texts::size_text(reply.size);
-    let word = texts::status_text(status);
+    let word = texts::status_text(reply.status);
     fields::put_fields(
         buffer,
-        texts::first(&reply.id, reply.id_len),
-        texts::first(&reply.file_id, reply.file_id_len),
-        texts::first(&size.bytes, size.len),
-        texts::first(&word.bytes, word.len),
+        reply.id.as_slice(),
+        reply.file_id.as_slice(),
+        size.as_slice(),
+        word.as_slice(),
     )
 }
 
@@ -44,33 +44,15 @@ pub fn send(reply: Reply, buffer: &mut [u8]) -> usize
 pub fn is_held(status: Status, quiet: u64) -> bool
     ensures { result ≡ is_held status quiet }
 {
-    if quiet >= 2 {
-        return true;
-    }
-    if quiet < 1 {
-        return false;
-    }
-    is_progress(status)
+    quiet >= 2 || quiet >= 1 && is_progress(status)
 }
 
 // Whether quiet 1 holds a reply with this status back.
 fn is_progress(status: Status) -> bool
     ensures { result ≡ is_progress status }
 {
-    match status {
-        Status::Ok => true,
-        Status::Started => true,
-        Status::Progress => true,
-        Status::Canceled => true,
-        Status::Eperm => false,
-        Status::Eio => false,
-        Status::Enoent => false,
-        Status::Enospc => false,
-        Status::Ebusy => false,
-        Status::Enotsup => false,
-        Status::Einval => false,
-        Status::Eexist => false,
-        Status::Emfile => false,
-        Status::Efbig => false,
-    }
+    matches!(
+        status,
+        Status::Ok | Status::Started | Status::Progress | Status::Canceled
+    )
 }

@@ -1,11 +1,9 @@
 // The writer: a borrowed buffer, and the place of the next byte in it.
 //
 // What a part does to the buffer is decided in `put_at`, on slice and number.
-ghost use Rattle.std.specs.Prelude.{◌≡◌, [], ◌∷◌};
+ghost use Rattle.std.specs.Prelude.{◌≡◌};
 ghost use Rattle.octets.specs.Outcome.{outcome};
-ghost use Rattle.reply.specs.Puts.{place_after, put, put_all, stored};
-
-use octets::Stored;
+ghost use Rattle.reply.specs.Puts.{put, put_all, stored, stored_all, texts};
 
 #[derive(Drop)]
 struct Writer<'b> {
@@ -21,37 +19,23 @@ impl<'b> Writer<'b> {
         let at = self.at;
         self.at = put_at(&mut *self.buf, at, part);
     }
+
+    // Puts parts in, one after another.
+    fn put_all(&mut self, parts: &[&[u8]])
+        ensures { self.new ≡ stored_all self.old (texts parts.now) }
+    {
+        for part in parts {
+            self.put(part);
+        }
+    }
 }
 
-// Puts the parts of a reply in from the buffer's start on, and says where they end.
-pub(crate) fn put_parts<'b, 's>(
-    buf: &'b mut [u8],
-    opening: &'s [u8],
-    id_key: &'s [u8],
-    id: &'s [u8],
-    file_key: &'s [u8],
-    file: &'s [u8],
-    size_key: &'s [u8],
-    size: &'s [u8],
-    word_key: &'s [u8],
-    word: &'s [u8],
-    closing: &'s [u8],
-) -> usize
-    ensures { outcome result buf.new ≡ put_all (outcome 0 buf.old)
-        (opening.now ∷ id_key.now ∷ id.now ∷ file_key.now ∷ file.now
-        ∷ size_key.now ∷ size.now ∷ word_key.now ∷ word.now ∷ closing.now ∷ []) }
+// Puts parts in from the buffer's start on, and says where they end.
+pub(crate) fn put_parts(buf: &mut [u8], parts: &[&[u8]]) -> usize
+    ensures { outcome result buf.new ≡ put_all (outcome 0 buf.old) (texts parts.now) }
 {
-    let mut w = Writer { buf: buf, at: 0 };
-    w.put(opening);
-    w.put(id_key);
-    w.put(id);
-    w.put(file_key);
-    w.put(file);
-    w.put(size_key);
-    w.put(size);
-    w.put(word_key);
-    w.put(word);
-    w.put(closing);
+    let mut w = Writer { buf, at: 0 };
+    w.put_all(parts);
     w.at
 }
 
@@ -60,15 +44,5 @@ pub(crate) fn put_parts<'b, 's>(
 fn put_at(buf: &mut [u8], at: usize, part: &[u8]) -> usize
     ensures { outcome result buf.new ≡ put (outcome at buf.old) part.now }
 {
-    place_after(octets::copy_at(part, buf, at), at)
-}
-
-// Where bytes end that were to be stored from place `at` on: there, where they did not fit.
-pub(crate) fn place_after(stored: Stored, at: usize) -> usize
-    ensures { result ≡ place_after stored at }
-{
-    match stored {
-        Stored::End(end) => end,
-        Stored::NoRoom => at,
-    }
+    octets::copy_at(part, buf, at).unwrap_or(at)
 }

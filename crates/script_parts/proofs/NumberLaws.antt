@@ -1,24 +1,10 @@
--- Numbers of two, three and four bytes, of which some may be missing.
-use Prim.Native.Nat.{ℕ, ◌+◌, ◌-◌, ◌*◌, ◌<◌}
-use mathlib.Core.Path.{◌≡◌, refl, sym}
-use mathlib.Core.Bool.{Bool, true, false, cond}
+-- Numbers of two, three, four and eight bytes, of which some may be missing.
+use Prim.Native.Nat.{ℕ, ◌+◌, ◌*◌}
+use mathlib.Core.Path.{◌≡◌}
 use mathlib.Core.List.{List, [], ◌∷◌}
 use native.Mathlib.Omega.{arith}
-use lib.ListN.{length, get_or, take, drop}
-use lib.Dec.{leb}
-use borrow.Author.Tests.{leb-false}
+use lib.ListN.{get_or, take, drop}
 use Rattle.octets.specs.Little.{number}
-use Rattle.octets.specs.Slices.{part_of}
-use Rattle.octets.proofs.Lists.{drop-end, part-rest}
-
--- all that is left at a place, past the end too
-pub part-on : (t : List ℕ) (i : ℕ) → part_of t i (length t - i) ≡ drop i t
-unfolding part_of
-part-on t i = by (leb (i + (length t - i)) (length t)) refl
-  where
-    by : (u : Bool) → leb (i + (length t - i)) (length t) ≡ u → cond u (take (length t - i) (drop i t)) [] ≡ drop i t
-    by true e = part-rest t i
-    by false e = let h : length t < i + (length t - i) = leb-false _ _ e in sym (drop-end t i (omega arith))
 
 pub of_two : (t : List ℕ) → number (take 2 t) ≡ get_or t 0 0 + get_or t 1 0 * 256
 unfolding number
@@ -40,3 +26,15 @@ of_four (a ∷ []) = omega arith
 of_four (a ∷ b ∷ []) = omega arith
 of_four (a ∷ b ∷ c ∷ []) = omega arith
 of_four (a ∷ b ∷ c ∷ d ∷ t) = omega arith
+
+pub of_eight : (t : List ℕ) → number (take 8 t) ≡ number (take 4 t) + number (take 4 (drop 4 t)) * 4294967296
+unfolding number
+of_eight [] = omega arith
+of_eight (a ∷ []) = omega arith
+of_eight (a ∷ b ∷ []) = omega arith
+of_eight (a ∷ b ∷ c ∷ []) = omega arith
+of_eight (a ∷ b ∷ c ∷ d ∷ []) = omega arith
+of_eight (a ∷ b ∷ c ∷ d ∷ e ∷ []) = omega arith
+of_eight (a ∷ b ∷ c ∷ d ∷ e ∷ f ∷ []) = omega arith
+of_eight (a ∷ b ∷ c ∷ d ∷ e ∷ f ∷ g ∷ []) = omega arith
+of_eight (a ∷ b ∷ c ∷ d ∷ e ∷ f ∷ g ∷ h ∷ t) = omega arith

@@ -1,14 +1,14 @@
--- The sum that is printed, taken from the last member on.
-use Prim.Native.Nat.{ℕ, suc, ◌+◌, ◌-◌, ◌%◌, ◌≤◌, ◌<◌}
-use mathlib.Core.Path.{◌≡◌}
-use mathlib.Core.List.{List, [], ◌∷◌}
-use native.Mathlib.Omega.{arith}
+-- The sums that are printed, folded from the last member on.
+use Rattle.std.proofs.Common.{ℕ, suc, ◌+◌, ◌*◌, ◌%◌, ◌≡◌, refl, ap, ◌∙◌, List, [], ◌∷◌, arith}
+use Rattle.std.specs.List.{fold}
+use mathlib.Core.List.{reverse}
 use native.Mathlib.Nat.{suc-mul}
-use lib.ListN.{length, get_or, drop}
-use Rattle.octets.proofs.Lists.{drop_at}
-use Rattle.script_parts.specs.Sums.{weighed}
+use Rattle.std.proofs.lemmas.List.{reverse-append}
+use Rattle.std.proofs.lemmas.List.Sums.{fold-append}
+use Rattle.script_parts.specs.declared.sums.Sums.{Sums}
+use Rattle.script_parts.specs.Sums.{weighed, sum_of, in_front}
 
-unfoldable pub plain : List ℕ → ℕ
+unfoldable plain : List ℕ → ℕ
 plain [] = 0
 plain (x ∷ xs) = x + plain xs
 
@@ -18,33 +18,28 @@ unfolding weighed plain
 next_place k [] = omega arith
 next_place k (x ∷ xs) = omega (arith, suc-mul k x, next_place (suc k) xs)
 
--- a member more in front
-weighed-turn : (t : List ℕ) (i : ℕ) → 0 < i → i ≤ length t
-    → weighed 1 (drop (i - 1) t) ≡ weighed 1 (drop i t) + plain (drop (i - 1) t)
+abbrev none : Sums
+none = record { total = 0; tail = 0 }
+
+abbrev both : List ℕ → Sums
+both xs = record { total = weighed 1 xs % 65521; tail = plain xs % 65521 }
+
+front : (x : ℕ) (xs : List ℕ) → in_front (both xs) x ≡ both (x ∷ xs)
 unfolding weighed plain
-weighed-turn t i h k =
-    let e : i - 1 + 1 ≡ i = omega arith in
-    rw (drop_at t (i - 1) (omega arith), e) (omega (arith, next_place 1 (drop i t)))
+front x xs =
+    let tail : (plain xs % 65521 + x) % 65521 ≡ (x + plain xs) % 65521 = omega arith in
+    let total : (weighed 1 xs % 65521 + (plain xs % 65521 + x) % 65521) % 65521 ≡ (1 * x + weighed 2 xs) % 65521
+    = omega (arith, next_place 1 xs) in
+    ap (λ n. record { total = (weighed 1 xs % 65521 + (plain xs % 65521 + x) % 65521) % 65521; tail = n }) tail
+    ∙ ap (λ n. record { total = n; tail = (x + plain xs) % 65521 }) total
 
-plain_turn : (t : List ℕ) (i : ℕ) → 0 < i → i ≤ length t → plain (drop (i - 1) t) ≡ plain (drop i t) + get_or t (i - 1) 0
-unfolding plain
-plain_turn t i h k =
-    let e : i - 1 + 1 ≡ i = omega arith in
-    rw (drop_at t (i - 1) (omega arith), e) (omega arith)
+folded : (xs : List ℕ) → fold in_front none (reverse xs) ≡ both xs
+unfolding weighed plain
+folded [] = refl
+folded (x ∷ xs) =
+    ap (fold in_front none) (reverse-append (x ∷ []) xs) ∙ fold-append in_front none (reverse xs) (x ∷ [])
+    ∙ ap (λ s. in_front s x) (folded xs) ∙ front x xs
 
--- ---- modulo 65521
-more-tail : (p x y : ℕ) → x % 65521 ≡ y % 65521 → (p % 65521 + x) % 65521 ≡ (p + y) % 65521
-more-tail p x y e = omega arith
-
-more-total : (w p : ℕ) → (w % 65521 + p % 65521) % 65521 ≡ (w + p) % 65521
-more-total w p = omega arith
-
--- a turn of the loop: x stands for the member, which may have been reduced
-module _ (t : List ℕ) (i x : ℕ) (h : 0 < i) (k : i ≤ length t) (e : x % 65521 ≡ get_or t (i - 1) 0 % 65521) where
-  pub tail-turn : (tail : ℕ) → tail ≡ plain (drop i t) % 65521 → (tail + x) % 65521 ≡ plain (drop (i - 1) t) % 65521
-  tail-turn tail p = rw (p, plain_turn t i h k) (more-tail (plain (drop i t)) x (get_or t (i - 1) 0) e)
-
-  pub total-turn : (total tail : ℕ) → total ≡ weighed 1 (drop i t) % 65521 → tail ≡ plain (drop i t) % 65521
-      → (total + (tail + x) % 65521) % 65521 ≡ weighed 1 (drop (i - 1) t) % 65521
-  total-turn total tail w p =
-      rw (tail-turn tail p, w, weighed-turn t i h k) (more-total (weighed 1 (drop i t)) (plain (drop (i - 1) t)))
+pub total-folded : (xs : List ℕ) → (fold in_front none (reverse xs)).total ≡ sum_of xs
+unfolding sum_of
+total-folded xs = ap (λ s. s.total) (folded xs)

@@ -1,20 +1,20 @@
-// What the small script programs share: a script's numbers, the line for one that is none, and the sums
-// of buffers.
+// What the small script programs share: reading a script and cutting it, its numbers, the line for one
+// that is none, and the sums of buffers.
 //
-// No function here has a `requires`: any bytes and any places are answered.
+// Any bytes and any places are answered. What is asked of a closure is that it may be called at any
+// script.
 #![tactic(auto)]
 
 mod numbers;
+mod script;
 mod sums;
 
 ghost use Rattle.streams.specs.Streams.{Keeps};
 
-pub use numbers::{byte, four_bytes, rest, three_bytes, two_bytes};
+pub use numbers::{byte, eight_bytes, four_bytes, rest, three_bytes, two_bytes};
+pub use script::{Player, SCRIPT_LIMIT, play, run};
 use streams::Run;
 pub use sums::{list_sum, sum};
-
-// How many bytes a script has at most.
-pub const SCRIPT_LIMIT: usize = 65536;
 
 pub fn bad_script(run: Run) -> Run
     ensures { Keeps run result }

@@ -1,36 +1,38 @@
 // The console's state between the operations of a script, and each operation.
-use crate::script::after;
-use crate::{Calls, lending, line, supplies};
+use crate::calls::Calls;
+use crate::script::claimed_length;
+use crate::{line, operands, supplies};
 use command::{Command, Place};
 use command_writer::framed::FRAME_ROOM;
 use frames::{Framing, Report};
-use octets::size::{least, less};
-use protocol::{Found, Receiver, Reply, Session, Table, Told};
-use script_parts::{byte, two_bytes};
+use protocol::{Answered, Fed, Receiver, Reply, Told};
+use script_parts::{Player, byte, rest, two_bytes};
 use sessions::find::find_session;
 use sessions::places::session_at;
+use std::marker::PhantomData;
 use streams::Run;
 
-// Each buffer is longer than a call needs.
-pub(crate) const CARRY: usize = Framing::TEXT_LIMIT + 64;
-
-pub(crate) const SCRATCH: usize = Command::SCRATCH_ROOM + 64;
-
-pub(crate) const REPLY: usize = Reply::ROOM + 68;
-
-pub(crate) const OUT: usize = FRAME_ROOM + 60;
-
-// The buffers go from hand to hand by value and are lent where a call is made: each function on the way
-// that lends four slices further would cost the prover more than all that it does.
-#[derive(Clone, Copy)]
-pub struct Buffers {
-    pub carry: [u8; CARRY],
-    pub scratch: [u8; SCRATCH],
-    pub reply: [u8; REPLY],
-    pub out: [u8; OUT],
+// How the run stands, the receiver, the buffers with how much of each is lent, the latest feed, and which
+// calls are made.
+#[derive(Drop)]
+pub struct Console<'a, C> {
+    pub run: Run,
+    pub receiver: Receiver,
+    pub buffers: Buffers,
+    pub lent: Lent,
+    pub latest: Latest<'a>,
+    pub calls: PhantomData<C>,
 }
 
-// How many bytes of each buffer are lent, from its start.
+#[derive(Clone, Copy)]
+pub struct Buffers {
+    pub carry: [u8; Buffers::CARRY],
+    pub scratch: [u8; Buffers::SCRATCH],
+    pub reply: [u8; Buffers::REPLY],
+    pub out: [u8; Buffers::OUT],
+}
+
+// How many bytes of each buffer are lent at most.
 #[derive(Clone, Copy)]
 pub struct Lent {
     pub carry: usize,
@@ -39,237 +41,178 @@ pub struct Lent {
     pub out: usize,
 }
 
-// The latest feed: its piece's place in the script, and its report.
+// A feed: its piece, and its report.
 #[derive(Clone, Copy)]
-pub struct Latest {
-    pub piece: Place,
+pub struct Latest<'a> {
+    pub piece: &'a [u8],
     pub report: Report,
 }
 
-// How the run stands, which calls are made, and what the calls so far have left.
-#[derive(Clone, Copy)]
-pub struct Console {
-    pub run: Run,
-    pub calls: Calls,
-    pub receiver: Receiver,
-    pub buffers: Buffers,
-    pub lent: Lent,
-    pub latest: Latest,
-}
-
-// What a call answers: the bytes consumed, what is told, the place of the command's name, the report, and
-// how many bytes were written. Only a feed consumes, reads a command and reports.
+// What is printed of a call: the bytes consumed, what is told, the place of the command's name, and how
+// many bytes were written. Only a feed consumes and reads a command.
 #[derive(Clone, Copy)]
 pub struct Answer {
     pub consumed: usize,
     pub told: Told,
     pub name: Place,
-    pub report: Report,
     pub written: usize,
 }
 
-// What a call leaves.
-#[derive(Clone, Copy)]
-pub struct Called {
-    pub receiver: Receiver,
-    pub buffers: Buffers,
-    pub answer: Answer,
+impl Buffers {
+    // Each buffer is longer than a call needs.
+    const CARRY: usize = Framing::TEXT_LIMIT + 64;
+
+    const SCRATCH: usize = Command::SCRATCH_ROOM + 64;
+
+    const REPLY: usize = Reply::ROOM + 68;
+
+    const OUT: usize = FRAME_ROOM + 60;
 }
 
-// A fresh receiver, every buffer as at first and lent whole, no feed made yet.
-pub(crate) fn fresh(run: Run, calls: Calls) -> Console {
-    Console {
-        run: run,
-        calls: calls,
-        receiver: Receiver::fresh(),
-        buffers: Buffers {
-            carry: [0xA5; CARRY],
-            scratch: [0xA5; SCRATCH],
-            reply: [0xA5; REPLY],
-            out: [0xA5; OUT],
-        },
-        lent: Lent {
-            carry: CARRY,
-            scratch: SCRATCH,
-            reply: REPLY,
-            out: OUT,
-        },
-        latest: Latest {
-            piece: Place::NOWHERE,
-            report: Report::Nothing,
-        },
+impl<'a, C: Calls> Player<'a> for Console<'a, C> {
+    fn claimed_length(operation: &[u8]) -> Option<usize> {
+        claimed_length(operation)
+    }
+
+    fn perform(&mut self, operation: &'a [u8]) -> Option<Run> {
+        match byte(operation, 0) {
+            b'f' => self.feed(rest(operation, 3)),
+            b't' => self.text(),
+            b'y' => self.numbers(operands::id(operation)),
+            b'n' => *self = Console::fresh(self.run),
+            // From now on only the first so many bytes of a buffer are lent.
+            b'c' => self.lent.carry = two_bytes(operation, 1),
+            b's' => self.lent.scratch = two_bytes(operation, 1),
+            b'r' => self.lent.reply = two_bytes(operation, 1),
+            b'o' => self.lent.out = two_bytes(operation, 1),
+            b'l' | b'g' | b'h' | b'p' | b'z' => self.supply(operation),
+            _ => self.call(operation),
+        }
+        Some(self.run)
     }
 }
 
-// The operation of n bytes at a place of the script.
-pub(crate) fn perform(console: Console, bytes: &[u8], at: usize, n: usize) -> Console {
-    let operation = octets::part(bytes, at, n);
-    let letter = byte(operation, 0);
-    let run = console.run;
-    let calls = console.calls;
-    match letter {
-        b'n' => fresh(run, calls),
-        b'c' | b's' | b'r' | b'o' => lend(console, letter, two_bytes(operation, 1)),
-        b't' | b'y' => print(console, letter, bytes, operation),
-        b'f' => feed(console, bytes, after(at, 3), less(n, 3)),
-        b'l' | b'g' | b'h' | b'p' | b'z' => supply(console, letter, operation),
-        _ => call(console, letter, operation),
+impl<'a, C: Calls> Console<'a, C> {
+    // A fresh receiver, every buffer as at first and lent whole, no feed made yet.
+    pub(crate) fn fresh(run: Run) -> Console<'a, C> {
+        Console {
+            run,
+            receiver: Receiver::fresh(),
+            buffers: Buffers {
+                carry: [0xA5; Buffers::CARRY],
+                scratch: [0xA5; Buffers::SCRATCH],
+                reply: [0xA5; Buffers::REPLY],
+                out: [0xA5; Buffers::OUT],
+            },
+            lent: Lent {
+                carry: Buffers::CARRY,
+                scratch: Buffers::SCRATCH,
+                reply: Buffers::REPLY,
+                out: Buffers::OUT,
+            },
+            latest: Latest {
+                piece: b"",
+                report: Report::Nothing,
+            },
+            calls: PhantomData,
+        }
+    }
+
+    // ---- Calls.
+    // One feed of the piece, that is lent the first bytes of each buffer.
+    fn feed(&mut self, piece: &'a [u8]) {
+        let carry = self.lent.carry.min(Buffers::CARRY);
+        let scratch = self.lent.scratch.min(Buffers::SCRATCH);
+        let reply = self.lent.reply.min(Buffers::REPLY);
+        // Fields lent at once are those of a variable: the check does not cover them behind a reference.
+        let mut buffers = self.buffers;
+        let fed = C::feed(
+            self.receiver,
+            piece,
+            &mut buffers.carry[..carry],
+            &mut buffers.scratch[..scratch],
+            &mut buffers.reply[..reply],
+        );
+        self.buffers = buffers;
+        self.receiver = fed.receiver;
+        self.latest = Latest {
+            piece,
+            report: fed.report,
+        };
+        self.run = line::replied(self.run, b'f', answer_to_feed(fed), &self.buffers);
+    }
+
+    // List, list_failed, home, part or last_part.
+    fn supply(&mut self, operation: &[u8]) {
+        let out = self.lent.out.min(Buffers::OUT);
+        let answered = C::supply(
+            self.receiver,
+            supplies::supplying_of(operation),
+            supplies::text_of(operation),
+            supplies::contents_of(operation),
+            &mut self.buffers.out[..out],
+        );
+        self.receiver = answered.receiver;
+        let letter = byte(operation, 0);
+        self.run = line::supplied(self.run, letter, answer_of(answered), &self.buffers);
+    }
+
+    // Allow, deny, drop, done, failed or unlisted.
+    fn call(&mut self, operation: &[u8]) {
+        let reply = self.lent.reply.min(Buffers::REPLY);
+        let answered = C::answer(
+            self.receiver,
+            operands::call(operation),
+            operands::id(operation),
+            &mut self.buffers.reply[..reply],
+        );
+        self.receiver = answered.receiver;
+        let letter = byte(operation, 0);
+        self.run = line::replied(self.run, letter, answer_of(answered), &self.buffers);
+    }
+
+    // ---- What is printed without a call.
+    // The text of the latest feed's report, given that feed's piece and the carry as lent now.
+    fn text(&mut self) {
+        let lent = &self.buffers.carry[..self.lent.carry.min(Buffers::CARRY)];
+        self.run = line::text(
+            self.run,
+            frames::text(self.latest.piece, lent, self.latest.report),
+        );
+    }
+
+    // The numbers kept in the session with this id.
+    fn numbers(&mut self, id: &[u8]) {
+        let table = self.receiver.table;
+        self.run = match find_session(table, id) {
+            None => line::no_numbers(self.run),
+            Some(i) => {
+                let session = session_at(table, i);
+                line::numbers(
+                    self.run,
+                    session.started as usize,
+                    session.done_bytes as usize,
+                )
+            }
+        };
     }
 }
 
-// ---- Calls.
-// One feed of the script's piece at a place.
-fn feed(console: Console, bytes: &[u8], start: usize, len: usize) -> Console {
-    let run = console.run;
-    let calls = console.calls;
-    let receiver = console.receiver;
-    let buffers = console.buffers;
-    let lent = console.lent;
-    let piece = octets::part(bytes, start, len);
-    let called = lending::feed(calls, receiver, buffers, lent, piece);
-    let answer = called.answer;
-    let after = called.buffers;
-    let report = answer.report;
-    let latest = Latest {
-        piece: Place {
-            start: start,
-            len: len,
-        },
-        report: report,
-    };
-    next(
-        console,
-        called,
-        latest,
-        line::replied(run, b'f', answer, after),
-    )
-}
-
-// Allow, deny, drop, done, failed or unlisted, which print alike.
-fn call(console: Console, letter: u8, operation: &[u8]) -> Console {
-    let run = console.run;
-    let calls = console.calls;
-    let receiver = console.receiver;
-    let buffers = console.buffers;
-    let lent = console.lent;
-    let latest = console.latest;
-    let called = lending::answer(calls, receiver, buffers, lent.reply, operation);
-    let answer = called.answer;
-    let after = called.buffers;
-    next(
-        console,
-        called,
-        latest,
-        line::replied(run, letter, answer, after),
-    )
-}
-
-// List, list_failed, home, part or last_part, which print alike.
-fn supply(console: Console, letter: u8, operation: &[u8]) -> Console {
-    let run = console.run;
-    let calls = console.calls;
-    let receiver = console.receiver;
-    let buffers = console.buffers;
-    let lent = console.lent;
-    let latest = console.latest;
-    let called = supplies::supply(calls, receiver, buffers, lent.out, operation);
-    let answer = called.answer;
-    let after = called.buffers;
-    next(
-        console,
-        called,
-        latest,
-        line::supplied(run, letter, answer, after),
-    )
-}
-
-// The console after a call whose line is printed.
-fn next(console: Console, called: Called, latest: Latest, run: Run) -> Console {
-    let receiver = called.receiver;
-    let buffers = called.buffers;
-    Console {
-        run: run,
-        receiver: receiver,
-        buffers: buffers,
-        latest: latest,
-        ..console
+fn answer_to_feed(fed: Fed) -> Answer {
+    Answer {
+        consumed: fed.consumed,
+        told: fed.told,
+        name: fed.command.name,
+        written: fed.reply_len,
     }
 }
 
-// ---- What is printed without a call.
-fn print(console: Console, letter: u8, bytes: &[u8], operation: &[u8]) -> Console {
-    let run = console.run;
-    let receiver = console.receiver;
-    let table = receiver.table;
-    let printed = match letter {
-        b't' => text(console, bytes),
-        _ => numbers(run, table, id_of(operation)),
-    };
-    Console {
-        run: printed,
-        ..console
-    }
-}
-
-// The text of the latest feed's report, given that feed's piece and the carry as lent now.
-fn text(console: Console, bytes: &[u8]) -> Run {
-    let run = console.run;
-    let latest = console.latest;
-    let report = latest.report;
-    let place = latest.piece;
-    let piece = octets::part(bytes, place.start, place.len);
-    let buffers = console.buffers;
-    let carry = buffers.carry;
-    let lent = console.lent;
-    line::text(
-        run,
-        frames::text(piece, octets::part(&carry, 0, lent.carry), report),
-    )
-}
-
-// The numbers kept in the session with this id.
-fn numbers(run: Run, table: Table, id: &[u8]) -> Run {
-    match find_session(table, id) {
-        Found::Nowhere => line::no_numbers(run),
-        Found::At(i) => numbers_of(run, session_at(table, i)),
-    }
-}
-
-fn numbers_of(run: Run, session: Session) -> Run {
-    line::numbers(run, session.started as usize, session.done_bytes as usize)
-}
-
-// The id of an operation that has nothing else.
-pub(crate) fn id_of(operation: &[u8]) -> &[u8] {
-    octets::part(operation, 2, less(operation.len(), 2))
-}
-
-// ---- From now on only the first n bytes of a buffer are lent.
-fn lend(console: Console, letter: u8, n: usize) -> Console {
-    let lent = console.lent;
-    Console {
-        lent: lent_anew(lent, letter, n),
-        ..console
-    }
-}
-
-fn lent_anew(lent: Lent, letter: u8, n: usize) -> Lent {
-    match letter {
-        b'c' => Lent {
-            carry: least(n, CARRY),
-            ..lent
-        },
-        b's' => Lent {
-            scratch: least(n, SCRATCH),
-            ..lent
-        },
-        b'r' => Lent {
-            reply: least(n, REPLY),
-            ..lent
-        },
-        _ => Lent {
-            out: least(n, OUT),
-            ..lent
-        },
+// A call that is no feed consumes nothing and reads no command.
+fn answer_of(answered: Answered) -> Answer {
+    Answer {
+        consumed: 0,
+        told: answered.told,
+        name: Place::NOWHERE,
+        written: answered.reply_len,
     }
 }

@@ -2,53 +2,23 @@
 // every answer and what became of every lent buffer.
 #![tactic(auto)]
 
-mod answers;
+mod calls;
 mod console;
-mod lending;
 mod line;
 mod operands;
 mod script;
 mod supplies;
 
-use script_parts::{SCRIPT_LIMIT, bad_script};
-use std::io::Stdout;
-use streams::{Got, Run};
+pub use calls::{ByValue, Calls, InPlace};
+use console::Console;
+use streams::Run;
 
-// Which calls are made: on a receiver that is taken and given by value, or on one that is lent and
-// changed in place.
-#[derive(Clone, Copy)]
-pub enum Calls {
-    ByValue,
-    InPlace,
+// Plays the script on standard input.
+pub fn run<C: Calls>(rt: &HostRuntime, program: &[u8]) {
+    script_parts::run(rt, program, |run, script| play::<C>(run, script));
 }
 
-// Plays the script on standard input. One byte more is read, so that a longer script is seen.
-pub fn run(rt: &HostRuntime, calls: Calls) -> Run {
-    let mut bytes = [0u8; SCRIPT_LIMIT + 1];
-    match streams::read_all(rt.stdin(), &mut bytes) {
-        Got::Bytes(n) => play(rt.stdout(), calls, &bytes[..n]),
-        Got::Failed => Run::NotRead,
-    }
-}
-
-// Makes the script's calls one after another, until something fails.
-fn play(out: Stdout, calls: Calls, bytes: &[u8]) -> Run {
-    if bytes.len() > SCRIPT_LIMIT {
-        return bad_script(Run::Well(out));
-    }
-    let mut state = console::fresh(Run::Well(out), calls);
-    let mut at = 0;
-    while at < bytes.len() {
-        let run = state.run;
-        if !run.is_well() {
-            break;
-        }
-        let n = script::operation_length(bytes, at);
-        if n == 0 {
-            return bad_script(run);
-        }
-        state = console::perform(state, bytes, at, n);
-        at += n;
-    }
-    state.run
+// Makes the script's calls on one receiver.
+fn play<C: Calls>(run: Run, script: &[u8]) -> Run {
+    script_parts::play(run, script, Console::<C>::fresh(run))
 }

@@ -1,29 +1,65 @@
-// The operands of what is supplied. A string is its length, in one byte or in two, and its bytes. Places
-// are counted from the operation's letter.
-use crate::script::{after, is_code, wide};
+// The operands of an operation. A string is its length, in one byte or in two, and its bytes. Places are
+// counted from the operation's letter; none of them comes near the greatest number.
 use command::{FileType, Place};
 use decimal::Number;
-use protocol::Entry;
-use script_parts::{byte, four_bytes, two_bytes};
+use protocol::{Entry, Failure};
+use receiver_in_place::Call;
+use script_parts::{byte, eight_bytes, rest, two_bytes};
+
+// ---- A call: the id of an operation that has nothing else, or a code.
+pub(crate) fn id(s: &[u8]) -> &[u8] {
+    rest(s, 2)
+}
+
+// The call that an operation's letter stands for.
+pub(crate) fn call(s: &[u8]) -> Call {
+    match byte(s, 0) {
+        b'a' => Call::Allow,
+        b'd' => Call::Deny,
+        b'x' => Call::Drop,
+        b'k' => Call::Done,
+        b'u' => Call::Unlisted,
+        _ => Call::Failed(failure(byte(s, 1))),
+    }
+}
+
+pub(crate) fn failure(code: u8) -> Failure {
+    match code {
+        1 => Failure::Eperm,
+        2 => Failure::Eio,
+        3 => Failure::Enoent,
+        _ => Failure::Enospc,
+    }
+}
+
+fn is_code(b: u8) -> bool {
+    matches!(b, 1..=4)
+}
+
+pub(crate) fn code_length(s: &[u8]) -> Option<usize> {
+    if is_code(byte(s, 1)) { Some(2) } else { None }
+}
+
+// ---- Strings.
 
 // A string whose length is one byte: an id.
 fn id_at(s: &[u8], at: usize) -> Place {
     Place {
-        start: after(at, 1),
-        len: wide(byte(s, at)),
+        start: at.saturating_add(1),
+        len: usize::from(byte(s, at)),
     }
 }
 
 // A string whose length is two bytes.
 fn string_at(s: &[u8], at: usize) -> Place {
     Place {
-        start: after(at, 2),
+        start: at.saturating_add(2),
         len: two_bytes(s, at),
     }
 }
 
 fn end(place: Place) -> usize {
-    after(place.start, place.len)
+    place.start.saturating_add(place.len)
 }
 
 // ---- A file of the listing: its type, three integers, three ids, and three more strings.
@@ -38,21 +74,20 @@ pub(crate) fn entry(s: &[u8]) -> Entry {
         modified: integer(s, 2),
         permissions: integer(s, 10),
         size: integer(s, 18),
-        id: id,
-        path_id: path_id,
-        parent: parent,
-        name: name,
-        own_id: own_id,
+        id,
+        path_id,
+        parent,
+        name,
+        own_id,
         target: string_at(s, end(own_id)),
     }
 }
 
-pub(crate) fn entry_length(s: &[u8]) -> usize {
+pub(crate) fn entry_length(s: &[u8]) -> Option<usize> {
     if byte(s, 1) <= 3 {
-        let entry = entry(s);
-        end(entry.target)
+        Some(end(entry(s).target))
     } else {
-        0
+        None
     }
 }
 
@@ -65,24 +100,12 @@ fn file_type(code: u8) -> FileType {
     }
 }
 
-// Eight bytes, the lowest first, in two's complement.
+// Eight bytes in two's complement.
 fn integer(s: &[u8], at: usize) -> Number {
-    signed(four_bytes(s, at), four_bytes(s, after(at, 4)))
-}
-
-// The integer of two halves. The least one has the magnitude 2^63.
-fn signed(low: usize, high: usize) -> Number {
-    let n = (low % 4294967296) + (high % 4294967296) * 4294967296;
-    if n <= 9223372036854775807 {
-        Number {
-            negative: false,
-            magnitude: n as u64,
-        }
-    } else {
-        Number {
-            negative: true,
-            magnitude: (18446744073709551615 - n) as u64 + 1,
-        }
+    let n = eight_bytes(s, at).cast_signed();
+    Number {
+        negative: n < 0,
+        magnitude: n.unsigned_abs(),
     }
 }
 
@@ -99,11 +122,11 @@ pub(crate) fn code(s: &[u8]) -> u8 {
     byte(s, end(path_id(s)))
 }
 
-pub(crate) fn failure_length(s: &[u8]) -> usize {
+pub(crate) fn failure_length(s: &[u8]) -> Option<usize> {
     if is_code(code(s)) {
-        after(end(path_id(s)), 1)
+        Some(end(path_id(s)).saturating_add(1))
     } else {
-        0
+        None
     }
 }
 

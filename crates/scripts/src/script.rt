@@ -1,55 +1,19 @@
-// A script: operations one after another, each a letter and its operands.
-ghost use Rattle.std.specs.Prelude.{◌-◌, ◌≤◌, length};
-
+// The operations of a script, each a letter and its operands.
 use crate::operands;
-use script_parts::{byte, rest, two_bytes};
+use script_parts::{byte, two_bytes};
 
-// The length of the operation at a place, with its operands, and 0 where there is none.
-pub(crate) fn operation_length(bytes: &[u8], at: usize) -> usize
-    ensures { result ≤ length bytes.now - at }
-{
-    let n = claimed_length(rest(bytes, at));
-    if octets::fits(at, n, bytes.len()) {
-        n
-    } else {
-        0
+// How long an operation is by its letter and its own operands; none for a letter that begins none, and
+// for operands that are none.
+pub(crate) fn claimed_length(operation: &[u8]) -> Option<usize> {
+    match byte(operation, 0) {
+        b'k' | b'u' | b't' | b'n' => Some(1),
+        b'c' | b's' | b'r' | b'o' => Some(3),
+        b'a' | b'd' | b'x' | b'y' => Some(2 + usize::from(byte(operation, 1))),
+        b'f' | b'p' | b'z' => Some(3 + two_bytes(operation, 1)),
+        b'e' => operands::code_length(operation),
+        b'l' => operands::entry_length(operation),
+        b'g' => operands::failure_length(operation),
+        b'h' => Some(operands::home_length(operation)),
+        _ => None,
     }
-}
-
-// How long the operation that some bytes begin with is, by its letter and its own operands.
-fn claimed_length(s: &[u8]) -> usize {
-    let letter = byte(s, 0);
-    match letter {
-        b'k' | b'u' | b't' | b'n' => 1,
-        b'c' | b's' | b'r' | b'o' => 3,
-        b'a' | b'd' | b'x' | b'y' => 2 + wide(byte(s, 1)),
-        b'f' | b'p' | b'z' => 3 + two_bytes(s, 1),
-        b'e' => if is_code(byte(s, 1)) { 2 } else { 0 },
-        b'l' => operands::entry_length(s),
-        b'g' => operands::failure_length(s),
-        b'h' => operands::home_length(s),
-        _ => 0,
-    }
-}
-
-pub(crate) fn is_code(b: u8) -> bool {
-    if b < 1 {
-        return false;
-    }
-    b <= 4
-}
-
-// The place k after another, or that other where there is none.
-pub(crate) fn after(at: usize, k: usize) -> usize {
-    if k <= 18446744073709551615 - at {
-        at + k
-    } else {
-        at
-    }
-}
-
-pub(crate) fn wide(b: u8) -> usize
-    ensures { result ≤ 255 }
-{
-    b as usize
 }

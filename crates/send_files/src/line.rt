@@ -1,44 +1,83 @@
 // The replies, from standard input.
 use crate::course::Course;
-use crate::{course, news, notes, report};
+use crate::notes::Said;
+use crate::{news, report};
 use command::Command;
-use octets::size::less;
-use sender_status::files::file_at;
+use frames::Framing;
 use sending::News;
-use streams::{Got, Run};
+use streams::Run;
 
-// Reads until the latest command is answered or the session is over. A proved loop has to end, and nothing
-// says that an answer comes: so it counts its turns down, from a number that no run uses up.
-pub(crate) fn wait(rt: &HostRuntime, course: Course, input: &mut [u8], carry: &mut [u8]) -> Course {
-    let mut next = course;
-    let mut turns = u64::MAX;
-    while turns > 0 {
-        if !course::is_waiting(next) {
-            break;
+// What was read, of which the bytes from `at` to `end` are not yet heard, and the carry that hears are lent.
+#[derive(Drop)]
+pub struct Line {
+    input: [u8; 4096],
+    at: usize,
+    end: usize,
+    carry: [u8; Framing::TEXT_LIMIT],
+}
+
+impl Line {
+    pub(crate) fn fresh() -> Line {
+        Line {
+            input: [0; 4096],
+            at: 0,
+            end: 0,
+            carry: [0; Framing::TEXT_LIMIT],
         }
-        next = turn(rt, next, input, carry);
-        turns -= 1;
     }
-    next
+
+    // Reads until the latest command is answered or the session is over. A proved loop has to end, and nothing
+    // says that an answer comes: so its turns are counted, up to a number that no run uses up.
+    pub(crate) fn wait(&mut self, rt: &HostRuntime, course: Course) -> Course {
+        let mut next = course;
+        for _ in 0..u64::MAX {
+            if !next.is_waiting() {
+                break;
+            }
+            next = self.turn(rt, next);
+        }
+        next
+    }
+
+    // What was read is heard, one text at a time, before more is read: the next command's answer may stand
+    // behind this one's.
+    fn turn(&mut self, rt: &HostRuntime, course: Course) -> Course {
+        if self.at < self.end {
+            return self.hear(rt, course);
+        }
+        self.at = 0;
+        self.end = read(rt, &mut self.input);
+        Course {
+            is_going: self.end > 0,
+            ..course
+        }
+    }
+
+    // What of a piece is not consumed stands at its end.
+    fn hear(&mut self, rt: &HostRuntime, course: Course) -> Course {
+        let piece = octets::part(&self.input, self.at, self.end.saturating_sub(self.at));
+        let mut scratch = [0u8; Command::SCRATCH_ROOM];
+        let heard = sender::hear(course.sender, piece, &mut self.carry, &mut scratch);
+        if heard.consumed == 0 {
+            report::ended(rt, Run::Stuck);
+            return Course {
+                is_going: false,
+                ..course
+            };
+        }
+        let left = piece.len().saturating_sub(heard.consumed);
+        self.at = self.end.saturating_sub(left);
+        let next = Course {
+            sender: heard.sender,
+            ..course
+        };
+        heed(rt, next, heard.news, &scratch)
+    }
 }
 
-// What was read is heard, one text at a time, before more is read: the next command's answer may stand
-// behind this one's.
-fn turn(rt: &HostRuntime, course: Course, input: &mut [u8], carry: &mut [u8]) -> Course {
-    if course.at < course.end {
-        return hear(rt, course, input, carry);
-    }
-    let n = read(rt, input);
-    let mut next = course;
-    next.at = 0;
-    next.end = n;
-    next.is_going = n > 0;
-    next
-}
-
-// How many bytes were read, and 0 where the line ended, which is said.
+// How many bytes were read, and 0 where the line ended or was not read, which is said.
 fn read(rt: &HostRuntime, input: &mut [u8]) -> usize {
-    let Got::Bytes(n) = streams::read(rt.stdin(), input) else {
+    let Some(n) = streams::read(rt.stdin(), input) else {
         report::ended(rt, Run::NotRead);
         return 0;
     };
@@ -48,39 +87,14 @@ fn read(rt: &HostRuntime, input: &mut [u8]) -> usize {
     n
 }
 
-// What of a piece is not consumed stands at its end.
-fn hear(rt: &HostRuntime, course: Course, input: &[u8], carry: &mut [u8]) -> Course {
-    let sender = course.sender;
-    let at = course.at;
-    let piece = octets::part(input, at, less(course.end, at));
-    let mut scratch = [0u8; Command::SCRATCH_ROOM];
-    let heard = sender::hear(sender, piece, carry, &mut scratch);
-    let after = heard.sender;
-    let news = heard.news;
-    let mut next = course;
-    if heard.consumed == 0 {
-        report::ended(rt, Run::Stuck);
-        next.is_going = false;
-        return next;
-    }
-    next.sender = after;
-    next.at = less(course.end, less(piece.len(), heard.consumed));
-    heed(rt, next, news, &scratch)
-}
-
 // What is told is said, where it is bad news, and noted.
 fn heed(rt: &HostRuntime, course: Course, news: News, scratch: &[u8]) -> Course {
-    let sender = course.sender;
-    let transfer = sender.transfer;
-    let notes = course.notes;
-    let i = news::place(news);
-    let file = file_at(transfer, i);
-    news::tell(rt, news, file.sent, notes::number_at(notes, i), scratch);
+    news::tell(rt, course, news, scratch);
     let mut next = course;
-    next.notes = notes::said(notes, i, false);
-    if news::is_answer(news) {
-        next.is_answered = true;
+    if let Some(i) = news::place(news) {
+        next.notes = course.notes.said(i, Said::Other);
     }
+    next.is_answered = course.is_answered || news::is_answer(news);
     next.is_going = !news::is_stop(news);
     next
 }

@@ -15,14 +15,12 @@ mod report;
 mod source;
 
 fn main(rt: HostRuntime) {
-    let files = arguments::files(streams::argument_count(&rt));
-    if files > 0 {
-        office::run(&rt, files);
-    } else {
-        report::plain(
+    match arguments::files(streams::argument_count(&rt)) {
+        Some(files) => office::run(&rt, files),
+        None => report::plain(
             &rt,
             b"usage: send_files SESSION LOCAL NAME [LOCAL NAME]..",
-            report::NO_FILE,
-        );
+            None,
+        ),
     }
 }

@@ -1,23 +1,20 @@
 // The lines on standard error. A terminal shows also how far the current file is, in one line that is
-// written over. It may be in raw mode, in which a line's end does not return to its start. A failed write
-// to standard error can be said nowhere.
+// written over.
 use crate::arguments;
+use crate::arguments::Argument;
 use command::letters;
 use command::letters::Class;
 use decimal::Number;
 use std::io::{IsTerminal, Stderr};
-use streams::{Run, say, say_number};
+use streams::{Run, say, say_end, say_number};
 
-// In the place of a file's number: a line of the session.
-pub(crate) const NO_FILE: usize = 18446744073709551615;
-
-// ---- Lines. A file is named by its number among the arguments.
-pub(crate) fn plain(rt: &HostRuntime, word: &[u8], file: usize) {
+// ---- Lines, of a file by its number among the arguments, or of the session.
+pub(crate) fn plain(rt: &HostRuntime, word: &[u8], file: Option<usize>) {
     start(rt.stderr(), word);
     end(rt, file, true);
 }
 
-pub(crate) fn counted(rt: &HostRuntime, word: &[u8], n: u64, file: usize) {
+pub(crate) fn counted(rt: &HostRuntime, word: &[u8], n: u64, file: Option<usize>) {
     start(rt.stderr(), word);
     say_number(rt.stderr(), n);
     end(rt, file, true);
@@ -25,7 +22,7 @@ pub(crate) fn counted(rt: &HostRuntime, word: &[u8], n: u64, file: usize) {
 
 // A status that stops. It is the console's text, and is shown up to a byte that a terminal might take for
 // a command. Where that leaves nothing, `-` is shown.
-pub(crate) fn stopped(rt: &HostRuntime, status: &[u8], file: usize) {
+pub(crate) fn stopped(rt: &HostRuntime, status: &[u8], file: Option<usize>) {
     let err = rt.stderr();
     let n = letters::pass(Class::Text, status, 0);
     start(err, b"stopped ");
@@ -36,14 +33,13 @@ pub(crate) fn stopped(rt: &HostRuntime, status: &[u8], file: usize) {
     end(rt, file, true);
 }
 
-pub(crate) fn differs(rt: &HostRuntime, sent: u64, size: Number, file: usize) {
+pub(crate) fn differs(rt: &HostRuntime, sent: u64, size: Number, file: Option<usize>) {
     let err = rt.stderr();
     start(err, b"differs ");
     say_number(err, sent);
+    say(err, b" ");
     if size.negative {
-        say(err, b" -");
-    } else {
-        say(err, b" ");
+        say(err, b"-");
     }
     say_number(err, size.magnitude);
     end(rt, file, true);
@@ -56,17 +52,17 @@ pub(crate) fn last(rt: &HostRuntime, whole: usize, files: usize) {
     say(err, b" of ");
     say_number(err, files as u64);
     say(err, b" files whole");
-    end(rt, NO_FILE, true);
+    end(rt, None, true);
 }
 
 // The line ended, or a read or a write of it failed: nothing more is written.
 pub(crate) fn ended(rt: &HostRuntime, run: Run) {
     run.end(rt.stderr(), b"send_files");
-    plain(rt, b"line ended", NO_FILE);
+    plain(rt, b"line ended", None);
 }
 
 // The line that is written over, on a terminal alone. A size of 0 is one that is not known.
-pub(crate) fn progress(rt: &HostRuntime, sent: u64, size: u64, file: usize) {
+pub(crate) fn progress(rt: &HostRuntime, sent: u64, size: u64, file: Option<usize>) {
     let err = rt.stderr();
     if !err.is_terminal() {
         return;
@@ -90,19 +86,15 @@ fn start(err: Stderr, word: &[u8]) {
 }
 
 // The file's local path, and the line's end where it is not written over.
-fn end(rt: &HostRuntime, file: usize, is_kept: bool) {
+fn end(rt: &HostRuntime, file: Option<usize>, is_kept: bool) {
     let err = rt.stderr();
-    if file != NO_FILE {
+    if let Some(k) = file {
         let mut path = [0u8; 4096];
-        let n = arguments::read(rt, file, arguments::LOCAL, &mut path);
+        let n = arguments::read(rt, Argument::Local(k), &mut path);
         say(err, b" ");
         say(err, octets::part(&path, 0, n));
     }
-    if !is_kept {
-        return;
+    if is_kept {
+        say_end(err);
     }
-    if err.is_terminal() {
-        say(err, b"\r");
-    }
-    say(err, b"\n");
 }

@@ -1,32 +1,26 @@
 // A local file.
 use std::fs::File;
-use std::io;
 use std::io::{Seek, SeekFrom};
-use streams::Got;
 
-// A file's size and how many bytes its first piece has; or that it cannot be read.
+// A file that can be read: its size, which is 0 where it cannot be told, and how many bytes its first piece has.
 #[derive(Clone, Copy)]
-pub enum Start {
-    Read(u64, usize),
-    Unread,
+pub struct Start {
+    pub size: u64,
+    pub piece: usize,
 }
 
-// Takes the size, and reads the first piece. A file that has places is read from its start again; another,
-// as a pipe, is read as it comes.
-pub(crate) fn begin(file: &mut File, piece: &mut [u8]) -> Start {
+// Takes the size, and reads the first piece; None where the file cannot be read. A file that has places is
+// read from its start again; another, as a pipe, is read as it comes.
+pub(crate) fn begin(file: &mut File, piece: &mut [u8]) -> Option<Start> {
     let end = file.seek(SeekFrom::End(0));
     if end.is_ok() {
         let Ok(0) = file.seek(SeekFrom::Start(0)) else {
-            return Start::Unread;
+            return None;
         };
     }
-    match streams::read_all_from(file, piece) {
-        Got::Bytes(n) => Start::Read(size(end), n),
-        Got::Failed => Start::Unread,
-    }
-}
-
-// The size is where the end is, and 0 where that cannot be told.
-fn size(end: io::Result<u64>) -> u64 {
-    end.unwrap_or(0)
+    let n = streams::read_all_from(file, piece)?;
+    Some(Start {
+        size: end.unwrap_or(0),
+        piece: n,
+    })
 }

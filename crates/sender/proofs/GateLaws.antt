@@ -1,5 +1,6 @@
 -- What the definitions of the calls that write open to, as equations: the refusals before the writer's, and a command in its frame.
 use Prim.Native.Nat.{ℕ}
+use Rattle.std.specs.Prelude.{Some, None}
 use mathlib.Core.Path.{◌≡◌, refl}
 use mathlib.Core.Bool.{Bool, cond}
 use mathlib.Core.List.{List}
@@ -14,7 +15,8 @@ use Rattle.sending.specs.declared.Sender.{Sender}
 use Rattle.sending.specs.declared.Wrote.{Wrote}
 use Rattle.sender.specs.Gates.{gate_of}
 
-pub gate-is : (room : ℕ) (over ready : Bool) → gate_of room over ready ≡ cond (ltb room frame_room) 9 (cond over 17 (cond ready 0 18))
+pub gate-is : (room : ℕ) (over ready : Bool) → gate_of room over ready
+    ≡ cond (ltb room frame_room) (Some 9) (cond over (Some 17) (cond ready None (Some 18)))
 unfolding gate_of
 gate-is room over ready = refl
 

@@ -6,24 +6,25 @@ ghost use Rattle.command.specs.Write.{answered};
 ghost use Rattle.sending.specs.Calls.{unwritten, wrote_by, unheard, listened_by};
 ghost use Rattle.sender.specs.Gates.{gate_of};
 
-use command::{Command, Written};
+use command::{Command, Refusal};
 use command_writer::framed::FRAME_ROOM;
 use frames::{Framing, Report, Scanned};
-use sending::{Heeded, Listened, News, Sender, Transfer, Writing, Wrote};
+use protocol::refusals::{OUT_OF_TURN, OVER_LIMIT, SHORT_BUFFER};
+use sending::{Heeded, Listened, News, Sender, Transfer, Wrote};
 
-// The refusal of a call that writes, before the writer's, and 0 for none: 9 of a short buffer, 17 of what
-// is over a limit, 18 of an unready call.
+// The refusal of a call that writes, before the writer's: 9 of a short buffer, 17 of what is over a limit,
+// 18 of an unready call.
 #[tactic(auto, unfolding(crate::specs::Gates::gate_of))]
-pub(crate) fn gate(len: usize, over: bool, ready: bool) -> u8
+pub(crate) fn gate(len: usize, over: bool, ready: bool) -> Option<u8>
     ensures { result ≡ gate_of len over ready }
 {
     if len < FRAME_ROOM {
-        return 9;
+        return Some(SHORT_BUFFER);
     }
     if over {
-        return 17;
+        return Some(OVER_LIMIT);
     }
-    if ready { 0 } else { 18 }
+    if ready { None } else { Some(OUT_OF_TURN) }
 }
 
 // Nothing is written and nothing changed.
@@ -31,24 +32,24 @@ pub(crate) fn refused(sender: Sender, number: u8) -> Wrote
     ensures { result ≡ unwritten sender number }
 {
     Wrote {
-        sender: sender,
-        writing: Writing::Refused(number),
+        sender,
+        writing: Err(number),
     }
 }
 
 // What the writer answered: the session goes on, or nothing is changed.
-pub(crate) fn wrote(sender: Sender, next: Transfer, written: Written) -> Wrote
+pub(crate) fn wrote(sender: Sender, next: Transfer, written: Result<usize, Refusal>) -> Wrote
     ensures { result ≡ wrote_by sender next (answered written) }
 {
     match written {
-        Written::Length(n) => Wrote {
+        Ok(n) => Wrote {
             sender: Sender {
                 transfer: next,
                 ..sender
             },
-            writing: Writing::Written(n),
+            writing: Ok(n),
         },
-        Written::Refused(refusal) => refused(sender, refusal.number()),
+        Err(refusal) => refused(sender, refusal.number()),
     }
 }
 
@@ -56,10 +57,7 @@ pub(crate) fn wrote(sender: Sender, next: Transfer, written: Written) -> Wrote
 pub(crate) fn is_short(carry: usize, scratch: usize) -> bool
     ensures { result ≡ (ltb carry text_limit || ltb scratch scratch_room) }
 {
-    if carry < Framing::TEXT_LIMIT {
-        return true;
-    }
-    scratch < Command::SCRATCH_ROOM
+    carry < Framing::TEXT_LIMIT || scratch < Command::SCRATCH_ROOM
 }
 
 // A hear that consumes nothing and changes nothing.
@@ -67,7 +65,7 @@ pub(crate) fn unheard(sender: Sender, number: u8) -> Listened
     ensures { result ≡ unheard sender number }
 {
     Listened {
-        sender: sender,
+        sender,
         consumed: 0,
         report: Report::Nothing,
         news: News::Refused(number),
@@ -78,17 +76,13 @@ pub(crate) fn unheard(sender: Sender, number: u8) -> Listened
 pub(crate) fn listened(scanned: Scanned, heeded: Heeded) -> Listened
     ensures { result ≡ listened_by scanned heeded }
 {
-    let framing = scanned.framing;
-    let report = scanned.report;
-    let transfer = heeded.transfer;
-    let news = heeded.news;
     Listened {
         sender: Sender {
-            framing: framing,
-            transfer: transfer,
+            framing: scanned.framing,
+            transfer: heeded.transfer,
         },
         consumed: scanned.consumed,
-        report: report,
-        news: news,
+        report: scanned.report,
+        news: heeded.news,
     }
 }

@@ -1,10 +1,8 @@
 // The current file, and whether a file is ready.
 ghost use Rattle.std.specs.Prelude.{◌≡◌};
 ghost use Rattle.sending.specs.Transfers.{current_file};
-ghost use Rattle.sending.specs.Calls.{is_found, is_taken, is_idle, is_busy};
+ghost use Rattle.sending.specs.Calls.{is_taken, is_idle, is_busy};
 
-use octets::size::less;
-use protocol::Found;
 use sender_status::files::{file_at, find_file};
 use sender_status::stages::{is_open, is_sending};
 use sending::{SentFile, Transfer};
@@ -13,50 +11,26 @@ use sending::{SentFile, Transfer};
 pub(crate) fn current_file(transfer: Transfer) -> SentFile
     ensures { result ≡ current_file transfer }
 {
-    file_at(transfer, less(transfer.count, 1))
+    file_at(transfer, transfer.count.saturating_sub(1))
 }
 
 // Whether there is no room for a file, or one has its id.
 pub(crate) fn is_taken(transfer: Transfer, id: &[u8]) -> bool
     ensures { result ≡ is_taken transfer id.now }
 {
-    if transfer.count >= Transfer::FILES {
-        return true;
-    }
-    is_found(find_file(transfer, id))
-}
-
-fn is_found(found: Found) -> bool
-    ensures { result ≡ is_found found }
-{
-    match found {
-        Found::Nowhere => false,
-        Found::At(_) => true,
-    }
+    transfer.count >= Transfer::FILES || find_file(transfer, id).is_some()
 }
 
 // Whether the session is open and no file is being sent.
 pub(crate) fn is_idle(transfer: Transfer) -> bool
     ensures { result ≡ is_idle transfer }
 {
-    let stage = transfer.stage;
-    if is_open(stage) {
-        let file = current_file(transfer);
-        let own = file.stage;
-        return !is_sending(own);
-    }
-    false
+    is_open(transfer.stage) && !is_sending(current_file(transfer).stage)
 }
 
 // Whether the session is open and a file is being sent.
 pub(crate) fn is_busy(transfer: Transfer) -> bool
     ensures { result ≡ is_busy transfer }
 {
-    let stage = transfer.stage;
-    if is_open(stage) {
-        let file = current_file(transfer);
-        let own = file.stage;
-        return is_sending(own);
-    }
-    false
+    is_open(transfer.stage) && is_sending(current_file(transfer).stage)
 }

@@ -15,7 +15,8 @@ ghost use Rattle.octets.specs.Outcome.{outcome};
 ghost use Rattle.sending.specs.Calls.{send_of, file_of, piece_of, finish_of, listening, hear_of};
 
 use answers::{gate, refused, wrote};
-use protocol::FileRecord;
+use protocol::refusals::SHORT_BUFFER;
+use protocol::{FileRecord, Id};
 use sender_status::on_report;
 use sender_status::stages::is_fresh;
 use sending::{Listened, Sender, Stage, Transfer, Wrote};
@@ -26,10 +27,8 @@ pub fn send(sender: Sender, id: &[u8], out: &mut [u8]) -> Wrote
     ensures { outcome result out.new ≡ send_of sender id.now out.old }
 {
     let transfer = sender.transfer;
-    let stage = transfer.stage;
-    let refusal = gate(out.len(), false, is_fresh(stage));
-    if refusal != 0 {
-        return refused(sender, refusal);
+    if let Some(number) = gate(out.len(), false, is_fresh(transfer.stage)) {
+        return refused(sender, number);
     }
     let next = steps::asked(transfer, id);
     wrote(sender, next, commands::write_send(id, out))
@@ -46,16 +45,18 @@ pub fn file(sender: Sender, id: &[u8], name: &[u8], size: u64, out: &mut [u8]) -
         files::is_taken(transfer, id),
         files::is_idle(transfer),
     );
-    if refusal != 0 {
-        return refused(sender, refusal);
+    if let Some(number) = refusal {
+        return refused(sender, number);
     }
-    if id.len() > Transfer::ID_ROOM {
+    if id.len() > Id::ROOM {
         return refused(sender, commands::long_refusal(id));
     }
-    let own = transfer.id;
     let next = steps::begun(transfer, id);
-    let written = commands::write_file(own, transfer.id_len, id, name, size, out);
-    wrote(sender, next, written)
+    wrote(
+        sender,
+        next,
+        commands::write_file(transfer, id, name, size, out),
+    )
 }
 
 // Sends the next piece of the current file; the last one ends it.
@@ -69,23 +70,16 @@ pub fn piece(sender: Sender, bytes: &[u8], last: bool, out: &mut [u8]) -> Wrote
         bytes.len() > FileRecord::PART_LIMIT,
         files::is_busy(transfer),
     );
-    if refusal != 0 {
-        return refused(sender, refusal);
+    if let Some(number) = refusal {
+        return refused(sender, number);
     }
-    let own = transfer.id;
     let file = files::current_file(transfer);
-    let file_id = file.id;
     let next = steps::added(transfer, bytes.len(), last);
-    let written = commands::write_piece(
-        own,
-        transfer.id_len,
-        file_id,
-        file.id_len,
-        bytes,
-        last,
-        out,
-    );
-    wrote(sender, next, written)
+    wrote(
+        sender,
+        next,
+        commands::write_piece(transfer, file, bytes, last, out),
+    )
 }
 
 // Ends the session.
@@ -94,20 +88,14 @@ pub fn finish(sender: Sender, out: &mut [u8]) -> Wrote
     ensures { outcome result out.new ≡ finish_of sender out.old }
 {
     let transfer = sender.transfer;
-    let refusal = gate(out.len(), false, files::is_idle(transfer));
-    if refusal != 0 {
-        return refused(sender, refusal);
+    if let Some(number) = gate(out.len(), false, files::is_idle(transfer)) {
+        return refused(sender, number);
     }
     let next = Transfer {
         stage: Stage::Finished,
         ..transfer
     };
-    let own = transfer.id;
-    wrote(
-        sender,
-        next,
-        commands::write_finish(own, transfer.id_len, out),
-    )
+    wrote(sender, next, commands::write_finish(transfer, out))
 }
 
 // Takes one piece of the line through the first command text that ends. 9 consumes nothing.
@@ -116,15 +104,13 @@ pub fn hear(sender: Sender, piece: &[u8], carry: &mut [u8], scratch: &mut [u8]) 
     ensures { listening result carry.new scratch.new
         ≡ hear_of sender piece.now carry.old scratch.old }
 {
-    let framing = sender.framing;
-    let transfer = sender.transfer;
     if answers::is_short(carry.len(), scratch.len()) {
-        return answers::unheard(sender, 9);
+        return answers::unheard(sender, SHORT_BUFFER);
     }
-    let scanned = frames::scan(framing, piece, carry);
+    let scanned = frames::scan(sender.framing, piece, carry);
     let report = scanned.report;
     let heeded = on_report(
-        transfer,
+        sender.transfer,
         report,
         frames::text(piece, carry, report),
         scratch,

@@ -4,41 +4,34 @@ ghost use Rattle.protocol.specs.Table.{file_room};
 ghost use Rattle.sending.specs.Transfers.{asked, begun, grown, added};
 
 use crate::files::current_file;
-use octets::size::less;
+use protocol::Id;
 use sender_status::files::put_file;
 use sender_status::stages::after_piece;
 use sending::{FileStage, SentFile, Stage, Transfer};
-use session_rule::ids::padded;
 
 // Send is written: the session has its id.
 pub(crate) fn asked(transfer: Transfer, id: &[u8]) -> Transfer
     ensures { result ≡ asked transfer id.now }
 {
-    let own = padded(id);
     Transfer {
         stage: Stage::Waiting,
-        id: own,
-        id_len: id.len(),
+        id: Id::of(id),
         ..transfer
     }
 }
 
 // A file more, of which nothing is sent.
-pub(crate) fn begun(transfer: Transfer, id: &[u8]) -> Transfer
+pub(crate) fn begun(mut transfer: Transfer, id: &[u8]) -> Transfer
     requires { transfer.count < file_room }
     ensures { result ≡ begun transfer id.now }
 {
-    let own = padded(id);
-    let count = transfer.count;
-    let mut next = transfer;
-    next.files[count] = SentFile {
+    transfer.files[transfer.count] = SentFile {
         stage: FileStage::Sending,
-        id: own,
-        id_len: id.len(),
+        id: Id::of(id),
         sent: 0,
     };
-    next.count = count + 1;
-    next
+    transfer.count += 1;
+    transfer
 }
 
 // The current file with n bytes more.
@@ -46,14 +39,12 @@ pub(crate) fn added(transfer: Transfer, n: usize, last: bool) -> Transfer
     ensures { result ≡ added transfer n last }
 {
     let file = current_file(transfer);
-    let stage = after_piece(last);
-    let sent = grown(file.sent, n);
     put_file(
         transfer,
-        less(transfer.count, 1),
+        transfer.count.saturating_sub(1),
         SentFile {
-            stage: stage,
-            sent: sent,
+            stage: after_piece(last),
+            sent: grown(file.sent, n),
             ..file
         },
     )
@@ -64,10 +55,5 @@ pub(crate) fn added(transfer: Transfer, n: usize, last: bool) -> Transfer
 fn grown(sent: u64, n: usize) -> u64
     ensures { result ≡ grown sent n }
 {
-    let room = 18446744073709551615 - sent;
-    if (n as u64) > room {
-        18446744073709551615
-    } else {
-        sent + (n as u64)
-    }
+    sent.saturating_add(n as u64)
 }

@@ -14,9 +14,9 @@ ghost use Rattle.octets.specs.Outcome.{outcome};
 ghost use Rattle.command.specs.Read.{read_of};
 ghost use Rattle.sending.specs.Calls.{read_heed, text_heed, report_heed};
 
-use command::Reading;
 use commands::on_command;
 use frames::Report;
+use protocol::refusals::{SHORT_BUFFER, TEXT_BROKEN_OFF, TEXT_TOO_LONG};
 use sending::{Heeded, News, Transfer};
 use statuses::still;
 
@@ -27,11 +27,10 @@ pub fn on_report(transfer: Transfer, report: Report, text: &[u8], scratch: &mut 
 {
     match report {
         Report::Nothing => still(transfer, News::Nothing),
-        Report::InPiece(_, _) => on_text(transfer, text, scratch),
-        Report::InCarry(_) => on_text(transfer, text, scratch),
-        Report::TooLong => still(transfer, News::Refused(1)),
-        Report::Abandoned => still(transfer, News::Refused(2)),
-        Report::ShortCarry => still(transfer, News::Refused(9)),
+        Report::InPiece(_, _) | Report::InCarry(_) => on_text(transfer, text, scratch),
+        Report::TooLong => still(transfer, News::Refused(TEXT_TOO_LONG)),
+        Report::Abandoned => still(transfer, News::Refused(TEXT_BROKEN_OFF)),
+        Report::ShortCarry => still(transfer, News::Refused(SHORT_BUFFER)),
     }
 }
 
@@ -51,7 +50,7 @@ fn on_command_text(transfer: Transfer, text: &[u8], scratch: &mut [u8]) -> Heede
         outcome result scratch.new ≡ read_heed transfer t (read_of t scratch.old) }
 {
     match command_reader::read(text, scratch) {
-        Reading::Read(command) => on_command(transfer, command, text, scratch),
-        Reading::Refused(refusal) => still(transfer, News::Refused(refusal.number())),
+        Ok(command) => on_command(transfer, command, text, scratch),
+        Err(refusal) => still(transfer, News::Refused(refusal.number())),
     }
 }

@@ -7,61 +7,31 @@ use sending::{FileStage, Stage};
 pub fn is_fresh(stage: Stage) -> bool
     ensures { result ≡ is_fresh stage }
 {
-    match stage {
-        Stage::Fresh => true,
-        Stage::Waiting => false,
-        Stage::Open => false,
-        Stage::Finished => false,
-        Stage::Stopped => false,
-    }
+    matches!(stage, Stage::Fresh)
 }
 
 pub fn is_waiting(stage: Stage) -> bool
     ensures { result ≡ is_waiting stage }
 {
-    match stage {
-        Stage::Fresh => false,
-        Stage::Waiting => true,
-        Stage::Open => false,
-        Stage::Finished => false,
-        Stage::Stopped => false,
-    }
+    matches!(stage, Stage::Waiting)
 }
 
 pub fn is_open(stage: Stage) -> bool
     ensures { result ≡ is_open stage }
 {
-    match stage {
-        Stage::Fresh => false,
-        Stage::Waiting => false,
-        Stage::Open => true,
-        Stage::Finished => false,
-        Stage::Stopped => false,
-    }
+    matches!(stage, Stage::Open)
 }
 
 pub fn is_known(stage: FileStage) -> bool
     ensures { result ≡ is_known stage }
 {
-    match stage {
-        FileStage::Free => false,
-        FileStage::Sending => true,
-        FileStage::Sent => true,
-        FileStage::Closed => true,
-        FileStage::Stopped => true,
-    }
+    !matches!(stage, FileStage::Free)
 }
 
 pub fn is_sending(stage: FileStage) -> bool
     ensures { result ≡ is_sending stage }
 {
-    match stage {
-        FileStage::Free => false,
-        FileStage::Sending => true,
-        FileStage::Sent => false,
-        FileStage::Closed => false,
-        FileStage::Stopped => false,
-    }
+    matches!(stage, FileStage::Sending)
 }
 
 // After an OK that agrees.
@@ -69,11 +39,8 @@ pub fn closed(stage: FileStage) -> FileStage
     ensures { result ≡ closed_stage stage }
 {
     match stage {
-        FileStage::Free => FileStage::Free,
-        FileStage::Sending => FileStage::Sending,
         FileStage::Sent => FileStage::Closed,
-        FileStage::Closed => FileStage::Closed,
-        FileStage::Stopped => FileStage::Stopped,
+        _ => stage,
     }
 }
 

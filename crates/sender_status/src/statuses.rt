@@ -6,7 +6,6 @@ use crate::files::{file_at, find_file, put_file};
 use crate::stages::{closed, is_waiting};
 use command::Place;
 use decimal::Number;
-use protocol::Found;
 use sending::{FileStage, Heeded, News, SentFile, Stage, Transfer, Word};
 
 // A status of the session, by its fid, its size, its place in the scratch and what its word says.
@@ -20,7 +19,7 @@ pub(crate) fn on_status(
 ) -> Heeded
     ensures { result ≡ Heeding.status_heed transfer file.now size place word }
 {
-    if file.len() == 0 {
+    if file.is_empty() {
         return session(transfer, place, word);
     }
     found(transfer, size, place, word, find_file(transfer, file))
@@ -48,8 +47,7 @@ fn session(transfer: Transfer, place: Place, word: Word) -> Heeded
 fn allowed(transfer: Transfer) -> Heeded
     ensures { result ≡ Heeding.allow_heed transfer }
 {
-    let stage = transfer.stage;
-    if is_waiting(stage) {
+    if is_waiting(transfer.stage) {
         return Heeded {
             transfer: Transfer {
                 stage: Stage::Open,
@@ -63,12 +61,12 @@ fn allowed(transfer: Transfer) -> Heeded
 
 // A status for a file, where it was found.
 #[tactic(auto, unfolding(sending::specs::Heeding::found_heed))]
-fn found(transfer: Transfer, size: Number, place: Place, word: Word, found: Found) -> Heeded
+fn found(transfer: Transfer, size: Number, place: Place, word: Word, found: Option<usize>) -> Heeded
     ensures { result ≡ Heeding.found_heed transfer size place word found }
 {
     match found {
-        Found::Nowhere => still(transfer, News::Ignored),
-        Found::At(i) => file(transfer, i, size, place, word),
+        None => still(transfer, News::Ignored),
+        Some(i) => file(transfer, i, size, place, word),
     }
 }
 
@@ -89,14 +87,13 @@ fn ok(transfer: Transfer, i: usize, size: Number) -> Heeded
     ensures { result ≡ Heeding.ok_heed transfer i size }
 {
     let file = file_at(transfer, i);
-    let stage = file.stage;
     if is_count(size, file.sent) {
         return Heeded {
             transfer: put_file(
                 transfer,
                 i,
                 SentFile {
-                    stage: closed(stage),
+                    stage: closed(file.stage),
                     ..file
                 },
             ),
@@ -110,10 +107,7 @@ fn ok(transfer: Transfer, i: usize, size: Number) -> Heeded
 fn is_count(size: Number, n: u64) -> bool
     ensures { result ≡ Heeding.is_count size n }
 {
-    if size.negative {
-        return false;
-    }
-    size.magnitude == n
+    !size.negative && size.magnitude == n
 }
 
 fn stopped(transfer: Transfer, i: usize, place: Place) -> Heeded
@@ -137,8 +131,5 @@ fn stopped(transfer: Transfer, i: usize, place: Place) -> Heeded
 pub(crate) fn still(transfer: Transfer, news: News) -> Heeded
     ensures { result ≡ Heeding.heeded transfer news }
 {
-    Heeded {
-        transfer: transfer,
-        news: news,
-    }
+    Heeded { transfer, news }
 }

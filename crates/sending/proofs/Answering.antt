@@ -1,4 +1,5 @@
 -- A call that writes answers what is to be answered.
+use Rattle.std.specs.Prelude.{Ok, Err}
 use Prim.Native.Nat.{ℕ, ◌≤◌}
 use mathlib.Core.Path.{◌≡◌, refl, sym, ap}
 use mathlib.Core.Bool.{Bool, true, false, cond}
@@ -22,21 +23,20 @@ use Rattle.sending.specs.Calls.{unwritten, wrote_by, writes, guarded, long_refus
 use Rattle.sending.specs.Every.{answer_by, Frame, Answers}
 use Rattle.sending.specs.declared.Transfer.{Transfer}
 use Rattle.sending.specs.declared.Sender.{Sender}
-use Rattle.sending.specs.declared.Writing.TheVariants as Writing
 use Rattle.sending.specs.declared.Wrote.{Wrote}
 use Rattle.sending.proofs.LongIds.{long-id_as-written}
 
-not_written : {A : Type 0} {r n : ℕ} → Writing.Refused r ≡ Writing.Written n → A
+not_written : {A : Type 0} {r n : ℕ} → Err r ≡ Ok n → A
 not_written e = let z : ◌≡◌ {A = ℕ} 0 1 = cc in absurd (omega arith)
 
-not-refused : {A : Type 0} {r n : ℕ} → Writing.Written n ≡ Writing.Refused r → A
+not-refused : {A : Type 0} {r n : ℕ} → Ok n ≡ Err r → A
 not-refused e = let z : ◌≡◌ {A = ℕ} 0 1 = cc in absurd (omega arith)
 
 -- ---- where nothing is in the way: what the writer says
 abbrev pub Writes : Sender → List Value → (out : List ℕ) → Outcome Wrote → Type 0
 Writes s c out o = (outcome (answer_by o.answer.writing) o.buffer ≡ framed_of c out)
-    × ((n : ℕ) → o.answer.writing ≡ Writing.Refused n → o.answer.sender ≡ s)
-    × ((n : ℕ) → o.answer.writing ≡ Writing.Written n → Frame c (take n o.buffer))
+    × ((n : ℕ) → o.answer.writing ≡ Err n → o.answer.sender ≡ s)
+    × ((n : ℕ) → o.answer.writing ≡ Ok n → Frame c (take n o.buffer))
 
 pub writes-right : (s : Sender) (t : Transfer) (c : List Value) (out : List ℕ) → Writes s c out (writes s t c out)
 unfolding writes

@@ -1,5 +1,6 @@
 -- Each call, lent the kept carry, does to the session what its move does: a hear with a report that of the next thing told by the bytes
 -- that it consumes, a hear without one nothing.
+use Rattle.std.specs.Prelude.{Result, Ok, Err}
 use Rattle.sending.specs.declared.News.TheVariants as News
 use Rattle.command.specs.Read.{read_of}
 use Rattle.sending.specs.Calls.{read_heed}
@@ -37,7 +38,6 @@ use Rattle.sending.specs.Cuts.{Move, Output, output, report_of}
 use Rattle.sending.specs.declared.Stage.TheVariants as Stage
 use Rattle.sending.specs.declared.Transfer.{Transfer}
 use Rattle.sending.specs.declared.Sender.{Sender}
-use Rattle.sending.specs.declared.Writing.{Writing}
 use Rattle.sending.specs.declared.Heeded.{Heeded}
 use Rattle.sending.proofs.Ours.{step, Lent, given}
 use Rattle.sending.proofs.EveryCall.{Inv, good}
@@ -135,9 +135,9 @@ pub record Steps (w : World) (c : Call) : Type 0 where
   pub inv : Inv (step w c)
 
 -- an event that adds no bytes, noted or not
-noted-bytes : (x : Writing) (e : Event) (h : List Event) → bytes_of (e ∷ h) ≡ bytes_of h → bytes_of (noted x e h) ≡ bytes_of h ++ []
-noted-bytes (Writing.Refused n) e h q = sym (append-nil (bytes_of h))
-noted-bytes (Writing.Written n) e h q = q ∙ sym (append-nil (bytes_of h))
+noted-bytes : (x : Result ℕ ℕ) (e : Event) (h : List Event) → bytes_of (e ∷ h) ≡ bytes_of h → bytes_of (noted x e h) ≡ bytes_of h ++ []
+noted-bytes (Err n) e h q = sym (append-nil (bytes_of h))
+noted-bytes (Ok n) e h q = q ∙ sym (append-nil (bytes_of h))
 
 module _ (w : World) (v : Inv w) where
   abbrev s : Sender

@@ -5,13 +5,13 @@ use mathlib.Core.Bool.{Bool, true, false, cond}
 use mathlib.Core.List.{List}
 use lib.ListN.{length}
 use lib.Dec.{eqb}
+use Rattle.std.specs.Prelude.{Option, Some, None}
 use Rattle.octets.specs.Outcome.{Outcome}
 use Rattle.decimal.specs.declared.Number.{Number}
 use Rattle.command.specs.Read.{Answer}
 use Rattle.command.specs.declared.Place.{Place}
 use Rattle.command.specs.declared.Command.{Command}
 use Rattle.protocol.specs.Sessions.{string_in, id_in, file_id_in}
-use Rattle.protocol.specs.declared.Found.{Found}
 use Rattle.protocol.proofs.Laws.{text-taken}
 use Rattle.protocol.proofs.CutsReading.{SameReading, refused, read}
 use Rattle.sending.specs.Transfers.{file_at, find_file, is_waiting, closed_stage, with_stage, put_file, moved}
@@ -57,10 +57,10 @@ module _ (t : Transfer) (p : Place) where
   file-says i z Word.Going = record { taken = refl; same = λ a b e. refl }
   file-says i z Word.Other = record { taken = refl; same = λ a b e. rw e }
 
-  found-says : (z : Number) (w : Word) (f : Found) → Says p (found_heed t z p w f).news
+  found-says : (z : Number) (w : Word) (f : Option ℕ) → Says p (found_heed t z p w f).news
   unfolding found_heed
-  found-says z w Found.Nowhere = record { taken = refl; same = λ a b e. refl }
-  found-says z w (Found.At i) = file-says i z w
+  found-says z w None = record { taken = refl; same = λ a b e. refl }
+  found-says z w (Some i) = file-says i z w
 
   status-says : (file : List ℕ) (z : Number) (w : Word) → Says p (status_heed t file z p w).news
   unfolding status_heed

@@ -8,6 +8,7 @@ use lib.ListN.{length, take}
 use lib.Seq.{take-length}
 use lib.Dec.{ltb, leb}
 use borrow.Author.Tests.{ltb-false, leb-false}
+use Rattle.std.specs.Prelude.{Option, Some, None}
 use Rattle.octets.specs.Outcome.{Outcome}
 use Rattle.octets.proofs.Below.{both_test}
 use Rattle.frames.specs.Stream.{Mode, text_limit, stream}
@@ -25,7 +26,6 @@ use Rattle.command.specs.Framed.{frame_room}
 use Rattle.protocol.specs.Table.{file_room}
 use Rattle.protocol.specs.Written.{piece_values}
 use Rattle.protocol.specs.Files.{part_limit}
-use Rattle.protocol.specs.declared.Found.{Found}
 use Rattle.protocol.proofs.Laws.{no_way}
 use Rattle.sending.specs.Transfers.{file_at, current_file, id_of, file_id_of, find_file, is_fresh, is_open, is_sending, with_stage}
 use Rattle.sending.specs.Transfers.{asked, added}
@@ -119,10 +119,10 @@ module _ (w : World) (v : Inv w) where
           rw (taken-told v.kept id, idle-told v.kept)
           (guarded-right s (is_taken t id) (is_idle t) (file_values (or_empty (session_in m)) id name size) out _ written)
 
-      room : (b : Bool) → leb file_room t.count ≡ b → (f : Found) → find_file t id ≡ f → (b || is_found f) ≡ false
-          → (t.count < file_room) × (found t.files id ≡ Found.Nowhere)
-      room false q Found.Nowhere f e = (leb-false _ _ q, f)
-      room false q (Found.At i) f e = no_way e
+      room : (b : Bool) → leb file_room t.count ≡ b → (f : Option ℕ) → find_file t id ≡ f → (b || is_found f) ≡ false
+          → (t.count < file_room) × (found t.files id ≡ None)
+      room false q None f e = (leb-false _ _ q, f)
+      room false q (Some i) f e = no_way e
       room true q f g e = no_way e
 
       go : {a : Wrote} → FileWay s id name size out a → Inv (after_writing w (Event.filed id) a)
@@ -279,9 +279,9 @@ all_shown w v k e = go (found w.sender.transfer.files k) (v.kept.files k)
     m : List Mark
     m = marks_of w.story
 
-    go : (f : Found) → FileOK w.sender.transfer.files m k f → Shown m k (file_at w.sender.transfer (place_among k (files_in m)))
-    go Found.Nowhere u = no_way (sym e ∙ u.filed)
-    go (Found.At i) u = rw (← u.place) (record { stage = u.staged; sent = u.counted })
+    go : (f : Option ℕ) → FileOK w.sender.transfer.files m k f → Shown m k (file_at w.sender.transfer (place_among k (files_in m)))
+    go None u = no_way (sym e ∙ u.filed)
+    go (Some i) u = rw (← u.place) (record { stage = u.staged; sent = u.counted })
 
 all_right : (w : World) → Inv w → (cs : List Call) → AllLent w cs → AllRight w cs
 all_right w v [] l = all_shown w v

@@ -5,8 +5,8 @@ use mathlib.Core.Bool.{Bool, true, false}
 use mathlib.Core.List.{List, [], ◌∷◌}
 use native.Mathlib.Omega.{arith}
 use lib.ListN.{length, get_or, set}
+use Rattle.std.specs.Prelude.{Option, Some, None}
 use Rattle.protocol.specs.Table.{first, here_or}
-use Rattle.protocol.specs.declared.Found.{Found}
 
 module _ {A : Type 0} (p : A → Bool) (d : A) where
   -- a member that passes as the one before it
@@ -17,15 +17,15 @@ module _ {A : Type 0} (p : A → Bool) (d : A) where
   first-same (x ∷ xs) (suc i) a e = rw (first-same xs i a e)
 
   -- the only one that passes
-  pub first-new : (l : List A) (i : ℕ) (a : A) → i < length l → first p l ≡ Found.Nowhere → p a ≡ true → first p (set l i a) ≡ Found.At i
+  pub first-new : (l : List A) (i : ℕ) (a : A) → i < length l → first p l ≡ None → p a ≡ true → first p (set l i a) ≡ Some i
   unfolding first
   first-new [] i a h n e = absurd (omega arith)
   first-new (x ∷ xs) zero a h n e = rw e
   first-new (x ∷ xs) (suc i) a h n e = go (p x) refl (first p xs) refl n (λ r. first-new xs i a (omega arith) r e)
     where
-      go : (b : Bool) → p x ≡ b → (f : Found) → first p xs ≡ f → here_or b f ≡ Found.Nowhere
-          → (first p xs ≡ Found.Nowhere → first p (set xs i a) ≡ Found.At i)
-          → here_or (p x) (first p (set xs i a)) ≡ Found.At (suc i)
+      go : (b : Bool) → p x ≡ b → (f : Option ℕ) → first p xs ≡ f → here_or b f ≡ None
+          → (first p xs ≡ None → first p (set xs i a) ≡ Some i)
+          → here_or (p x) (first p (set xs i a)) ≡ Some (suc i)
       go true q f r s more = let z : ◌≡◌ {A = ℕ} 0 1 = cc in absurd (omega arith)
-      go false q Found.Nowhere r s more = rw (q, more r)
-      go false q (Found.At k) r s more = let z : ◌≡◌ {A = ℕ} 0 1 = cc in absurd (omega arith)
+      go false q None r s more = rw (q, more r)
+      go false q (Some k) r s more = let z : ◌≡◌ {A = ℕ} 0 1 = cc in absurd (omega arith)

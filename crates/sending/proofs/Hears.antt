@@ -22,7 +22,7 @@ use Rattle.command.proofs.Simulation.{read-means}
 use Rattle.protocol.specs.Readings.{read_mark, told_marks}
 use Rattle.protocol.specs.Sessions.{string_in, id_in, file_id_in}
 use Rattle.protocol.proofs.Means.{string-means}
-use Rattle.protocol.proofs.Refusals.{meaning-refusal}
+use Rattle.protocol.proofs.TextLaws.{meaning-refusal}
 use Rattle.protocol.proofs.Laws.{text-taken}
 use Rattle.sending.specs.Transfers as Transfers
 use Rattle.sending.specs.Transfers.{is_fresh, sent_limit}

@@ -2,10 +2,11 @@
 use Prim.Native.Nat.{ℕ, ◌<◌}
 use mathlib.Core.Path.{◌≡◌, refl, sym, ◌∙◌, subst}
 use mathlib.Core.Bool.{Bool, true, false, not, cond, ◌&&◌, ◌||◌, and-false, or-true}
-use mathlib.Core.Option.{Option, none-ne-some}
 use mathlib.Core.List.{List, ◌∷◌}
 use lib.ListN.{length, get_or}
 use lib.Dec.{eqb}
+use Rattle.std.proofs.lemmas.Option.{none-some}
+use Rattle.std.specs.Prelude.{Option, Some, None}
 use Rattle.octets.specs.Slices.{equals}
 use Rattle.octets.proofs.Below.{both_test}
 use Rattle.octets.proofs.Compare.{equals_refl, equals-sound}
@@ -13,7 +14,6 @@ use Rattle.command.specs.Values.{Value}
 use Rattle.command.specs.Meaning.{action_code, id_of, file_id_of, size_of, status_of}
 use Rattle.command.specs.declared.Place.{Place}
 use Rattle.protocol.specs.Sessions.{string_in}
-use Rattle.protocol.specs.declared.Found.{Found}
 use Rattle.protocol.proofs.Laws.{no_way, first-at}
 use Rattle.sending.specs.Transfers as Transfers
 use Rattle.sending.specs.Transfers.{free_file, is_known, has_file_id, find_file, is_waiting, is_sending, closed_stage, with_stage}
@@ -37,7 +37,7 @@ use Rattle.sending.proofs.Sizes.{count-or-sum}
 
 -- the session is the one that send began
 known-session : (id x : List ℕ) (m : List Mark) (g : Stage) → SessionOK id m g → equals_some x (session_in m) ≡ true
-    → session_in m ≡ Option.some id
+    → session_in m ≡ Some id
 known-session id x m Stage.Fresh o e = no_way (sym (rw o.session at e))
 known-session id x m Stage.Waiting o e = o.session
 known-session id x m Stage.Open o e = o.session
@@ -46,7 +46,7 @@ known-session id x m Stage.Stopped o e = o.0
 
 -- it waits for its OK; or it has one, or is stopped
 waiting-says : (id : List ℕ) (m : List Mark) (g : Stage) → SessionOK id m g → is_waiting g ≡ true
-    → Says m (Option.some id) false false false
+    → Says m (Some id) false false false
 waiting-says id m Stage.Fresh o e = no_way (sym e)
 waiting-says id m Stage.Waiting o e = o
 waiting-says id m Stage.Open o e = no_way (sym e)
@@ -57,9 +57,9 @@ record Decided (m : List Mark) (a : Bool) (g : Stage) : Type 0 where
   allowed : AllowedAs (a || allowed_in m) (allowed_in m) g
   told : (allowed_in m || stopped_in m) ≡ true
 
-decided : (id : List ℕ) (m : List Mark) (a : Bool) (g : Stage) → SessionOK id m g → session_in m ≡ Option.some id → is_waiting g ≡ false
+decided : (id : List ℕ) (m : List Mark) (a : Bool) (g : Stage) → SessionOK id m g → session_in m ≡ Some id → is_waiting g ≡ false
     → Decided m a g
-decided id m a Stage.Fresh o s e = absurd (none-ne-some id (sym o.session ∙ s))
+decided id m a Stage.Fresh o s e = absurd (none-some id (sym o.session ∙ s))
 decided id m a Stage.Waiting o s e = no_way e
 decided id m a Stage.Open o s e = record { allowed = rw o.allowed (or-true a); told = rw o.allowed }
 decided id m a Stage.Finished o s e = record { allowed = rw o.allowed (or-true a); told = rw o.allowed }
@@ -97,7 +97,7 @@ unagreed c m e j = rw e (and-false (equals (file_id_of c) j))
 
 module _ {t : Transfer} {m : List Mark} (c : List Value) (k : Kept t m) (p : Place) (after : List ℕ)
     (status : string_in after p ≡ status_of c) (ours : is_reply c m ≡ true) (small : (size_of c).magnitude < sent_limit) where
-  id-session : session_in m ≡ Option.some (Transfers.id_of t)
+  id-session : session_in m ≡ Some (Transfers.id_of t)
   id-session =
       known-session (Transfers.id_of t) (id_of c) m t.stage k.session
       (both_test (eqb (action_code c) 8) (equals_some (id_of c) (session_in m)) ours).1
@@ -182,14 +182,14 @@ module _ {t : Transfer} {m : List Mark} (c : List Value) (k : Kept t m) (p : Pla
     as_before : AllowedAs (for_session Word.Ok c m || allowed_in m) (allowed_in m) t.stage
     as_before = allowed-as (rw (no-session Word.Ok)) t.stage
 
-    unknown-heard : found t.files (file_id_of c) ≡ Found.Nowhere → Marked m c after (heeded t News.Ignored)
+    unknown-heard : found t.files (file_id_of c) ≡ None → Marked m c after (heeded t News.Ignored)
     unknown-heard f =
         let u : Unknown m (file_id_of c) = rw f at (k.files (file_id_of c)) in
         let none : (x : Word) → for_file x c m ≡ false = λ x. rw (ours, e, u.filed) in
         let kept = unmoved c k (no-session Word.Other) as_before (none Word.Other) (unagreed c m (none Word.Ok)) in
         record { kept = kept; said = rw (ours, e, u.filed); taken = refl }
 
-    module _ (i : ℕ) (f : found t.files (file_id_of c) ≡ Found.At i) where
+    module _ (i : ℕ) (f : found t.files (file_id_of c) ≡ Some i) where
       abbrev file : SentFile
       file = get_or t.files i free_file
 
@@ -206,14 +206,14 @@ module _ {t : Transfer} {m : List Mark} (c : List Value) (k : Kept t m) (p : Pla
       told-file w q = rw (ours, e, known.filed, q)
 
       -- the ids of the file at this place, and of another
-      same_id : (j : List ℕ) → found t.files j ≡ Found.At i → file_id_of c ≡ j
+      same_id : (j : List ℕ) → found t.files j ≡ Some i → file_id_of c ≡ j
       same_id j a =
           let here = (first-at (has_file_id j) free_file t.files i a).1 in
           let x = equals-sound (Transfers.file_id_of file) j (both_test (is_known file.stage) _ here).1 in
           let y = equals-sound (Transfers.file_id_of file) (file_id_of c) (both_test (is_known file.stage) _ there.1).1 in
           sym y ∙ x
 
-      other-id : (j : List ℕ) → (found t.files j ≡ Found.At i → ⊥) → equals (file_id_of c) j ≡ false
+      other-id : (j : List ℕ) → (found t.files j ≡ Some i → ⊥) → equals (file_id_of c) j ≡ false
       other-id j a = go (equals (file_id_of c) j) refl
         where
           go : (b : Bool) → equals (file_id_of c) j ≡ b → equals (file_id_of c) j ≡ false
@@ -231,7 +231,7 @@ module _ {t : Transfer} {m : List Mark} (c : List Value) (k : Kept t m) (p : Pla
           summed b r = rw (← count-or-sum (size_of c) (sum_in (file_id_of c) m) small, ← known.counted) r
 
           -- a size that agrees closes the file, once its last piece is written
-          closes : is_count (size_of c) (sum_in (file_id_of c) m) ≡ true → (j : List ℕ) → found t.files j ≡ Found.At i
+          closes : is_count (size_of c) (sum_in (file_id_of c) m) ≡ true → (j : List ℕ) → found t.files j ≡ Some i
               → closed_stage file.stage ≡ stage_in j (Mark.read c ∷ m)
           closes r j a =
               let here : closed_stage file.stage ≡ stage_in (file_id_of c) (Mark.read c ∷ m) =
@@ -282,7 +282,7 @@ module _ {t : Transfer} {m : List Mark} (c : List Value) (k : Kept t m) (p : Pla
             taken = refl;
           }
         where
-          same : (j : List ℕ) → found t.files j ≡ Found.At i → equals (file_id_of c) j ≡ true
+          same : (j : List ℕ) → found t.files j ≡ Some i → equals (file_id_of c) j ≡ true
           same j a = rw (same_id j a) (equals_refl j)
 
       file-heard : (w : Word) → word_of (status_of c) ≡ w → Marked m c after (file_heed t i (size_of c) p w)
@@ -298,11 +298,11 @@ module _ {t : Transfer} {m : List Mark} (c : List Value) (k : Kept t m) (p : Pla
           }
       file-heard Word.Other q = stop-heard q
 
-    found-heard : (f : Found) → found t.files (file_id_of c) ≡ f → (w : Word) → word_of (status_of c) ≡ w
+    found-heard : (f : Option ℕ) → found t.files (file_id_of c) ≡ f → (w : Word) → word_of (status_of c) ≡ w
         → Marked m c after (found_heed t (size_of c) p w f)
     unfolding found_heed
-    found-heard Found.Nowhere f w q = unknown-heard f
-    found-heard (Found.At i) f w q = file-heard i f w q
+    found-heard None f w q = unknown-heard f
+    found-heard (Some i) f w q = file-heard i f w q
 
   pub status-heard : Marked m c after (status_heed t (file_id_of c) (size_of c) p (word_of (status_of c)))
   unfolding status_heed

@@ -2,14 +2,13 @@
 use Prim.Native.Nat.{ℕ, zero, suc, ◌≤◌, min}
 use mathlib.Core.Path.{◌≡◌, refl}
 use mathlib.Core.Bool.{Bool, true, false, not, ◌&&◌}
-use mathlib.Core.Option.{Option}
 use mathlib.Core.List.{List, []}
 use native.Mathlib.Omega.{arith}
 use lib.ListN.{length, get_or, replicate, length-replicate}
+use Rattle.std.specs.Prelude.{Option, Some, None}
 use Rattle.octets.specs.Members.{every}
 use Rattle.command.specs.Letters.{safe_byte}
 use Rattle.protocol.specs.Table.{file_room, id_room, first}
-use Rattle.protocol.specs.declared.Found.{Found}
 use Rattle.protocol.proofs.Laws.{replicate-each}
 use Rattle.sending.specs.Transfers.{free_file, no_transfer, id_of, file_id_of, is_known, has_file_id, is_sending, sent_limit}
 use Rattle.sending.specs.Story.{Mark}
@@ -39,9 +38,9 @@ pub record Unknown (m : List Mark) (k : List ℕ) : Type 0 where
   pub going : file_stopped_in k m ≡ false
   pub agreed : agreed_in k m ≡ false
 
-abbrev pub FileOK : List SentFile → List Mark → List ℕ → Found → Type 0
-FileOK fs m k Found.Nowhere = Unknown m k
-FileOK fs m k (Found.At i) = Counted m k i (get_or fs i free_file)
+abbrev pub FileOK : List SentFile → List Mark → List ℕ → Option ℕ → Type 0
+FileOK fs m k None = Unknown m k
+FileOK fs m k (Some i) = Counted m k i (get_or fs i free_file)
 
 -- ---- the session with an id, by its stage
 pub record Says (m : List Mark) (id : Option (List ℕ)) (a s f : Bool) : Type 0 where
@@ -51,24 +50,24 @@ pub record Says (m : List Mark) (id : Option (List ℕ)) (a s f : Bool) : Type 0
   pub finished : finished_in m ≡ f
 
 abbrev pub SessionOK : List ℕ → List Mark → Stage → Type 0
-SessionOK id m Stage.Fresh = Says m Option.none false false false
-SessionOK id m Stage.Waiting = Says m (Option.some id) false false false
-SessionOK id m Stage.Open = Says m (Option.some id) true false false
-SessionOK id m Stage.Finished = Says m (Option.some id) true false true
-SessionOK id m Stage.Stopped = (session_in m ≡ Option.some id) × (stopped_in m ≡ true)
+SessionOK id m Stage.Fresh = Says m None false false false
+SessionOK id m Stage.Waiting = Says m (Some id) false false false
+SessionOK id m Stage.Open = Says m (Some id) true false false
+SessionOK id m Stage.Finished = Says m (Some id) true false true
+SessionOK id m Stage.Stopped = (session_in m ≡ Some id) × (stopped_in m ≡ true)
 
 -- ---- the file begun last, at place c
-abbrev pub found : List SentFile → List ℕ → Found
+abbrev pub found : List SentFile → List ℕ → Option ℕ
 found fs k = first (has_file_id k) fs
 
 -- a file that is pending is the one with the id k
 abbrev pub PendingOK : List ℕ → Option (List ℕ) → Type 0
-PendingOK k Option.none = Unit {0}
-PendingOK k (Option.some j) = j ≡ k
+PendingOK k None = Unit {0}
+PendingOK k (Some j) = j ≡ k
 
 pub record CurrentOK (fs : List SentFile) (m : List Mark) (c : ℕ) : Type 0 where
   pub pending : PendingOK (file_id_of (get_or fs c free_file)) (pending_in m)
-  pub there : found fs (file_id_of (get_or fs c free_file)) ≡ Found.At c
+  pub there : found fs (file_id_of (get_or fs c free_file)) ≡ Some c
 
 pub record Kept (t : Transfer) (m : List Mark) : Type 0 where
   pub sized : length t.files ≡ file_room
@@ -78,11 +77,11 @@ pub record Kept (t : Transfer) (m : List Mark) : Type 0 where
   pub files : (k : List ℕ) → FileOK t.files m k (found t.files k)
   pub free : (j : ℕ) → t.count ≤ j → is_known (get_or t.files j free_file).stage ≡ false
   pub many : t.count ≡ length (files_in m)
-  pub none : t.count ≡ 0 → pending_in m ≡ Option.none
+  pub none : t.count ≡ 0 → pending_in m ≡ None
   pub current : (c : ℕ) → t.count ≡ suc c → CurrentOK t.files m c
 
 -- ---- at first
-none_found : (k : List ℕ) (n : ℕ) → first (has_file_id k) (replicate n free_file) ≡ Found.Nowhere
+none_found : (k : List ℕ) (n : ℕ) → first (has_file_id k) (replicate n free_file) ≡ None
 unfolding first
 none_found k zero = refl
 none_found k (suc n) = rw (none_found k n)

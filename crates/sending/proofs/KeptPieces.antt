@@ -2,16 +2,15 @@
 use Prim.Native.Nat.{ℕ, suc, ◌+◌, ◌<◌, min}
 use mathlib.Core.Path.{◌≡◌, refl, sym, ◌∙◌}
 use mathlib.Core.Bool.{Bool, true, false, not, cond, ◌&&◌}
-use mathlib.Core.Option.{Option}
 use mathlib.Core.List.{List, ◌∷◌}
 use native.Mathlib.Omega.{arith}
 use native.Mathlib.Decide.{ℕ_discrete}
 use lib.ListN.{length, get_or, set, length-set}
 use lib.Seq.{get_or-set_same, get_or-set_other}
+use Rattle.std.specs.Prelude.{Option, Some, None}
 use Rattle.octets.specs.Slices.{equals}
 use Rattle.octets.proofs.Below.{both_test}
 use Rattle.octets.proofs.Compare.{equals_refl, equals-sound}
-use Rattle.protocol.specs.declared.Found.{Found}
 use Rattle.protocol.proofs.Laws.{no_way, first-at}
 use Rattle.sending.specs.Transfers.{free_file, current_place, id_of, file_id_of, is_known, has_file_id}
 use Rattle.sending.specs.Transfers.{is_sending, moved, sent_limit, grown, piece_stage, added}
@@ -71,7 +70,7 @@ module _ {t : Transfer} {m : List Mark} (b : List ℕ) (last : Bool) (k : Kept t
   found_alike : (j : List ℕ) → found fs' j ≡ found fs j
   found_alike j = first-same (has_file_id j) free_file fs c file' (alike j)
 
-  pending : pending_in m ≡ Option.some (file_id_of file)
+  pending : pending_in m ≡ Some (file_id_of file)
   pending = pending-file k c n busy
 
   -- it is being sent
@@ -86,29 +85,29 @@ module _ {t : Transfer} {m : List Mark} (b : List ℕ) (last : Bool) (k : Kept t
 
   -- the file itself is being sent on, unless this was its last piece; another one is not
   own-going : (l : Bool) (j : List ℕ) (i : ℕ) → Counted m j i file
-      → is_sending (piece_stage l) ≡ (equals_some j (cond l Option.none (pending_in m)) && not (file_stopped_in j m))
+      → is_sending (piece_stage l) ≡ (equals_some j (cond l None (pending_in m)) && not (file_stopped_in j m))
   own-going true j i u = refl
   own-going false j i u = sym sends ∙ u.going
 
   other-going : (l : Bool) (j : List ℕ) (i : ℕ) {f : SentFile} → equals (file_id_of file) j ≡ false → Counted m j i f
-      → is_sending f.stage ≡ (equals_some j (cond l Option.none (pending_in m)) && not (file_stopped_in j m))
+      → is_sending f.stage ≡ (equals_some j (cond l None (pending_in m)) && not (file_stopped_in j m))
   other-going true j i q u = u.going ∙ rw (pending, q)
   other-going false j i q u = u.going
 
   -- and its stage
   own-staged : (l : Bool) (j : List ℕ) (i : ℕ) → Counted m j i file
-      → piece_stage l ≡ stage_by (file_stopped_in j m) (agreed_in j m) (equals_some j (cond l Option.none (pending_in m)))
+      → piece_stage l ≡ stage_by (file_stopped_in j m) (agreed_in j m) (equals_some j (cond l None (pending_in m)))
   own-staged true j i u = sent-by (file_stopped_in j m) (agreed_in j m) (equals_some j (pending_in m)) (rw u.staged at sends)
   own-staged false j i u = sending-by (file_stopped_in j m) (agreed_in j m) (equals_some j (pending_in m)) (rw u.staged at sends)
 
   other-staged : (l : Bool) (j : List ℕ) (i : ℕ) {f : SentFile} → equals (file_id_of file) j ≡ false → Counted m j i f
-      → f.stage ≡ stage_by (file_stopped_in j m) (agreed_in j m) (equals_some j (cond l Option.none (pending_in m)))
+      → f.stage ≡ stage_by (file_stopped_in j m) (agreed_in j m) (equals_some j (cond l None (pending_in m)))
   other-staged true j i q u = u.staged ∙ rw (pending, q)
   other-staged false j i q u = u.staged
 
-  new-file : (j : List ℕ) (f : Found) → found fs j ≡ f → FileOK fs m j f → FileOK fs' (Mark.pieced b last ∷ m) j f
+  new-file : (j : List ℕ) (f : Option ℕ) → found fs j ≡ f → FileOK fs m j f → FileOK fs' (Mark.pieced b last ∷ m) j f
   unfolding some_read grown
-  new-file j Found.Nowhere e u =
+  new-file j None e u =
       record {
         filed = u.filed;
         none = other-sum j (apart (equals (file_id_of file) j) refl) ∙ u.none;
@@ -119,7 +118,7 @@ module _ {t : Transfer} {m : List Mark} (b : List ℕ) (last : Bool) (k : Kept t
       apart : (x : Bool) → equals (file_id_of file) j ≡ x → equals (file_id_of file) j ≡ false
       apart false q = q
       apart true q = not_found {i = c} (sym e ∙ rw (← equals-sound (file_id_of file) j q) o.there)
-  new-file j (Found.At i) e u = go (ℕ_discrete i c)
+  new-file j (Some i) e u = go (ℕ_discrete i c)
     where
       go : Dec (i ≡ c) → Counted (Mark.pieced b last ∷ m) j i (get_or fs' i free_file)
       go (yes z) =
@@ -153,7 +152,7 @@ module _ {t : Transfer} {m : List Mark} (b : List ℕ) (last : Bool) (k : Kept t
           apart false q = q
           apart true q = absurd (z (found-same (sym e ∙ rw (← equals-sound (file_id_of file) j q) o.there)))
 
-  still-pending : (l : Bool) → PendingOK (file_id_of file) (cond l Option.none (pending_in m))
+  still-pending : (l : Bool) → PendingOK (file_id_of file) (cond l None (pending_in m))
   still-pending true = tt
   still-pending false = o.pending
 

@@ -6,8 +6,8 @@ use mathlib.Core.List.{List, ◌∷◌}
 use native.Mathlib.Decide.{ℕ_discrete}
 use lib.ListN.{length, get_or, set, length-set}
 use lib.Seq.{get_or-set_same, get_or-set_other}
+use Rattle.std.specs.Prelude.{Option, Some, None}
 use Rattle.command.specs.Values.{Value}
-use Rattle.protocol.specs.declared.Found.{Found}
 use Rattle.sending.specs.Transfers as Transfers
 use Rattle.sending.specs.Transfers.{free_file, is_known, has_file_id, is_sending, put_file, moved}
 use Rattle.sending.specs.Sayings.{saying}
@@ -76,21 +76,21 @@ module _ {t : Transfer} {m : List Mark} (c : List Value) (k : Kept t m) (s : for
     fs' = set fs i file'
 
     module _ (same : is_known g ≡ is_known file.stage)
-        (stays : (j : List ℕ) → found fs j ≡ Found.At i → is_sending g ≡ is_sending_for j (Mark.read c ∷ m))
-        (staged : (j : List ℕ) → found fs j ≡ Found.At i → g ≡ stage_in j (Mark.read c ∷ m))
-        (others : (j : List ℕ) → (found fs j ≡ Found.At i → ⊥) → file_stopped_in j (Mark.read c ∷ m) ≡ file_stopped_in j m)
-        (apart : (j : List ℕ) → (found fs j ≡ Found.At i → ⊥) → agreed_in j (Mark.read c ∷ m) ≡ agreed_in j m) where
+        (stays : (j : List ℕ) → found fs j ≡ Some i → is_sending g ≡ is_sending_for j (Mark.read c ∷ m))
+        (staged : (j : List ℕ) → found fs j ≡ Some i → g ≡ stage_in j (Mark.read c ∷ m))
+        (others : (j : List ℕ) → (found fs j ≡ Some i → ⊥) → file_stopped_in j (Mark.read c ∷ m) ≡ file_stopped_in j m)
+        (apart : (j : List ℕ) → (found fs j ≡ Some i → ⊥) → agreed_in j (Mark.read c ∷ m) ≡ agreed_in j m) where
       here : get_or fs' i free_file ≡ file'
       here = get_or-set_same fs i file' free_file h
 
       found_alike : (j : List ℕ) → found fs' j ≡ found fs j
       found_alike j = first-same (has_file_id j) free_file fs i file' (rw same)
 
-      new-file : (j : List ℕ) (f : Found) → found fs j ≡ f → FileOK fs m j f → FileOK fs' (Mark.read c ∷ m) j f
-      new-file j Found.Nowhere e u =
-          let away : found fs j ≡ Found.At i → ⊥ = λ q. not_found (sym e ∙ q) in
+      new-file : (j : List ℕ) (f : Option ℕ) → found fs j ≡ f → FileOK fs m j f → FileOK fs' (Mark.read c ∷ m) j f
+      new-file j None e u =
+          let away : found fs j ≡ Some i → ⊥ = λ q. not_found (sym e ∙ q) in
           record { filed = u.filed; none = u.none; going = others j away ∙ u.going; agreed = apart j away ∙ u.agreed }
-      new-file j (Found.At d) e u = go (ℕ_discrete d i)
+      new-file j (Some d) e u = go (ℕ_discrete d i)
         where
           go : Dec (d ≡ i) → Counted (Mark.read c ∷ m) j d (get_or fs' d free_file)
           go (yes z) =
@@ -104,7 +104,7 @@ module _ {t : Transfer} {m : List Mark} (c : List Value) (k : Kept t m) (s : for
                 staged = staged j (rw z at e);
               })
           go (no z) =
-              let away : found fs j ≡ Found.At i → ⊥ = λ r. z (found-same (sym e ∙ r)) in
+              let away : found fs j ≡ Some i → ⊥ = λ r. z (found-same (sym e ∙ r)) in
               rw (get_or-set_other fs i d file' free_file z)
               (record {
                 filed = u.filed;

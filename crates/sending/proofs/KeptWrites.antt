@@ -2,18 +2,17 @@
 use Prim.Native.Nat.{ℕ, ◌≤◌, ◌<◌}
 use mathlib.Core.Path.{◌≡◌, refl, sym, ◌∙◌}
 use mathlib.Core.Bool.{Bool, true, false, not, ◌&&◌}
-use mathlib.Core.Option.{Option}
 use mathlib.Core.List.{List, ◌∷◌}
 use native.Mathlib.Omega.{arith}
 use lib.ListN.{length, get_or, set, length-set}
 use lib.Seq.{get_or-set_same, get_or-set_other}
+use Rattle.std.specs.Prelude.{Option, Some, None}
 use Rattle.octets.specs.Slices.{equals}
 use Rattle.octets.proofs.Below.{both_test}
 use Rattle.octets.proofs.Compare.{equals_refl, equals-sound}
 use Rattle.octets.specs.Members.{every}
 use Rattle.command.specs.Letters.{safe_byte}
-use Rattle.protocol.specs.Table.{file_room, id_room, padded}
-use Rattle.protocol.specs.declared.Found.{Found}
+use Rattle.protocol.specs.Table.{file_room, id_room, kept_id}
 use Rattle.protocol.proofs.Laws.{no_way, first-at, padded-id}
 use Rattle.sending.specs.Transfers.{free_file, id_of, file_id_of, is_known, has_file_id}
 use Rattle.sending.specs.Transfers.{is_fresh, is_open, with_stage, asked, begun}
@@ -30,19 +29,19 @@ use Rattle.sending.proofs.Kept.{Unknown, FileOK, Says, SessionOK, found, Kept}
 use Rattle.sending.proofs.Ready.{idle_for}
 
 -- ---- places that are found
-pub found-same : {i j : ℕ} → Found.At i ≡ Found.At j → i ≡ j
+pub found-same : {i j : ℕ} → Some i ≡ Some j → i ≡ j
 found-same e = cc
 
-pub not_found : {A : Type 0} {i : ℕ} → Found.Nowhere ≡ Found.At i → A
+pub not_found : {A : Type 0} {i : ℕ} → None ≡ Some i → A
 not_found e = let z : ◌≡◌ {A = ℕ} 0 1 = cc in absurd (omega arith)
 
 -- ---- marks that say the same of an id
 pub same-file : (m m' : List Mark) (k : List ℕ) (fs : List SentFile) → files_in m' ≡ files_in m → pending_in m' ≡ pending_in m
     → sum_in k m' ≡ sum_in k m → file_stopped_in k m' ≡ file_stopped_in k m → agreed_in k m' ≡ agreed_in k m
-    → (f : Found) → FileOK fs m k f → FileOK fs m' k f
-same-file m m' k fs e p s g a Found.Nowhere u =
+    → (f : Option ℕ) → FileOK fs m k f → FileOK fs m' k f
+same-file m m' k fs e p s g a None u =
     record { filed = rw e u.filed; none = s ∙ u.none; going = g ∙ u.going; agreed = a ∙ u.agreed }
-same-file m m' k fs e p s g a (Found.At i) c =
+same-file m m' k fs e p s g a (Some i) c =
     record {
       filed = rw e c.filed;
       place = rw e c.place;
@@ -79,7 +78,7 @@ same-session m m' id e s f Stage.Finished a o =
 same-session m m' id e s f Stage.Stopped a o = (e ∙ o.0, s ∙ o.1)
 
 -- ---- send
-fresh-session : (id : List ℕ) (m : List Mark) (g : Stage) → is_fresh g ≡ true → SessionOK id m g → Says m Option.none false false false
+fresh-session : (id : List ℕ) (m : List Mark) (g : Stage) → is_fresh g ≡ true → SessionOK id m g → Says m None false false false
 fresh-session id m Stage.Fresh e o = o
 fresh-session id m Stage.Waiting e o = no_way (sym e)
 fresh-session id m Stage.Open e o = no_way (sym e)
@@ -104,7 +103,7 @@ kept-sent {t} {m} id k e l safe =
     }
 
 -- ---- finish
-open-says : (id : List ℕ) (m : List Mark) (g : Stage) → is_open g ≡ true → SessionOK id m g → Says m (Option.some id) true false false
+open-says : (id : List ℕ) (m : List Mark) (g : Stage) → is_open g ≡ true → SessionOK id m g → Says m (Some id) true false false
 open-says id m Stage.Fresh e o = no_way (sym e)
 open-says id m Stage.Waiting e o = no_way (sym e)
 open-says id m Stage.Open e o = o
@@ -137,12 +136,12 @@ stage-idle false false true e = no_way e
 stage-idle false false false e = refl
 
 module _ {t : Transfer} {m : List Mark} (id : List ℕ) (k : Kept t m) (l : length id ≤ id_room) (room : t.count < file_room)
-    (new : found t.files id ≡ Found.Nowhere) (idle : sending_in m ≡ false) where
+    (new : found t.files id ≡ None) (idle : sending_in m ≡ false) where
   abbrev fs : List SentFile
   fs = t.files
 
   abbrev file : SentFile
-  file = record { stage = FileStage.Sending; id = padded id; id_len = length id; sent = 0 }
+  file = record { stage = FileStage.Sending; id = kept_id id; sent = 0 }
 
   abbrev fs' : List SentFile
   fs' = set fs t.count file
@@ -156,7 +155,7 @@ module _ {t : Transfer} {m : List Mark} (id : List ℕ) (k : Kept t m) (l : leng
   here : get_or fs' t.count free_file ≡ file
   here = get_or-set_same fs t.count file free_file inside
 
-  new-found : found fs' id ≡ Found.At t.count
+  new-found : found fs' id ≡ Some t.count
   new-found = first-new (has_file_id id) free_file fs t.count file inside new (rw own (equals_refl id))
 
   new-file : (j : List ℕ) → FileOK fs' (Mark.filed id ∷ m) j (found fs' j)
@@ -164,9 +163,9 @@ module _ {t : Transfer} {m : List Mark} (id : List ℕ) (k : Kept t m) (l : leng
   new-file j = go (equals id j) refl
     where
       -- another id is found where it was
-      old : (f : Found) → found fs j ≡ f → equals id j ≡ false → FileOK fs m j f → FileOK fs' (Mark.filed id ∷ m) j f
-      old Found.Nowhere e q u = record { filed = rw q u.filed; none = u.none; going = u.going; agreed = u.agreed }
-      old (Found.At i) e q c =
+      old : (f : Option ℕ) → found fs j ≡ f → equals id j ≡ false → FileOK fs m j f → FileOK fs' (Mark.filed id ∷ m) j f
+      old None e q u = record { filed = rw q u.filed; none = u.none; going = u.going; agreed = u.agreed }
+      old (Some i) e q c =
           let p = first-at (has_file_id j) free_file fs i e in
           let known : is_known (get_or fs i free_file).stage ≡ true = (both_test _ _ p.1).0 in
           let other : i ≡ t.count → ⊥ = λ z. no_way (sym known ∙ rw z (k.free t.count (omega arith))) in

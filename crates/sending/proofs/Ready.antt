@@ -2,14 +2,13 @@
 use Prim.Native.Nat.{ℕ, zero, suc}
 use mathlib.Core.Path.{◌≡◌, refl, sym, ◌∙◌}
 use mathlib.Core.Bool.{Bool, true, false, not, ◌&&◌, ◌||◌}
-use mathlib.Core.Option.{Option}
 use mathlib.Core.List.{List}
 use native.Mathlib.Omega.{arith}
 use lib.Dec.{leb}
+use Rattle.std.specs.Prelude.{Option, Some, None}
 use Rattle.octets.specs.Slices.{equals}
 use Rattle.octets.proofs.Compare.{equals_refl, equals-sound}
 use Rattle.protocol.specs.Table.{file_room}
-use Rattle.protocol.specs.declared.Found.{Found}
 use Rattle.protocol.proofs.Laws.{no_way}
 use Rattle.sending.specs.Transfers.{file_at, current_place, current_file, id_of, file_id_of, find_file, is_known}
 use Rattle.sending.specs.Transfers.{is_fresh, is_open, is_sending}
@@ -41,7 +40,7 @@ open_told id m Stage.Open s = rw (s.allowed, s.stopped, s.finished)
 open_told id m Stage.Finished s = rw (s.allowed, s.stopped, s.finished)
 open_told id m Stage.Stopped s = rw s.1 (stopped-closed (allowed_in m) (finished_in m))
 
-open-session : (id : List ℕ) (m : List Mark) (g : Stage) → SessionOK id m g → is_open g ≡ true → session_in m ≡ Option.some id
+open-session : (id : List ℕ) (m : List Mark) (g : Stage) → SessionOK id m g → is_open g ≡ true → session_in m ≡ Some id
 open-session id m Stage.Fresh s e = no_way (sym e)
 open-session id m Stage.Waiting s e = no_way (sym e)
 open-session id m Stage.Open s e = s.session
@@ -58,16 +57,16 @@ unknown-idle FileStage.Stopped e = refl
 -- a pending file is being sent just when it is that of its id
 pending-sends : (k : List ℕ) (m : List Mark) (p : Option (List ℕ)) → PendingOK k p
     → goes_on p m ≡ (equals_some k p && not (file_stopped_in k m))
-pending-sends k m Option.none o = refl
-pending-sends k m (Option.some j) o = rw (o, equals_refl k)
+pending-sends k m None o = refl
+pending-sends k m (Some j) o = rw (o, equals_refl k)
 
 -- and where none is being sent, no id's file is
 pub idle_for : (k : List ℕ) (m : List Mark) → sending_in m ≡ false → is_sending_for k m ≡ false
 idle_for k m e = go (pending_in m) e
   where
     go : (p : Option (List ℕ)) → goes_on p m ≡ false → (equals_some k p && not (file_stopped_in k m)) ≡ false
-    go Option.none q = refl
-    go (Option.some j) q = by (equals j k) refl
+    go None q = refl
+    go (Some j) q = by (equals j k) refl
       where
         by : (b : Bool) → equals j k ≡ b → (b && not (file_stopped_in k m)) ≡ false
         by true r = rw (← equals-sound j k r) q
@@ -102,13 +101,13 @@ module _ {t : Transfer} {m : List Mark} (kept : Kept t m) where
   pub taken-told : (id : List ℕ) → taken_in id m ≡ is_taken t id
   taken-told id = rw (← kept.many) (go (find_file t id) (kept.files id))
     where
-      go : (f : Found) → FileOK t.files m id f
+      go : (f : Option ℕ) → FileOK t.files m id f
           → (leb file_room t.count || is_among id (files_in m)) ≡ (leb file_room t.count || is_found f)
-      go Found.Nowhere u = rw u.filed
-      go (Found.At i) u = rw u.filed
+      go None u = rw u.filed
+      go (Some i) u = rw u.filed
 
   -- ---- the ids that are written
-  pub session-id : is_open t.stage ≡ true → session_in m ≡ Option.some (id_of t)
+  pub session-id : is_open t.stage ≡ true → session_in m ≡ Some (id_of t)
   session-id e = open-session (id_of t) m t.stage kept.session e
 
   -- a file is being sent: there is a current one, and it is the pending one
@@ -120,18 +119,18 @@ module _ {t : Transfer} {m : List Mark} (kept : Kept t m) where
           no_way (sym e ∙ unknown-idle (current_file t).stage (kept.free (current_place t) (omega arith)))
       go (suc c) q = (c, q)
 
-  pub pending-file : (c : ℕ) → t.count ≡ suc c → sending_in m ≡ true → pending_in m ≡ Option.some (file_id_of (file_at t c))
+  pub pending-file : (c : ℕ) → t.count ≡ suc c → sending_in m ≡ true → pending_in m ≡ Some (file_id_of (file_at t c))
   pending-file c n e = go (pending_in m) refl (kept.current c n).pending e
     where
       go : (p : Option (List ℕ)) → pending_in m ≡ p → PendingOK (file_id_of (file_at t c)) p → goes_on p m ≡ true
-          → pending_in m ≡ Option.some (file_id_of (file_at t c))
-      go Option.none q o s = no_way (sym s)
-      go (Option.some j) q o s = rw (q, o)
+          → pending_in m ≡ Some (file_id_of (file_at t c))
+      go None q o s = no_way (sym s)
+      go (Some j) q o s = rw (q, o)
 
-  pub pending-current : is_sending (current_file t).stage ≡ true → pending_in m ≡ Option.some (file_id_of (current_file t))
+  pub pending-current : is_sending (current_file t).stage ≡ true → pending_in m ≡ Some (file_id_of (current_file t))
   pending-current e = go t.count refl
     where
-      go : (n : ℕ) → t.count ≡ n → pending_in m ≡ Option.some (file_id_of (current_file t))
+      go : (n : ℕ) → t.count ≡ n → pending_in m ≡ Some (file_id_of (current_file t))
       go zero q = no_way (sym e ∙ unknown-idle (current_file t).stage (kept.free (current_place t) (omega arith)))
       go (suc c) q =
           let here : current_place t ≡ c = omega (arith, q) in

@@ -1,5 +1,6 @@
 -- An `sz` that can be read is at most 2^63, and so no count that has stopped growing.
 use Prim.Native.Nat.{ℕ, zero, suc, ◌+◌, ◌≤◌, ◌<◌, min}
+use Rattle.std.specs.Prelude.{Option, Some, None, Result, Ok, Err}
 use mathlib.Core.Path.{◌≡◌, refl, sym}
 use mathlib.Core.Bool.{Bool, true, false, cond, ◌&&◌}
 use mathlib.Core.List.{List, [], ◌∷◌}
@@ -17,8 +18,7 @@ use Rattle.octets.specs.Split.{split}
 use Rattle.decimal.specs.Limits.{most_digits, limit}
 use Rattle.decimal.specs.Read.{digits_of, signed, ranged_of, digits_ranged, magnitude_of, parse_of}
 use Rattle.decimal.specs.declared.Number.{Number}
-use Rattle.decimal.specs.declared.reader.Run.{Run}
-use Rattle.decimal.specs.declared.Parsed.{Parsed}
+use Rattle.decimal.specs.declared.ParseError.{ParseError}
 use Rattle.command.specs.Keys.{Kind, Key, keys, kind_at, number_of}
 use Rattle.command.specs.Letters.{text_byte}
 use Rattle.command.specs.Values.{Value, Got, absent, integer_read, value_read}
@@ -28,10 +28,9 @@ use Rattle.sending.specs.Transfers.{sent_limit}
 use Rattle.sending.specs.Heeding.{is_count}
 
 -- ---- an integer
-abbrev Within : Parsed → Type 0
-Within (Parsed.Integer n) = n.magnitude < sent_limit
-Within Parsed.Malformed = Unit {0}
-Within Parsed.OutOfRange = Unit {0}
+abbrev Within : Result Number ParseError → Type 0
+Within (Ok n) = n.magnitude < sent_limit
+Within (Err e) = Unit {0}
 
 ranged-within : (s : Bool) (m : ℕ) → Within (ranged_of s m)
 unfolding ranged_of
@@ -41,19 +40,19 @@ ranged-within s m = go (ltb (limit s) m) refl
     small true h = omega arith
     small false h = omega arith
 
-    go : (b : Bool) → ltb (limit s) m ≡ b → Within (cond b Parsed.OutOfRange (Parsed.Integer (signed s m)))
+    go : (b : Bool) → ltb (limit s) m ≡ b → Within (cond b (Err ParseError.OutOfRange) (Ok (signed s m)))
     go true e = tt
     go false e = small s (ltb-false _ _ e)
 
-digits-within : (s : Bool) (r : Run) → Within (digits_ranged s r)
-digits-within s (Run.Value m) = ranged-within s m
-digits-within s Run.NotDigits = tt
+digits-within : (s : Bool) (r : Option ℕ) → Within (digits_ranged s r)
+digits-within s (Some m) = ranged-within s m
+digits-within s None = tt
 
 magnitude-within : (s : Bool) (t : List ℕ) → Within (magnitude_of s t)
 unfolding magnitude_of
 magnitude-within s t = go (eqb (length t) 0) (ltb most_digits (length t))
   where
-    go : (a b : Bool) → Within (cond a Parsed.Malformed (cond b Parsed.Malformed (digits_ranged s (digits_of 0 t))))
+    go : (a b : Bool) → Within (cond a (Err ParseError.Malformed) (cond b (Err ParseError.Malformed) (digits_ranged s (digits_of 0 t))))
     go true b = tt
     go false true = tt
     go false false = digits-within s (digits_of 0 t)
@@ -82,10 +81,10 @@ abbrev FitGot : Got → Type 0
 FitGot (Got.got v) = (number_in v).magnitude < sent_limit
 FitGot (Got.refused r) = Unit {0}
 
-integer-fits : (p : Parsed) → Within p → FitGot (integer_read p)
-integer-fits (Parsed.Integer n) h = h
-integer-fits Parsed.Malformed h = tt
-integer-fits Parsed.OutOfRange h = tt
+integer-fits : (p : Result Number ParseError) → Within p → FitGot (integer_read p)
+integer-fits (Ok n) h = h
+integer-fits (Err ParseError.Malformed) h = tt
+integer-fits (Err ParseError.OutOfRange) h = tt
 
 size_fits : (v : List ℕ) → FitGot (value_read (kind_at keys 10) v)
 unfolding value_read

@@ -1,4 +1,5 @@
 -- What a call that writes does: nothing, or one command is written and the session goes on.
+use Rattle.std.specs.Prelude.{Ok}
 use Prim.Native.Nat.{ℕ, ◌≤◌}
 use mathlib.Core.Path.{◌≡◌, refl}
 use mathlib.Core.Bool.{Bool, true, false, cond}
@@ -16,13 +17,12 @@ use Rattle.sending.specs.Commands.{file_values}
 use Rattle.sending.specs.Calls.{with_transfer, unwritten, wrote_by, writes, guarded, is_taken, is_idle, long_refusal, file_writes, file_of}
 use Rattle.sending.specs.declared.Transfer.{Transfer}
 use Rattle.sending.specs.declared.Sender.{Sender}
-use Rattle.sending.specs.declared.Writing.TheVariants as Writing
 use Rattle.sending.specs.declared.Wrote.{Wrote}
 
 pub data Way (s : Sender) (t : Transfer) (vs : List Value) (over ready : Bool) (out : List ℕ) : Wrote → Type 0 where
   refused : (n : ℕ) → Way s t vs over ready out (unwritten s n)
   written : (n : ℕ) → over ≡ false → ready ≡ true → (framed_of vs out).answer ≡ Answer.written n
-      → Way s t vs over ready out (record { sender = with_transfer s t; writing = Writing.Written n })
+      → Way s t vs over ready out (record { sender = with_transfer s t; writing = Ok n })
 
 module _ (s : Sender) (t : Transfer) (vs : List Value) (out : List ℕ) where
   writes-way : (over ready : Bool) → over ≡ false → ready ≡ true → Way s t vs over ready out (writes s t vs out).answer
@@ -49,7 +49,7 @@ module _ (s : Sender) (t : Transfer) (vs : List Value) (out : List ℕ) where
 pub data FileWay (s : Sender) (id name : List ℕ) (size : ℕ) (out : List ℕ) : Wrote → Type 0 where
   refused : (n : ℕ) → FileWay s id name size out (unwritten s n)
   written : (n : ℕ) → length id ≤ id_room → is_taken s.transfer id ≡ false → is_idle s.transfer ≡ true
-      → FileWay s id name size out (record { sender = with_transfer s (begun s.transfer id); writing = Writing.Written n })
+      → FileWay s id name size out (record { sender = with_transfer s (begun s.transfer id); writing = Ok n })
 
 pub file-way : (s : Sender) (id name : List ℕ) (size : ℕ) (out : List ℕ) → FileWay s id name size out (file_of s id name size out).answer
 unfolding file_of file_writes guarded

@@ -1,6 +1,5 @@
 -- "Fed to a fresh receiver of ours over a line that loses nothing", what is sent arrives whole, and nothing else arrives.
-use Rattle.std.specs.Prelude.{ℕ, ◌≤◌, ◌≡◌, Bool, true, false, ◌||◌, List, [], ◌∷◌, ◌++◌, length, get_or, eqb}
-use Rattle.std.proofs.Math.Option.{Option}
+use Rattle.std.specs.Prelude.{ℕ, ◌≤◌, ◌≡◌, Bool, true, false, ◌||◌, List, [], ◌∷◌, ◌++◌, length, get_or, eqb, Some}
 use Rattle.octets.specs.Members.{every}
 use Rattle.frames.specs.Stream.{text_limit}
 use Rattle.command.specs.Values.{Value, count}
@@ -8,7 +7,6 @@ use Rattle.command.specs.Meaning.{bytes_in, id_of, size_of}
 use Rattle.protocol.specs.Table.{fresh_receiver}
 use Rattle.protocol.specs.History.{Heard, Mark, Question, marks_of}
 use Rattle.protocol.specs.Stretches.{Key, is_for, Stretch, since, parts}
-use Rattle.protocol.specs.declared.Found.TheVariants as Found
 use Rattle.sending.specs.Transfers.{file_at, find_file}
 use Rattle.sending.specs.Machine.{Machine}
 use Rattle.sending.specs.Plans.{File, Plan, Fit, contents_of, commands_of}
@@ -54,13 +52,13 @@ name_in c = bytes_in (get_or c 11 Value.outside)
 -- contents, the last one with them; and the sender has it closed, with their length
 pub record Arrived (id : List ℕ) (f : File) (m : List Mark) (t : Transfer) : Type 0 where
   pub stretch : Stretch
-  pub started : since (record { id = id; file = f.id }) m ≡ Option.some stretch
+  pub started : since (record { id = id; file = f.id }) m ≡ Some stretch
   pub name : name_in stretch.command ≡ f.name
   pub size : size_of stretch.command ≡ count f.size
   pub whole : parts (record { id = id; file = f.id }) stretch.marks ≡ contents_of f
   pub closed : closed_in (record { id = id; file = f.id }) stretch.marks ≡ true
   pub place : ℕ
-  pub found : find_file t f.id ≡ Found.At place
+  pub found : find_file t f.id ≡ Some place
   pub stage : (file_at t place).stage ≡ FileStage.Closed
   pub sent : (file_at t place).sent ≡ length (contents_of f)
 

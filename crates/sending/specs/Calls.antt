@@ -1,5 +1,5 @@
 -- The calls: for any sender and any lent buffers, the answer and every buffer afterwards.
-use Rattle.std.specs.Prelude.{ℕ, Bool, true, false, not, cond, ◌&&◌, ◌||◌, List, length, ltb, leb}
+use Rattle.std.specs.Prelude.{ℕ, Bool, true, false, not, cond, ◌&&◌, ◌||◌, List, length, ltb, leb, Option, Some, None, Ok, Err}
 use Rattle.octets.specs.Members.{every}
 use Rattle.octets.specs.Outcome.{Outcome, outcome}
 use Rattle.frames.specs.Stream.{is_drag_drop, text_limit}
@@ -17,7 +17,6 @@ use Rattle.command.specs.declared.Refusal.TheVariants as Refusal
 use Rattle.protocol.specs.Table.{file_room, id_room}
 use Rattle.protocol.specs.Written.{piece_values}
 use Rattle.protocol.specs.Files.{part_limit}
-use Rattle.protocol.specs.declared.Found.{Found}
 use Rattle.sending.specs.Transfers.{current_file, id_of, file_id_of, find_file, is_fresh}
 use Rattle.sending.specs.Transfers.{is_open, is_sending, with_stage, asked, begun, added}
 use Rattle.sending.specs.Commands.{send_values, file_values, finish_values}
@@ -25,7 +24,6 @@ use Rattle.sending.specs.Heeding.{heeded, heed_of}
 use Rattle.sending.specs.declared.Stage.TheVariants as Stage
 use Rattle.sending.specs.declared.Transfer.{Transfer}
 use Rattle.sending.specs.declared.Sender.{Sender}
-use Rattle.sending.specs.declared.Writing.TheVariants as Writing
 use Rattle.sending.specs.declared.Wrote.{Wrote}
 use Rattle.sending.specs.declared.News.{News}
 use Rattle.sending.specs.declared.Listened.{Listened}
@@ -37,11 +35,11 @@ with_transfer s t = record { framing = s.framing; transfer = t }
 
 -- a refusal: "nothing changed"
 abbrev pub unwritten : Sender → ℕ → Wrote
-unwritten s n = record { sender = s; writing = Writing.Refused n }
+unwritten s n = record { sender = s; writing = Err n }
 
 -- what the writer answers: a frame was written and the session goes on, or nothing is changed
 abbrev pub wrote_by : Sender → Transfer → Answer → Wrote
-wrote_by s t (Answer.written n) = record { sender = with_transfer s t; writing = Writing.Written n }
+wrote_by s t (Answer.written n) = record { sender = with_transfer s t; writing = Ok n }
 wrote_by s t (Answer.refused n) = unwritten s n
 
 -- a command in its frame, and the session after it
@@ -69,9 +67,9 @@ is_idle t = is_open t.stage && not (is_sending (current_file t).stage)
 abbrev pub is_busy : Transfer → Bool
 is_busy t = is_open t.stage && is_sending (current_file t).stage
 
-abbrev pub is_found : Found → Bool
-is_found Found.Nowhere = false
-is_found (Found.At i) = true
+abbrev pub is_found : Option ℕ → Bool
+is_found None = false
+is_found (Some i) = true
 
 -- "a 33rd file or a repeated id"
 abbrev pub is_taken : Transfer → List ℕ → Bool

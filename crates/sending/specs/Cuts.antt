@@ -1,5 +1,5 @@
 -- "Reports are the same however the bytes are cut": places apart, given the same calls that write after as many reports.
-use Rattle.std.specs.Prelude.{ℕ, ◌≡◌, Bool, true, false, cond, List, [], ◌∷◌, ◌++◌, map, length, take, ltb}
+use Rattle.std.specs.Prelude.{ℕ, ◌≡◌, Bool, true, false, cond, List, [], ◌∷◌, ◌++◌, map, length, take, ltb, Result, Ok, Err}
 use Rattle.octets.specs.Outcome.{Outcome}
 use Rattle.frames.specs.Calls.{text_of}
 use Rattle.command.specs.Framed.{frame_room}
@@ -9,7 +9,6 @@ use Rattle.sending.specs.Machine.{Machine}
 use Rattle.sending.specs.Sayings.{Saying, saying}
 use Rattle.sending.specs.Story.{Call, World, step, start, bytes_of}
 use Rattle.sending.specs.Every.{AllLent}
-use Rattle.sending.specs.declared.Writing.{Writing}
 use Rattle.sending.specs.declared.Wrote.{Wrote}
 
 -- ---- what a call gives, places apart
@@ -38,13 +37,13 @@ abbrev pub output : Move → Saying → List ℕ → Output
 output m said text = record { move = m; said = said; text = text }
 
 -- the answer of a call that writes: a refusal by its number, or the frame at the buffer's start
-abbrev pub answered : Writing → Saying
-answered (Writing.Refused n) = Saying.refused n
-answered (Writing.Written n) = Saying.written
+abbrev pub answered : Result ℕ ℕ → Saying
+answered (Err n) = Saying.refused n
+answered (Ok n) = Saying.written
 
-abbrev pub frame_in : Writing → List ℕ → List ℕ
-frame_in (Writing.Refused n) out = []
-frame_in (Writing.Written n) out = take n out
+abbrev pub frame_in : Result ℕ ℕ → List ℕ → List ℕ
+frame_in (Err n) out = []
+frame_in (Ok n) out = take n out
 
 abbrev pub answering : Move → Wrote → List ℕ → Output
 answering m a out = output m (answered a.writing) (frame_in a.writing out)

@@ -1,5 +1,5 @@
 -- What holds of a machine at each call of every list of calls on a fresh sender.
-use Rattle.std.specs.Prelude.{ℕ, ◌≤◌, ◌<◌, min, ◌≡◌, Bool, true, false, cond, ◌||◌, List, [], ◌∷◌, length, take, ltb}
+use Rattle.std.specs.Prelude.{ℕ, ◌≤◌, ◌<◌, min, ◌≡◌, Bool, true, false, cond, ◌||◌, List, [], ◌∷◌, length, take, ltb, Result, Ok, Err}
 use Rattle.octets.specs.Outcome.{Outcome, outcome}
 use Rattle.frames.specs.Stream.{Told, text_limit, stream, framed}
 use Rattle.frames.specs.Calls.{text_of}
@@ -23,7 +23,6 @@ use Rattle.sending.specs.Telling.{files_in, equals_some, is_among, place_among, 
 use Rattle.sending.specs.declared.FileStage.{FileStage}
 use Rattle.sending.specs.declared.SentFile.{SentFile}
 use Rattle.sending.specs.declared.Sender.{Sender}
-use Rattle.sending.specs.declared.Writing.{Writing}
 use Rattle.sending.specs.declared.Wrote.{Wrote}
 
 -- ---- a call that writes
@@ -35,9 +34,9 @@ answer_in over ready c out =
     (cond ready (framed_of c out) (outcome (Answer.refused 18) out)))
 
 -- what a call answered, in the writer's words
-abbrev pub answer_by : Writing → Answer
-answer_by (Writing.Refused n) = Answer.refused n
-answer_by (Writing.Written n) = Answer.written n
+abbrev pub answer_by : Result ℕ ℕ → Answer
+answer_by (Err n) = Answer.refused n
+answer_by (Ok n) = Answer.written n
 
 -- one frame, whose text reads as the command with these values
 pub record Frame (c : List Value) (bs : List ℕ) : Type 0 where
@@ -48,8 +47,8 @@ pub record Frame (c : List Value) (bs : List ℕ) : Type 0 where
 -- the answer to a call on the sender s that is to write the command c into a buffer
 pub record Answers (s : Sender) (over ready : Bool) (c : List Value) (out : List ℕ) (o : Outcome Wrote) : Type 0 where
   pub answer : outcome (answer_by o.answer.writing) o.buffer ≡ answer_in over ready c out
-  pub kept : (n : ℕ) → o.answer.writing ≡ Writing.Refused n → o.answer.sender ≡ s
-  pub reads : (n : ℕ) → o.answer.writing ≡ Writing.Written n → Frame c (take n o.buffer)
+  pub kept : (n : ℕ) → o.answer.writing ≡ Err n → o.answer.sender ≡ s
+  pub reads : (n : ℕ) → o.answer.writing ≡ Ok n → Frame c (take n o.buffer)
 
 -- ---- a hear
 -- what the bytes tell, after all that was heard before

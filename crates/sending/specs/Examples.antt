@@ -1,5 +1,5 @@
 -- Examples of a send, each a list of calls on a fresh sender, with what each gives and the session afterwards.
-use Rattle.std.specs.Prelude.{ℕ, ◌≡◌, true, false, List, [], ◌∷◌, ◌++◌, map, take, replicate}
+use Rattle.std.specs.Prelude.{ℕ, ◌≡◌, true, false, List, [], ◌∷◌, ◌++◌, map, take, replicate, Result as Attempt, Ok, Err}
 use Prim.Native.String.{String}
 use Rattle.octets.specs.Ascii.{ascii}
 use Rattle.octets.specs.Outcome.{Outcome}
@@ -15,7 +15,6 @@ use Rattle.sending.specs.declared.FileStage.{FileStage}
 use Rattle.sending.specs.declared.SentFile.{SentFile}
 use Rattle.sending.specs.declared.Transfer.{Transfer}
 use Rattle.sending.specs.declared.Sender.{Sender}
-use Rattle.sending.specs.declared.Writing.{Writing}
 use Rattle.sending.specs.declared.Wrote.{Wrote}
 use Rattle.sending.specs.declared.News.{News}
 
@@ -38,9 +37,9 @@ pub data Result : Type 0 where
 abbrev pub written : Outcome Wrote → Result × Sender
 written o = (go o.answer.writing, o.answer.sender)
   where
-    go : Writing → Result
-    go (Writing.Written n) = Result.wrote (take n o.buffer)
-    go (Writing.Refused n) = Result.refused n
+    go : Attempt ℕ ℕ → Result
+    go (Ok n) = Result.wrote (take n o.buffer)
+    go (Err n) = Result.refused n
 
 abbrev pub call : Sender → Item → Result × Sender
 call s (Item.snd id) = written (send_of s id (replicate frame_room 0))

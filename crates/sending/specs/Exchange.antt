@@ -1,17 +1,15 @@
 -- An office and a console on a line that loses nothing: it may delay and cut the bytes, in both directions, in any way.
-use Rattle.std.specs.Prelude.{ℕ, ◌≡◌, List, [], ◌∷◌, ◌++◌, take, drop}
+use Rattle.std.specs.Prelude.{ℕ, ◌≡◌, List, [], ◌∷◌, ◌++◌, take, drop, None, Result, Ok, Err}
 use Rattle.octets.specs.Outcome.{Outcome}
 use Rattle.protocol.specs.Calls.{feed_of, allow_of, done_of}
 use Rattle.protocol.specs.Machine.{Call, World}
 use Rattle.protocol.specs.Machine as Console
-use Rattle.protocol.specs.declared.Owed.TheVariants as Owed
 use Rattle.protocol.specs.declared.Answered.{Answered}
 use Rattle.sending.specs.Transfers.{fresh_sender}
 use Rattle.sending.specs.Calls.{Listening}
 use Rattle.sending.specs.Machine.{Machine}
 use Rattle.sending.specs.Plans.{Plan, Order, orders_of}
 use Rattle.sending.specs.declared.Sender.{Sender}
-use Rattle.sending.specs.declared.Writing.{Writing}
 use Rattle.sending.specs.declared.Wrote.{Wrote}
 use Rattle.sending.specs.declared.News.{News}
 
@@ -51,8 +49,8 @@ order_of m s Order.finish out = m.finishes s out
 abbrev pub after_write : Exchange → List Order → Outcome Wrote → Exchange
 after_write e os o = go o.answer.writing
   where
-    go : Writing → Exchange
-    go (Writing.Refused n) =
+    go : Result ℕ ℕ → Exchange
+    go (Err n) =
         record {
           sender = o.answer.sender;
           heard = e.heard;
@@ -63,7 +61,7 @@ after_write e os o = go o.answer.writing
           news = e.news;
           refusals = n ∷ e.refusals;
         }
-    go (Writing.Written n) =
+    go (Ok n) =
         record {
           sender = o.answer.sender;
           heard = e.heard;
@@ -146,4 +144,4 @@ pub record AtRest (e : Exchange) : Type 0 where
   pub todo : e.todo ≡ []
   pub there : e.there ≡ []
   pub back : e.back ≡ []
-  pub owed : e.world.receiver.table.owed ≡ Owed.Nothing
+  pub owed : e.world.receiver.table.owed ≡ None

@@ -1,5 +1,5 @@
 -- What a command that was read makes of the sender's session: the status replies.
-use Rattle.std.specs.Prelude.{ℕ, Bool, true, false, not, cond, ◌&&◌, List, length, eqb}
+use Rattle.std.specs.Prelude.{ℕ, Bool, true, false, not, cond, ◌&&◌, List, length, eqb, Option, Some, None}
 use Rattle.octets.specs.Ascii.{ascii}
 use Rattle.octets.specs.Slices.{equals}
 use Rattle.decimal.specs.declared.Number.{Number}
@@ -7,7 +7,6 @@ use Rattle.command.specs.declared.Action.{Action}
 use Rattle.command.specs.declared.Place.{Place}
 use Rattle.command.specs.declared.Command.{Command}
 use Rattle.protocol.specs.Sessions.{string_in, id_in, file_id_in}
-use Rattle.protocol.specs.declared.Found.{Found}
 use Rattle.sending.specs.Transfers.{id_of, file_at, find_file, is_fresh, is_waiting, closed_stage, with_stage, put_file, moved}
 use Rattle.sending.specs.declared.Stage.TheVariants as Stage
 use Rattle.sending.specs.declared.FileStage.TheVariants as FileStage
@@ -56,9 +55,9 @@ file_heed t i z p Word.Going = heeded t News.Noted
 file_heed t i z p Word.Other = stop_heed t i p
 
 -- a status for a file that is none of this sender's is ignored
-unfoldable pub found_heed : Transfer → Number → Place → Word → Found → Heeded
-found_heed t z p w Found.Nowhere = heeded t News.Ignored
-found_heed t z p w (Found.At i) = file_heed t i z p w
+unfoldable pub found_heed : Transfer → Number → Place → Word → Option ℕ → Heeded
+found_heed t z p w None = heeded t News.Ignored
+found_heed t z p w (Some i) = file_heed t i z p w
 
 unfoldable pub status_heed : Transfer → (file : List ℕ) → Number → Place → Word → Heeded
 status_heed t file z p w = cond (eqb (length file) 0) (session_heed t p w) (found_heed t z p w (find_file t file))

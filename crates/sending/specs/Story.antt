@@ -1,5 +1,5 @@
 -- The story of a sender: its calls one after another, made from the calls' arguments and answers, never from records. Newest first.
-use Rattle.std.specs.Prelude.{ℕ, ◌≡◌, Bool, false, cond, List, [], ◌∷◌, ◌++◌, take, eqb}
+use Rattle.std.specs.Prelude.{ℕ, ◌≡◌, Bool, false, cond, List, [], ◌∷◌, ◌++◌, take, eqb, Result, Ok, Err}
 use Rattle.frames.specs.Stream.{Mode, stream}
 use Rattle.command.specs.Values.{Value}
 use Rattle.protocol.specs.Readings.{told_marks}
@@ -7,7 +7,6 @@ use Rattle.sending.specs.Transfers.{fresh_sender}
 use Rattle.sending.specs.Calls.{Listening}
 use Rattle.sending.specs.Machine.{Machine}
 use Rattle.sending.specs.declared.Sender.{Sender}
-use Rattle.sending.specs.declared.Writing.{Writing}
 use Rattle.sending.specs.declared.Wrote.{Wrote}
 use Rattle.sending.specs.declared.News.{News}
 
@@ -35,9 +34,9 @@ pub record World : Type 0 where
 
 -- ---- one call after another
 -- a refused call adds nothing
-abbrev pub noted : Writing → Event → List Event → List Event
-noted (Writing.Refused n) e h = h
-noted (Writing.Written n) e h = e ∷ h
+abbrev pub noted : Result ℕ ℕ → Event → List Event → List Event
+noted (Err n) e h = h
+noted (Ok n) e h = e ∷ h
 
 abbrev pub after_writing : World → Event → Wrote → World
 after_writing w e a = record { sender = a.sender; carry = w.carry; story = noted a.writing e w.story }

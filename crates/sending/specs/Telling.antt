@@ -1,6 +1,5 @@
 -- What the story says of the session and its files, and so what is to be answered and told. No word of the sender's records.
-use Rattle.std.specs.Prelude.{ℕ, ◌+◌, Bool, true, false, not, cond, ◌&&◌, ◌||◌, List, [], ◌∷◌, length, eqb, leb}
-use Rattle.std.proofs.Math.Option.{Option}
+use Rattle.std.specs.Prelude.{ℕ, ◌+◌, Bool, true, false, not, cond, ◌&&◌, ◌||◌, List, [], ◌∷◌, length, eqb, leb, Option, Some, None}
 use Rattle.octets.specs.Slices.{equals}
 use Rattle.frames.specs.Stream.{Told}
 use Rattle.command.specs.Values.{Value}
@@ -14,8 +13,8 @@ use Rattle.sending.specs.declared.Word.{Word}
 -- ---- the session and its files
 -- the session's id, once send is written
 abbrev pub session_in : List Mark → Option (List ℕ)
-session_in [] = Option.none
-session_in (Mark.sent id ∷ m) = Option.some id
+session_in [] = None
+session_in (Mark.sent id ∷ m) = Some id
 session_in (Mark.filed id ∷ m) = session_in m
 session_in (Mark.pieced b last ∷ m) = session_in m
 session_in (Mark.finished ∷ m) = session_in m
@@ -23,10 +22,10 @@ session_in (Mark.read c ∷ m) = session_in m
 
 -- the file whose file command was written last, until its last piece is
 abbrev pub pending_in : List Mark → Option (List ℕ)
-pending_in [] = Option.none
+pending_in [] = None
 pending_in (Mark.sent id ∷ m) = pending_in m
-pending_in (Mark.filed id ∷ m) = Option.some id
-pending_in (Mark.pieced b last ∷ m) = cond last Option.none (pending_in m)
+pending_in (Mark.filed id ∷ m) = Some id
+pending_in (Mark.pieced b last ∷ m) = cond last None (pending_in m)
 pending_in (Mark.finished ∷ m) = pending_in m
 pending_in (Mark.read c ∷ m) = pending_in m
 
@@ -50,12 +49,12 @@ files_in (Mark.read c ∷ m) = files_in m
 
 -- the id that is there, and whether it is k
 abbrev pub or_empty : Option (List ℕ) → List ℕ
-or_empty Option.none = []
-or_empty (Option.some j) = j
+or_empty None = []
+or_empty (Some j) = j
 
 abbrev pub equals_some : List ℕ → Option (List ℕ) → Bool
-equals_some k Option.none = false
-equals_some k (Option.some j) = equals j k
+equals_some k None = false
+equals_some k (Some j) = equals j k
 
 -- the id k is among those of the files; and at which place its file is: as many were begun before it
 abbrev pub is_among : List ℕ → List (List ℕ) → Bool
@@ -130,8 +129,8 @@ agreed_in k m = some_read (agrees_for k) m
 -- ---- what is ready
 -- send, where none is written
 abbrev pub is_unsent : Option (List ℕ) → Bool
-is_unsent Option.none = true
-is_unsent (Option.some id) = false
+is_unsent None = true
+is_unsent (Some id) = false
 
 -- "preceded by a read OK without fid after send, and no status read since send stops the session"; finish is the last that is written
 abbrev pub open_in : List Mark → Bool
@@ -139,8 +138,8 @@ open_in m = allowed_in m && not (stopped_in m || finished_in m)
 
 -- a file is being sent: its last piece is not written, and no status stops it
 abbrev pub goes_on : Option (List ℕ) → List Mark → Bool
-goes_on Option.none m = false
-goes_on (Option.some k) m = not (file_stopped_in k m)
+goes_on None m = false
+goes_on (Some k) m = not (file_stopped_in k m)
 
 abbrev pub sending_in : List Mark → Bool
 sending_in m = goes_on (pending_in m) m

@@ -1,9 +1,8 @@
 -- The sender's session: room, ids, finding a file, and what becomes of the session and of a file of it.
-use Rattle.std.specs.Prelude.{ℕ, ◌+◌, ◌-◌, min, Bool, true, false, ◌&&◌, List, length, take, get_or, set, replicate}
+use Rattle.std.specs.Prelude.{ℕ, ◌+◌, ◌-◌, min, Bool, true, false, ◌&&◌, List, get_or, set, replicate, Option}
 use Rattle.octets.specs.Slices.{equals}
 use Rattle.frames.specs.declared.Framing.TheVariants as Framing
-use Rattle.protocol.specs.Table.{file_room, zeros, padded, first}
-use Rattle.protocol.specs.declared.Found.{Found}
+use Rattle.protocol.specs.Table.{file_room, first, no_id, kept_id, id_bytes}
 use Rattle.sending.specs.declared.Stage.{Stage}
 use Rattle.sending.specs.declared.FileStage.{FileStage}
 use Rattle.sending.specs.declared.SentFile.{SentFile}
@@ -12,10 +11,10 @@ use Rattle.sending.specs.declared.Sender.{Sender}
 
 -- ---- room: at most 32 files
 abbrev pub free_file : SentFile
-free_file = record { stage = FileStage.Free; id = zeros; id_len = 0; sent = 0 }
+free_file = record { stage = FileStage.Free; id = no_id; sent = 0 }
 
 abbrev pub no_transfer : Transfer
-no_transfer = record { stage = Stage.Fresh; id = zeros; id_len = 0; files = replicate file_room free_file; count = 0 }
+no_transfer = record { stage = Stage.Fresh; id = no_id; files = replicate file_room free_file; count = 0 }
 
 abbrev pub fresh_sender : Sender
 fresh_sender = record { framing = Framing.Plain; transfer = no_transfer }
@@ -33,10 +32,10 @@ current_file t = file_at t (current_place t)
 
 -- ---- ids
 abbrev pub id_of : Transfer → List ℕ
-id_of t = take t.id_len t.id
+id_of t = id_bytes t.id
 
 abbrev pub file_id_of : SentFile → List ℕ
-file_id_of f = take f.id_len f.id
+file_id_of f = id_bytes f.id
 
 abbrev pub is_known : FileStage → Bool
 is_known FileStage.Free = false
@@ -49,7 +48,7 @@ is_known FileStage.Stopped = true
 abbrev pub has_file_id : List ℕ → SentFile → Bool
 has_file_id k f = is_known f.stage && equals (file_id_of f) k
 
-abbrev pub find_file : Transfer → List ℕ → Found
+abbrev pub find_file : Transfer → List ℕ → Option ℕ
 find_file t k = first (has_file_id k) t.files
 
 -- ---- stages
@@ -91,24 +90,24 @@ closed_stage FileStage.Stopped = FileStage.Stopped
 
 -- ---- changes
 abbrev pub with_stage : Transfer → Stage → Transfer
-with_stage t g = record { stage = g; id = t.id; id_len = t.id_len; files = t.files; count = t.count }
+with_stage t g = record { stage = g; id = t.id; files = t.files; count = t.count }
 
 abbrev pub put_file : Transfer → ℕ → SentFile → Transfer
-put_file t j f = record { stage = t.stage; id = t.id; id_len = t.id_len; files = set t.files j f; count = t.count }
+put_file t j f = record { stage = t.stage; id = t.id; files = set t.files j f; count = t.count }
 
 -- a file in another stage, with another count
 abbrev pub moved : SentFile → FileStage → ℕ → SentFile
-moved f g n = record { stage = g; id = f.id; id_len = f.id_len; sent = n }
+moved f g n = record { stage = g; id = f.id; sent = n }
 
 -- after send: the sender has its id, and waits for OK
 abbrev pub asked : Transfer → List ℕ → Transfer
-asked t id = record { stage = Stage.Waiting; id = padded id; id_len = length id; files = t.files; count = t.count }
+asked t id = record { stage = Stage.Waiting; id = kept_id id; files = t.files; count = t.count }
 
 -- after a file command: one file more, of which nothing is sent
 abbrev pub begun : Transfer → List ℕ → Transfer
 begun t id =
-    let f : SentFile = record { stage = FileStage.Sending; id = padded id; id_len = length id; sent = 0 } in
-    record { stage = t.stage; id = t.id; id_len = t.id_len; files = set t.files t.count f; count = t.count + 1 }
+    let f : SentFile = record { stage = FileStage.Sending; id = kept_id id; sent = 0 } in
+    record { stage = t.stage; id = t.id; files = set t.files t.count f; count = t.count + 1 }
 
 -- a count with n bytes more. It stays at 2^64 - 1, which no `sz` that can be read is.
 abbrev pub sent_limit : ℕ

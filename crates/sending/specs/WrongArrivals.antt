@@ -1,5 +1,5 @@
 -- Wrong senders, of each of which `Arrives` is false. A claim that held of one of them would be worth nothing.
-use Rattle.std.specs.Prelude.{ℕ, ◌-◌, Bool, false, cond, List, [], ◌++◌, map, length, take}
+use Rattle.std.specs.Prelude.{ℕ, ◌-◌, Bool, false, cond, List, [], ◌++◌, map, length, take, Ok}
 use Rattle.octets.specs.Ascii.{ascii}
 use Rattle.octets.specs.Outcome.{Outcome, outcome}
 use Rattle.command.specs.Values.{count}
@@ -14,7 +14,6 @@ use Rattle.sending.specs.declared.FileStage.{FileStage}
 use Rattle.sending.specs.declared.SentFile.{SentFile}
 use Rattle.sending.specs.declared.Transfer.{Transfer}
 use Rattle.sending.specs.declared.Sender.{Sender}
-use Rattle.sending.specs.declared.Writing.{Writing}
 use Rattle.sending.specs.declared.Wrote.{Wrote}
 use Rattle.sending.specs.declared.News.{News}
 
@@ -40,7 +39,7 @@ faulting = answering (λ s. unwritten s 17)
 
 -- it says that it wrote
 abbrev pub silent : Machine
-silent = answering (λ s. record { sender = s; writing = Writing.Written 0 })
+silent = answering (λ s. record { sender = s; writing = Ok 0 })
 
 -- ---- senders that hear wrongly
 -- it takes the replies, and heeds none: the OK it waits for never comes
@@ -66,7 +65,6 @@ unclosed t =
     record {
       stage = t.stage;
       id = t.id;
-      id_len = t.id_len;
       files = map (λ (f : SentFile). moved f (unseen f.stage) f.sent) t.files;
       count = t.count;
     }

@@ -1,6 +1,6 @@
 -- Wrong senders, made by wrapping our calls, each with one error. A claim that held of one of them would be worth nothing; `SenderTeeth`
 -- says that the claims are false of each.
-use Rattle.std.specs.Prelude.{ℕ, suc, ◌+◌, ◌-◌, Bool, true, false, cond, List, [], ◌∷◌, length, take, drop, ltb}
+use Rattle.std.specs.Prelude.{ℕ, suc, ◌+◌, ◌-◌, Bool, true, false, cond, List, [], ◌∷◌, length, take, drop, ltb, Result, Ok, Err}
 use Rattle.octets.specs.Outcome.{Outcome, outcome}
 use Rattle.octets.specs.Slices.{equals}
 use Rattle.base64_codec.specs.Claims.{text_length}
@@ -17,7 +17,6 @@ use Rattle.sending.specs.Cuts.{SenderCutsAlike}
 use Rattle.sending.specs.declared.Stage.{Stage}
 use Rattle.sending.specs.declared.FileStage.{FileStage}
 use Rattle.sending.specs.declared.Sender.{Sender}
-use Rattle.sending.specs.declared.Writing.{Writing}
 use Rattle.sending.specs.declared.Wrote.{Wrote}
 use Rattle.sending.specs.declared.News.{News}
 use Rattle.sending.specs.declared.Listened.{Listened}
@@ -38,9 +37,9 @@ abbrev pub leaving : (Sender → Sender) → Outcome Wrote → Outcome Wrote
 leaving f o = outcome (record { sender = f o.answer.sender; writing = o.answer.writing }) o.buffer
 
 -- only where a frame was written
-abbrev pub is_written : Writing → Bool
-is_written (Writing.Refused n) = false
-is_written (Writing.Written n) = true
+abbrev pub is_written : Result ℕ ℕ → Bool
+is_written (Err n) = false
+is_written (Ok n) = true
 
 abbrev pub leaving_written : (Sender → Sender) → Outcome Wrote → Outcome Wrote
 leaving_written f o = cond (is_written o.answer.writing) (leaving f o) o

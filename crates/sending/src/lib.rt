@@ -19,6 +19,7 @@ ghost use Rattle.sending.specs.WrongArrivals.{WrongSendersFall};
 use command::Place;
 use decimal::Number;
 use frames::{Framing, Report};
+use protocol::Id;
 
 // ---- The sender: an array of files by value.
 // A session: nothing written, send written, allowed by an OK, finish written, or stopped by a status.
@@ -42,14 +43,13 @@ pub enum FileStage {
     Stopped,
 }
 
-// A file of the session: its id is the first id_len bytes of id. Its contents are counted, and its name
-// is not kept.
+// A file of the session. Its contents are counted, and its name is not kept. The stage is last, as the state
+// is in protocol's FileRecord.
 #[derive(Clone, Copy)]
 pub struct SentFile {
-    pub stage: FileStage,
-    pub id: [u8; Transfer::ID_ROOM],
-    pub id_len: usize,
+    pub id: Id,
     pub sent: u64,
+    pub stage: FileStage,
 }
 
 // A session and its files, in the order in which they were begun. "One file at a time": the last one is
@@ -57,8 +57,7 @@ pub struct SentFile {
 #[derive(Clone, Copy)]
 pub struct Transfer {
     pub stage: Stage,
-    pub id: [u8; Transfer::ID_ROOM],
-    pub id_len: usize,
+    pub id: Id,
     pub files: [SentFile; Transfer::FILES],
     pub count: usize,
 }
@@ -71,18 +70,12 @@ pub struct Sender {
 }
 
 // ---- What a call answers.
-// A refusal by its number, or the length of the frame at the buffer's start.
-#[derive(Clone, Copy)]
-pub enum Writing {
-    Refused(u8),
-    Written(usize),
-}
-
-// What a call that writes answers.
+// What a call that writes answers: the sender, and the length of the frame at the buffer's start, or a
+// refusal. It is told by its number, as in the news: the writer's refusals are among them.
 #[derive(Clone, Copy)]
 pub struct Wrote {
     pub sender: Sender,
-    pub writing: Writing,
+    pub writing: Result<usize, u8>,
 }
 
 // What a hear tells. A file is named by its place, a status by where it stands in the scratch.
@@ -131,10 +124,9 @@ pub enum Word {
 // ---- Free room, and the fresh sender.
 impl SentFile {
     pub const FREE: SentFile = SentFile {
-        stage: FileStage::Free,
-        id: [0; Transfer::ID_ROOM],
-        id_len: 0,
+        id: Id::NONE,
         sent: 0,
+        stage: FileStage::Free,
     };
 }
 
@@ -142,13 +134,9 @@ impl Transfer {
     // "a 33rd file"
     pub const FILES: usize = 32;
 
-    // How many bytes a session's id has at most, and a file's.
-    pub const ID_ROOM: usize = 32;
-
     pub const NONE: Transfer = Transfer {
         stage: Stage::Fresh,
-        id: [0; Transfer::ID_ROOM],
-        id_len: 0,
+        id: Id::NONE,
         files: [SentFile::FREE; Transfer::FILES],
         count: 0,
     };

@@ -16,13 +16,12 @@ pub struct Console {
 // The receiver after a call. What it wrote stands at the start of the buffer, and is written before
 // anything else is done.
 pub(crate) fn put(err: Stderr, console: Console, answered: Answered, buffer: &[u8]) -> Console {
-    let receiver = answered.receiver;
-    let told = answered.told;
-    let run = console.run;
-    say_refused(err, told);
+    say_refused(err, answered.told);
     Console {
-        receiver: receiver,
-        run: run.text(octets::part(buffer, 0, answered.reply_len)),
+        receiver: answered.receiver,
+        run: console
+            .run
+            .text(octets::part(buffer, 0, answered.reply_len)),
     }
 }
 
@@ -34,16 +33,20 @@ pub(crate) fn supply<'a>(
     text: &'a [u8],
     contents: &'a [u8],
 ) -> Console {
-    let receiver = console.receiver;
     let mut out = [0u8; FRAME_ROOM];
-    let answered = receiver::supplies::supply(receiver, supplying, text, contents, &mut out);
+    let answered = receiver::supplies::supply(
+        console.receiver,
+        supplying,
+        text,
+        contents,
+        &mut out,
+    );
     put(err, console, answered, &out)
 }
 
 // A text that is no command is said. No other call that is made here is refused.
 fn say_refused(err: Stderr, told: Told) {
-    match told {
-        Told::Refused(n) => report::counted(err, b"refused ", n as u64),
-        _ => {}
+    if let Told::Refused(n) = told {
+        report::counted(err, b"refused ", u64::from(n));
     }
 }

@@ -3,14 +3,7 @@ use crate::{arguments, report};
 use protocol::FileRecord;
 use std::fs::File;
 use std::io;
-use streams::{Got, open_read};
-
-// The size that is listed, 0 for none; or that the file cannot be opened.
-#[derive(Clone, Copy)]
-pub enum Looked {
-    Size(u64),
-    Unopened,
-}
+use streams::open_read;
 
 // Opens argument k's file.
 pub(crate) fn open(rt: &HostRuntime, k: usize) -> io::Result<File> {
@@ -19,12 +12,13 @@ pub(crate) fn open(rt: &HostRuntime, k: usize) -> io::Result<File> {
     open_read(rt, octets::part(&path, 0, n))
 }
 
-pub(crate) fn look(rt: &HostRuntime, k: usize) -> Looked {
+// The size that is listed, 0 for none; None where the file cannot be opened.
+pub(crate) fn look(rt: &HostRuntime, k: usize) -> Option<u64> {
     match open(rt, k) {
-        Ok(mut file) => Looked::Size(listed_size(&mut file)),
+        Ok(mut file) => Some(listed_size(&mut file)),
         Err(_) => {
             report::file(rt, b"cannot open ", k);
-            Looked::Unopened
+            None
         }
     }
 }
@@ -33,11 +27,8 @@ pub(crate) fn look(rt: &HostRuntime, k: usize) -> Looked {
 // cannot be read has none either: its request fails.
 fn listed_size(file: &mut File) -> u64 {
     let mut start = [0u8; FileRecord::PART_LIMIT + 1];
-    let Got::Bytes(n) = streams::read_all_from(file, &mut start) else {
-        return 0;
-    };
-    if n > FileRecord::PART_LIMIT {
-        return 0;
+    match streams::read_all_from(file, &mut start) {
+        Some(n) if n <= FileRecord::PART_LIMIT => n as u64,
+        _ => 0,
     }
-    n as u64
 }

@@ -1,14 +1,12 @@
 // A session is let in and gets its listing, or is denied.
-ghost use Rattle.std.specs.Prelude.{◌≡◌, length, ◌≤◌};
-
 use crate::console::{Console, put, supply};
 use crate::current::{Current, Path};
-use crate::{arguments, current, report};
+use crate::{arguments, report};
 use command::{FileType, Place, ZERO};
-use decimal::{Number, Written};
-use octets::size::least;
-use protocol::{Entry, Failure, Reply, Session};
+use decimal::Number;
+use protocol::{Entry, Failure, Id, Reply, Session};
 use std::io::Stderr;
+use streams::put_number;
 use supplying::Supplying;
 
 // 0644: may be read by all.
@@ -18,7 +16,7 @@ const PERMISSIONS: Number = Number {
 };
 
 // Where the path's id stands behind the session's.
-const PATH_ID: usize = 32;
+const PATH_ID: usize = Id::ROOM;
 
 // Where the name stands behind the file's own id.
 const NAME: usize = 20;
@@ -32,9 +30,8 @@ pub struct Described {
 
 pub(crate) fn deny(err: Stderr, console: Console, id: &[u8]) -> Console {
     report::heard(err, b"session denied: ", id);
-    let receiver = console.receiver;
     let mut reply = [0u8; Reply::ROOM];
-    let answered = receiver::deny(receiver, id, &mut reply);
+    let answered = receiver::deny(console.receiver, id, &mut reply);
     put(err, console, answered, &reply)
 }
 
@@ -44,68 +41,51 @@ pub(crate) fn open(rt: &HostRuntime, console: Console, current: Current) -> Cons
 }
 
 fn allow(err: Stderr, console: Console, current: Current) -> Console {
-    let receiver = console.receiver;
-    let id = current.id;
     let mut reply = [0u8; Reply::ROOM];
-    let answered = receiver::allow(receiver, octets::part(&id, 0, current.id_len), &mut reply);
+    let answered = receiver::allow(console.receiver, current.id.as_slice(), &mut reply);
     put(err, console, answered, &reply)
 }
 
 fn list_each(rt: &HostRuntime, console: Console, current: Current) -> Console {
-    let count = least(current.count, Session::FILES);
     let mut next = console;
-    let mut i = 0;
-    while i < count {
-        next = list(rt, next, current, i);
-        i += 1;
+    for i in 0..current.count.min(Session::FILES) {
+        next = list(rt, next, current, current.paths[i], i + 1);
     }
     next
 }
 
-// Lists the path at a place, or says that there is no such file.
-fn list(rt: &HostRuntime, console: Console, current: Current, i: usize) -> Console {
-    let path = current::path_at(current, i);
+// Lists a path of the session, the first being number 1, or says that there is no such file.
+fn list(
+    rt: &HostRuntime,
+    console: Console,
+    current: Current,
+    path: Path,
+    number: usize,
+) -> Console {
     let text = ids(current, path);
-    if path.is_listed {
-        let described = describe(rt, current.id_len, path, i);
-        return list_file(rt.stderr(), console, described, &text);
+    match path.listed {
+        Some(size) => {
+            let described = describe(rt, current.id.len, path, size, number);
+            supply(
+                rt.stderr(),
+                console,
+                Supplying::List(described.entry),
+                &text,
+                &described.contents,
+            )
+        }
+        None => list_failed(rt.stderr(), console, current.id.len, path.id.len, &text),
     }
-    list_failed(rt.stderr(), console, current.id_len, path.id_len, &text)
 }
 
-fn list_file(err: Stderr, console: Console, described: Described, text: &[u8]) -> Console {
-    let entry = described.entry;
-    let contents = described.contents;
-    supply(err, console, Supplying::List(entry), text, &contents)
-}
-
-// A regular file. Its own id is its number, from 1.
-fn describe(rt: &HostRuntime, id_len: usize, path: Path, i: usize) -> Described {
-    let mut own_id = [0u8; NAME];
-    let digits = put_number(1 + least(i, Session::FILES) as u64, &mut own_id);
-    let mut name = [0u8; 4096];
-    let n = arguments::read(rt, path.argument, &mut name);
+// A regular file. Its own id is its number.
+fn describe(rt: &HostRuntime, id_len: usize, path: Path, size: u64, number: usize) -> Described {
     let mut contents = [0u8; NAME + 4096];
-    octets::copy_at(octets::part(&own_id, 0, digits), &mut contents, 0);
-    octets::copy_at(octets::part(&name, 0, n), &mut contents, NAME);
+    let digits = put_number(number as u64, &mut contents[..NAME]);
+    let n = arguments::read(rt, path.argument, &mut contents[NAME..]);
     Described {
-        entry: entry(id_len, path.id_len, digits, n, path.size),
-        contents: contents,
-    }
-}
-
-// Puts a number at the start of the buffer, and answers how many digits it has.
-fn put_number(n: u64, buf: &mut [u8]) -> usize
-    requires small { n ≤ 4096 }
-    requires room { 20 ≤ length buf.old }
-{
-    let number = Number {
-        negative: false,
-        magnitude: n,
-    };
-    match decimal::write(number, buf, 0) {
-        Written::End(digits) => digits,
-        _ => unreachable!(),
+        entry: entry(id_len, path.id.len, digits, n, size),
+        contents,
     }
 }
 
@@ -162,25 +142,14 @@ fn list_failed(
 }
 
 // The session's id and the path's.
-fn ids(current: Current, path: Path) -> [u8; 64]
-    ensures { 64 ≡ length result }
-{
-    let own = current.id;
-    let of_path = path.id;
-    let mut text = [0u8; 64];
-    octets::copy_at(&own, &mut text, 0);
-    octets::copy_at(&of_path, &mut text, PATH_ID);
+fn ids(current: Current, path: Path) -> [u8; 2 * Id::ROOM] {
+    let mut text = [0u8; 2 * Id::ROOM];
+    text[..PATH_ID].copy_from_slice(&current.id.bytes);
+    text[PATH_ID..].copy_from_slice(&path.id.bytes);
     text
 }
 
 // The listing ends with the home path.
 fn home(err: Stderr, console: Console, current: Current) -> Console {
-    let id = current.id;
-    supply(
-        err,
-        console,
-        Supplying::Home,
-        octets::part(&id, 0, current.id_len),
-        b"/",
-    )
+    supply(err, console, Supplying::Home, current.id.as_slice(), b"/")
 }

@@ -1,8 +1,8 @@
 // What follows a feed: what becomes of the session that has its turn, and how the console answers.
 use crate::current::Current;
-use crate::{current, report};
+use crate::report;
 use command::Transmission;
-use protocol::{Ask, Found, Told};
+use protocol::{Ask, Told};
 use std::io::Stderr;
 
 #[derive(Clone, Copy)]
@@ -11,24 +11,26 @@ pub enum Plan {
     Rest,
     // The session of the command is denied.
     Deny,
-    // The session that has its turn is let in, and gets its listing.
-    Open,
+    // This session, which has its turn, is let in, and gets its listing.
+    Open(Current),
     // The file of an argument is supplied.
     Supply(usize),
     // The file that is asked for is not listed.
     Unlisted,
 }
 
+// The session that has its turn from here on, if one has.
 #[derive(Clone, Copy)]
 pub struct Planned {
-    pub current: Current,
+    pub current: Option<Current>,
     pub plan: Plan,
 }
 
-// Given the session's id and the path's, and the name of the command that was read.
+// Given the session's id and the path's, and the name of the command that was read. Of the asks only a
+// request is answered: no send session is open, so that each is one of the session that has its turn.
 pub(crate) fn heed<'a>(
     rt: &HostRuntime,
-    current: Current,
+    current: Option<Current>,
     told: Told,
     transmission: Transmission,
     id: &'a [u8],
@@ -36,119 +38,83 @@ pub(crate) fn heed<'a>(
     name: &'a [u8],
 ) -> Planned {
     match told {
-        Told::Asked => Planned {
-            current: current,
-            plan: Plan::Deny,
-        },
-        Told::Naming => rest(begun(current, id)),
-        Told::Path => rest(named(rt, current, id, path_id, name)),
+        Told::Asked => follow(current, Plan::Deny),
+        Told::Naming => follow(begun(current, id), Plan::Rest),
+        Told::Path => follow(named(rt, current, id, path_id, name), Plan::Rest),
         Told::LastPath => decided(rt, named(rt, current, id, path_id, name), id),
-        Told::Ask(ask) => asked(rt, current, ask, transmission, name),
-        Told::Withdrawn => rest(ended(current, id)),
-        Told::Discarded => rest(ended(current, id)),
-        _ => rest(current),
+        Told::Ask(Ask::Request) => follow(current, requested(rt, current, transmission, name)),
+        Told::Withdrawn | Told::Discarded => follow(ended(current, id), Plan::Rest),
+        _ => follow(current, Plan::Rest),
     }
 }
 
-fn rest(current: Current) -> Planned {
-    Planned {
-        current: current,
-        plan: Plan::Rest,
-    }
+fn follow(current: Option<Current>, plan: Plan) -> Planned {
+    Planned { current, plan }
 }
 
 // ---- Sessions.
 // A session that begins while another has its turn is left to its last path, and denied there.
-fn begun(current: Current, id: &[u8]) -> Current {
-    if current.id_len == 0 {
-        current::begun(id)
-    } else {
-        current
+fn begun(current: Option<Current>, id: &[u8]) -> Option<Current> {
+    match current {
+        Some(_) => current,
+        None => Some(Current::begun(id)),
     }
 }
 
 fn named<'a>(
     rt: &HostRuntime,
-    current: Current,
+    current: Option<Current>,
     id: &'a [u8],
     path_id: &'a [u8],
     name: &'a [u8],
-) -> Current {
-    if current::is(current, id) {
-        current::named(rt, current, path_id, name)
-    } else {
-        current
+) -> Option<Current> {
+    match current {
+        Some(own) if own.is(id) => Some(own.named(rt, path_id, name)),
+        _ => current,
     }
 }
 
 // The last path is named. The files are looked at before the session is let in.
-fn decided(rt: &HostRuntime, current: Current, id: &[u8]) -> Planned {
-    if !current::is(current, id) {
-        return Planned {
-            current: current,
-            plan: Plan::Deny,
-        };
-    }
-    if !current.is_good {
-        return Planned {
-            current: current::none(),
-            plan: Plan::Deny,
-        };
-    }
-    Planned {
-        current: current::looked(rt, current),
-        plan: Plan::Open,
+fn decided(rt: &HostRuntime, current: Option<Current>, id: &[u8]) -> Planned {
+    match current {
+        Some(own) if own.is(id) => {
+            if own.is_good {
+                let listed = own.looked(rt);
+                follow(Some(listed), Plan::Open(listed))
+            } else {
+                follow(None, Plan::Deny)
+            }
+        }
+        _ => follow(current, Plan::Deny),
     }
 }
 
 // A session is dropped.
-fn ended(current: Current, id: &[u8]) -> Current {
-    if current::is(current, id) {
-        current::none()
-    } else {
-        current
+fn ended(current: Option<Current>, id: &[u8]) -> Option<Current> {
+    match current {
+        Some(own) if own.is(id) => None,
+        _ => current,
     }
 }
 
-// ---- Asks. No send session is open, so that each is a request of the session that has its turn.
-fn asked(
+// ---- Requests.
+// A client that asks for a delta takes plain parts for one, and its old file would be lost.
+fn requested(
     rt: &HostRuntime,
-    current: Current,
-    ask: Ask,
+    current: Option<Current>,
     transmission: Transmission,
     name: &[u8],
-) -> Planned {
-    match ask {
-        Ask::Request => requested(rt, current, is_delta(transmission), name),
-        _ => rest(current),
-    }
-}
-
-// A client that asks for a delta takes plain parts for one, and its old file would be lost.
-fn requested(rt: &HostRuntime, current: Current, is_delta: bool, name: &[u8]) -> Planned {
-    if is_delta {
-        return unlisted(rt.stderr(), current, name);
-    }
-    match current::find_listed(rt, current, name) {
-        Found::Nowhere => unlisted(rt.stderr(), current, name),
-        Found::At(k) => Planned {
-            current: current,
-            plan: Plan::Supply(k),
+) -> Plan {
+    match (current, transmission) {
+        (Some(own), Transmission::Simple) => match own.find_listed(rt, name) {
+            Some(k) => Plan::Supply(k),
+            None => unlisted(rt.stderr(), name),
         },
+        _ => unlisted(rt.stderr(), name),
     }
 }
 
-fn is_delta(transmission: Transmission) -> bool {
-    match transmission {
-        Transmission::Simple => false,
-        Transmission::Rsync => true,
-    }
-}
-
-fn unlisted(err: Stderr, current: Current, name: &[u8]) -> Planned {
+fn unlisted(err: Stderr, name: &[u8]) -> Plan {
     report::heard(err, b"request denied: ", name);
-    Planned {
-        current: current,
-        plan: Plan::Unlisted,
-    }
+    Plan::Unlisted
 }

@@ -1,15 +1,14 @@
-// The lines on standard error. A terminal may be in raw mode, in which a line's end does not return to its
-// start. A failed write to standard error can be said nowhere.
+// The lines on standard error.
 use crate::arguments;
 use command::letters;
 use command::letters::Class;
-use std::io::{IsTerminal, Stderr};
-use streams::{say, say_number};
+use std::io::Stderr;
+use streams::{say, say_end, say_number};
 
 pub(crate) fn counted(err: Stderr, words: &[u8], n: u64) {
     say(err, words);
     say_number(err, n);
-    end(err);
+    say_end(err);
 }
 
 // The path of argument k, as it was given.
@@ -19,7 +18,7 @@ pub(crate) fn file(rt: &HostRuntime, words: &[u8], k: usize) {
     let n = arguments::read(rt, k, &mut path);
     say(err, words);
     say(err, octets::part(&path, 0, n));
-    end(err);
+    say_end(err);
 }
 
 // The office's text is shown up to a byte that a terminal might take for a command.
@@ -27,12 +26,5 @@ pub(crate) fn heard(err: Stderr, words: &[u8], text: &[u8]) {
     let n = letters::pass(Class::Text, text, 0);
     say(err, words);
     say(err, octets::part(text, 0, n));
-    end(err);
-}
-
-fn end(err: Stderr) {
-    if err.is_terminal() {
-        say(err, b"\r");
-    }
-    say(err, b"\n");
+    say_end(err);
 }

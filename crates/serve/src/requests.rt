@@ -4,7 +4,6 @@ use crate::{console, files, report};
 use protocol::{Failure, FileRecord, Reply};
 use std::fs::File;
 use std::io::Stderr;
-use streams::{Got, Run};
 use supplying::Supplying;
 
 // The file of argument k.
@@ -16,31 +15,21 @@ pub(crate) fn supply(rt: &HostRuntime, console: Console, k: usize) -> Console {
 }
 
 // A part is written before the next one is read. One that is not full is the last, also an empty one. The
-// loop counts its turns down, from a number that no file uses up.
+// loop's turns are counted, up to a number that no file uses up.
 fn supply_parts(rt: &HostRuntime, console: Console, k: usize, file: &mut File) -> Console {
     let mut bytes = [0u8; FileRecord::PART_LIMIT];
     let mut next = console;
-    let mut turns = u64::MAX;
-    while turns > 0 {
-        let Got::Bytes(n) = streams::read_all_from(file, &mut bytes) else {
+    for _ in 0..u64::MAX {
+        let Some(n) = streams::read_all_from(file, &mut bytes) else {
             return unread(rt, next, k);
         };
         let is_last = n < FileRecord::PART_LIMIT;
         next = part(rt.stderr(), next, octets::part(&bytes, 0, n), is_last);
-        let run = next.run;
-        if is_over(run, is_last) {
+        if is_last || !next.run.is_well() {
             break;
         }
-        turns -= 1;
     }
     next
-}
-
-fn is_over(run: Run, is_last: bool) -> bool {
-    if is_last {
-        return true;
-    }
-    !run.is_well()
 }
 
 fn part(err: Stderr, console: Console, bytes: &[u8], is_last: bool) -> Console {
@@ -50,15 +39,13 @@ fn part(err: Stderr, console: Console, bytes: &[u8], is_last: bool) -> Console {
 // The file can no longer be opened, or not be read.
 fn unread(rt: &HostRuntime, console: Console, k: usize) -> Console {
     report::file(rt, b"cannot read ", k);
-    let receiver = console.receiver;
     let mut reply = [0u8; Reply::ROOM];
-    let answered = receiver::failed(receiver, Failure::Eio, &mut reply);
+    let answered = receiver::failed(console.receiver, Failure::Eio, &mut reply);
     put(rt.stderr(), console, answered, &reply)
 }
 
 pub(crate) fn unlisted(err: Stderr, console: Console) -> Console {
-    let receiver = console.receiver;
     let mut reply = [0u8; Reply::ROOM];
-    let answered = receiver::unlisted(receiver, &mut reply);
+    let answered = receiver::unlisted(console.receiver, &mut reply);
     put(err, console, answered, &reply)
 }

@@ -1,4 +1,3 @@
-pub mod Heads
 pub mod Steps
 pub mod Calls
 pub mod Feeds

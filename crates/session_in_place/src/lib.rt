@@ -6,7 +6,6 @@
 
 pub mod calls;
 pub mod feeds;
-pub mod heads;
 pub mod steps;
 pub mod supplies;
 

@@ -1,4 +1,3 @@
 pub mod ArrayLaws
 pub mod SearchLaws
-pub mod PadLaws
 pub mod ActionLaws

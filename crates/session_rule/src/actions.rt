@@ -20,29 +20,11 @@ pub fn look_up(state: SessionState, action: Action) -> Kind
 fn state_number(state: SessionState) -> usize
     ensures { (result ≡ state_number state) × (result < 7) }
 {
-    match state {
-        SessionState::Absent => 0,
-        SessionState::Asked => 1,
-        SessionState::Open => 2,
-        SessionState::Naming => 3,
-        SessionState::Waiting => 4,
-        SessionState::Listing => 5,
-        SessionState::Serving => 6,
-    }
+    state as usize
 }
 
 fn action_code(action: Action) -> usize
     ensures { (result ≡ action_code action) × (result ≤ 8) }
 {
-    match action {
-        Action::None => 0,
-        Action::Send => 1,
-        Action::Receive => 2,
-        Action::File => 3,
-        Action::Data => 4,
-        Action::EndData => 5,
-        Action::Finish => 6,
-        Action::Cancel => 7,
-        Action::Status => 8,
-    }
+    action as usize
 }

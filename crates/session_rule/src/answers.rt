@@ -1,13 +1,12 @@
 // The console's answers to what is due for a session.
 ghost use Rattle.std.specs.Prelude.{◌≡◌};
-ghost use Rattle.protocol.specs.Replies.{failure_status};
 ghost use Rattle.protocol.specs.Rule.{done_by, failed_by, unlisted_by};
 
 use crate::changes::drops;
 use crate::receives::{fail_request, out_of_turn};
 use crate::replies::session_reply;
 use crate::settling::{fail_file, settle, settle_write};
-use protocol::{Change, Due, Failure, FileState, Reply, Session, Status, Told};
+use protocol::{Change, Due, Failure, FileState, Session, Status, Told};
 
 // The console has done what was due.
 #[tactic(auto, unfolding(protocol::specs::Rule::done_by))]
@@ -19,7 +18,7 @@ pub fn done(session: Session, due: Due) -> Change
         Due::OpenDirectory(j) => settle(session, j, FileState::Done, 0, Status::Ok, 0),
         Due::Write(j, n) => settle_write(session, j, n, FileState::Started, Status::Progress),
         Due::WriteLast(j, n) => settle_write(session, j, n, FileState::Done, Status::Ok),
-        Due::Commit => drops(Told::Committed, Reply::NONE),
+        Due::Commit => drops(Told::Committed, None),
         Due::Request => out_of_turn(),
     }
 }
@@ -29,13 +28,12 @@ pub fn done(session: Session, due: Due) -> Change
 pub fn failed(failure: Failure, session: Session, due: Due) -> Change
     ensures { result ≡ failed_by failure session due }
 {
-    let status = failure_status(failure);
+    let status = Status::from(failure);
     match due {
-        Due::OpenFile(j) => fail_file(session, j, status),
-        Due::OpenDirectory(j) => fail_file(session, j, status),
-        Due::Write(j, _) => fail_file(session, j, status),
-        Due::WriteLast(j, _) => fail_file(session, j, status),
-        Due::Commit => drops(Told::Discarded, session_reply(status, session)),
+        Due::OpenFile(j) | Due::OpenDirectory(j) | Due::Write(j, _) | Due::WriteLast(j, _) => {
+            fail_file(session, j, status)
+        }
+        Due::Commit => drops(Told::Discarded, Some(session_reply(status, session))),
         Due::Request => fail_request(session, status),
     }
 }
@@ -46,22 +44,7 @@ pub fn unlisted(session: Session, due: Due) -> Change
     ensures { result ≡ unlisted_by session due }
 {
     match due {
-        Due::OpenFile(_) => out_of_turn(),
-        Due::OpenDirectory(_) => out_of_turn(),
-        Due::Write(_, _) => out_of_turn(),
-        Due::WriteLast(_, _) => out_of_turn(),
-        Due::Commit => out_of_turn(),
         Due::Request => fail_request(session, Status::Einval),
-    }
-}
-
-fn failure_status(failure: Failure) -> Status
-    ensures { result ≡ failure_status failure }
-{
-    match failure {
-        Failure::Eperm => Status::Eperm,
-        Failure::Eio => Status::Eio,
-        Failure::Enoent => Status::Enoent,
-        Failure::Enospc => Status::Enospc,
+        _ => out_of_turn(),
     }
 }

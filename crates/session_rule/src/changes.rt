@@ -6,14 +6,14 @@ ghost use Rattle.protocol.specs.Files.{ignored};
 use protocol::{Change, Due, Edit, FileRecord, News, Reply, SessionState, Status, Told};
 
 // Nothing changes, and this is told.
-pub(crate) fn tells(told: Told, reply: Reply) -> Change
+pub(crate) fn tells(told: Told, reply: Option<Reply>) -> Change
     ensures { result ≡ tells told reply }
 {
     Change {
         edit: Edit::Same,
         file: FileRecord::FREE,
         news: News::Tells(told),
-        reply: reply,
+        reply,
     }
 }
 
@@ -21,18 +21,18 @@ pub(crate) fn tells(told: Told, reply: Reply) -> Change
 pub(crate) fn ignored() -> Change
     ensures { result ≡ ignored }
 {
-    tells(Told::Ignored, Reply::NONE)
+    tells(Told::Ignored, None)
 }
 
 // The session is in another state, told by nothing but the reply.
-pub(crate) fn turns(state: SessionState, reply: Reply) -> Change
+pub(crate) fn turns(state: SessionState, reply: Option<Reply>) -> Change
     ensures { result ≡ turns state reply }
 {
     Change {
         edit: Edit::Turned(state),
         file: FileRecord::FREE,
         news: News::Tells(Told::Nothing),
-        reply: reply,
+        reply,
     }
 }
 
@@ -44,7 +44,7 @@ pub(crate) fn asks(due: Due) -> Change
         edit: Edit::Same,
         file: FileRecord::FREE,
         news: News::Asks(due),
-        reply: Reply::NONE,
+        reply: None,
     }
 }
 
@@ -54,32 +54,32 @@ pub(crate) fn opens(j: usize, file: FileRecord, due: Due) -> Change
 {
     Change {
         edit: Edit::Filed(j),
-        file: file,
+        file,
         news: News::Asks(due),
-        reply: Reply::NONE,
+        reply: None,
     }
 }
 
 // What the session owed is settled, and the status is all that happens.
-pub(crate) fn settles(status: Status, reply: Reply) -> Change
+pub(crate) fn settles(status: Status, reply: Option<Reply>) -> Change
     ensures { result ≡ settles status reply }
 {
     Change {
         edit: Edit::Same,
         file: FileRecord::FREE,
         news: News::Clears(Told::Status(status)),
-        reply: reply,
+        reply,
     }
 }
 
 // The session is dropped, and what it owed is cleared.
-pub(crate) fn drops(told: Told, reply: Reply) -> Change
+pub(crate) fn drops(told: Told, reply: Option<Reply>) -> Change
     ensures { result ≡ drops told reply }
 {
     Change {
         edit: Edit::Dropped,
         file: FileRecord::FREE,
         news: News::Clears(told),
-        reply: reply,
+        reply,
     }
 }

@@ -13,23 +13,20 @@ use crate::finish::finish;
 use crate::receives::{path, request};
 use crate::replies::session_reply;
 use command::Command;
-use protocol::{Change, Kind, Reply, Session, SessionState, Status, Told};
+use protocol::{Change, Kind, Session, SessionState, Status, Told};
 
 // A command, with its file's id and its name.
 #[tactic(auto, unfolding(protocol::specs::Rule::obeyed_by, protocol::specs::Receives::path_of))]
 pub fn obey(session: Session, command: Command, id: &[u8], name: &[u8]) -> Change
     ensures { result ≡ obeyed_by session (request command id.now name.now) }
 {
-    let state = session.state;
-    let action = command.action;
-    let payload = command.payload;
-    match look_up(state, action) {
+    match look_up(session.state, command.action) {
         Kind::Invalid => reject(session),
         Kind::Cancel => cancel(session),
-        Kind::Withdraw => drops(drop_told(state), Reply::NONE),
+        Kind::Withdraw => drops(drop_told(session.state), None),
         Kind::File => file(session, command, id, name),
-        Kind::Data => part(session, false, id, payload.len),
-        Kind::EndData => part(session, true, id, payload.len),
+        Kind::Data => part(session, false, id, command.payload.len),
+        Kind::EndData => part(session, true, id, command.payload.len),
         Kind::Finish => finish(session),
         Kind::Path => path(session, id, name),
         Kind::Request => request(id),
@@ -39,20 +36,22 @@ pub fn obey(session: Session, command: Command, id: &[u8], name: &[u8]) -> Chang
 
 // "EINVAL, nothing changed"
 fn reject(session: Session) -> Change
-    ensures { result ≡ tells (Told.Status Status.Einval) (session_reply Status.Einval session) }
+    ensures { result ≡ tells (Told.Status Status.Einval) (Some (session_reply Status.Einval session)) }
 {
     tells(
         Told::Status(Status::Einval),
-        session_reply(Status::Einval, session),
+        Some(session_reply(Status::Einval, session)),
     )
 }
 
 // "dropped, CANCELED"
 fn cancel(session: Session) -> Change
-    ensures { result ≡ drops (drop_told session) (session_reply Status.Canceled session) }
+    ensures { result ≡ drops (drop_told session) (Some (session_reply Status.Canceled session)) }
 {
-    let state = session.state;
-    drops(drop_told(state), session_reply(Status::Canceled, session))
+    drops(
+        drop_told(session.state),
+        Some(session_reply(Status::Canceled, session)),
+    )
 }
 
 // "an asked one as withdrawn, an open one .. as discarded"
@@ -60,12 +59,7 @@ fn drop_told(state: SessionState) -> Told
     ensures { result ≡ cond (is_open state) Told.Discarded Told.Withdrawn }
 {
     match state {
-        SessionState::Absent => Told::Withdrawn,
-        SessionState::Asked => Told::Withdrawn,
-        SessionState::Open => Told::Discarded,
-        SessionState::Naming => Told::Withdrawn,
-        SessionState::Waiting => Told::Withdrawn,
-        SessionState::Listing => Told::Discarded,
-        SessionState::Serving => Told::Discarded,
+        SessionState::Open | SessionState::Listing | SessionState::Serving => Told::Discarded,
+        _ => Told::Withdrawn,
     }
 }

@@ -9,39 +9,26 @@ const COUNT_LIMIT: u64 = 1099511627776;
 pub(crate) fn passes_limit(count: u64, n: usize) -> bool
     ensures { result ≡ ltb count_limit (count + n) }
 {
-    if count > COUNT_LIMIT {
-        return true;
-    }
-    (n as u64) > COUNT_LIMIT - count
+    count > COUNT_LIMIT || n as u64 > COUNT_LIMIT - count
 }
 
 // A count with n bytes more, at most 2^40.
 pub(crate) fn grow(count: u64, n: usize) -> u64
     ensures { result ≡ min (count + n) count_limit }
 {
-    if passes_limit(count, n) {
-        COUNT_LIMIT
-    } else {
-        count + (n as u64)
-    }
+    count.saturating_add(n as u64).min(COUNT_LIMIT)
 }
 
 // Whether a count passes the declared length, if there is one.
 pub(crate) fn passes_declared(declared: u64, count: u64) -> bool
     ensures { result ≡ passes declared count }
 {
-    if declared == 0 {
-        return false;
-    }
-    count > declared
+    declared != 0 && count > declared
 }
 
 // Whether the last part leaves a count short of the declared length.
 pub(crate) fn ends_short(last: bool, declared: u64, count: u64) -> bool
     ensures { result ≡ ends_short last declared count }
 {
-    if last {
-        return count < declared;
-    }
-    false
+    last && count < declared
 }

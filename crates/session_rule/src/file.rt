@@ -6,11 +6,10 @@ ghost use Rattle.protocol.specs.Files.{declared_by, is_directory, open_due, file
 
 use crate::changes::{opens, tells};
 use crate::files::{find_file, free_file};
-use crate::ids::padded;
 use crate::replies::file_reply;
 use command::{Command, FileType, Transmission};
 use decimal::Number;
-use protocol::{Change, Due, FileRecord, FileState, Found, Session, Status, Told};
+use protocol::{Change, Due, FileRecord, FileState, Id, Session, Status, Told};
 
 #[tactic(auto, unfolding(protocol::specs::Files::file_of))]
 pub(crate) fn file(session: Session, command: Command, id: &[u8], name: &[u8]) -> Change
@@ -23,12 +22,12 @@ pub(crate) fn file(session: Session, command: Command, id: &[u8], name: &[u8]) -
 pub(crate) fn if_new(session: Session, id: &[u8], change: Change) -> Change
     ensures { result ≡ if_new session id.now change }
 {
-    if id.len() == 0 {
+    if id.is_empty() {
         return file_status(session, id, Status::Einval);
     }
-    match find_file(session, id) {
-        Found::Nowhere => change,
-        Found::At(_) => file_status(session, id, Status::Eexist),
+    match find_file(&session.files, id) {
+        None => change,
+        Some(_) => file_status(session, id, Status::Eexist),
     }
 }
 
@@ -37,17 +36,10 @@ pub(crate) fn if_new(session: Session, id: &[u8], change: Change) -> Change
 fn checked(session: Session, command: Command, id: &[u8], name: &[u8]) -> Change
     ensures { result ≡ file_checked session (request command id.now name.now) }
 {
-    let file_type = command.file_type;
-    let transmission = command.transmission;
-    let permissions = command.permissions;
-    let size = command.size;
-    if is_unsupported(file_type, transmission) {
+    if is_unsupported(command.file_type, command.transmission) {
         return file_status(session, id, Status::Enotsup);
     }
-    if are_outside(permissions) {
-        return file_status(session, id, Status::Einval);
-    }
-    if is_bad_size(file_type, size) {
+    if are_outside(command.permissions) || is_bad_size(command.file_type, command.size) {
         return file_status(session, id, Status::Einval);
     }
     if pathname::is_valid(name) {
@@ -60,11 +52,10 @@ fn checked(session: Session, command: Command, id: &[u8], name: &[u8]) -> Change
 fn recorded(session: Session, command: Command, id: &[u8], name: &[u8]) -> Change
     ensures { result ≡ file_recorded session (request command id.now name.now) (first is_free session.files) }
 {
-    let file_type = command.file_type;
-    let declared = declared_by(file_type, command.size);
-    match free_file(session) {
-        Found::Nowhere => file_status(session, id, Status::Emfile),
-        Found::At(j) => opens(j, opening(id, declared), open_due(file_type, j)),
+    let declared = declared_by(command.file_type, command.size);
+    match free_file(&session.files) {
+        None => file_status(session, id, Status::Emfile),
+        Some(j) => opens(j, opening(id, declared), open_due(command.file_type, j)),
     }
 }
 
@@ -74,20 +65,18 @@ pub(crate) fn file_status(session: Session, id: &[u8], status: Status) -> Change
 {
     tells(
         Told::Status(status),
-        file_reply(status, session, opening(id, 0), 0),
+        Some(file_reply(status, session, opening(id, 0), 0)),
     )
 }
 
 pub(crate) fn opening(id: &[u8], declared: u64) -> FileRecord
     ensures { result ≡ opening id.now declared }
 {
-    let own = padded(id);
     FileRecord {
         state: FileState::Opening,
-        id: own,
-        id_len: id.len(),
+        id: Id::of(id),
         count: 0,
-        declared: declared,
+        declared,
     }
 }
 
@@ -104,55 +93,29 @@ fn open_due(file_type: FileType, j: usize) -> Due
 fn is_directory(file_type: FileType) -> bool
     ensures { result ≡ is_directory file_type }
 {
-    match file_type {
-        FileType::Regular => false,
-        FileType::Directory => true,
-        FileType::Symlink => false,
-        FileType::Link => false,
-    }
+    matches!(file_type, FileType::Directory)
 }
 
 // "symlink, link or rsync"
 fn is_unsupported(file_type: FileType, transmission: Transmission) -> bool
     ensures { result ≡ (link_like file_type || is_rsync transmission) }
 {
-    match file_type {
-        FileType::Regular => is_rsync(transmission),
-        FileType::Directory => is_rsync(transmission),
-        FileType::Symlink => true,
-        FileType::Link => true,
-    }
-}
-
-fn is_rsync(transmission: Transmission) -> bool
-    ensures { result ≡ is_rsync transmission }
-{
-    match transmission {
-        Transmission::Simple => false,
-        Transmission::Rsync => true,
-    }
+    matches!(file_type, FileType::Symlink | FileType::Link)
+        || matches!(transmission, Transmission::Rsync)
 }
 
 // "prm outside 0 to 4095"
 fn are_outside(permissions: Number) -> bool
     ensures { result ≡ bad_permissions permissions }
 {
-    if permissions.negative {
-        return true;
-    }
-    permissions.magnitude > 4095
+    permissions.negative || permissions.magnitude > 4095
 }
 
 // "For a regular file only .. a negative one is EINVAL"
 fn is_bad_size(file_type: FileType, size: Number) -> bool
     ensures { result ≡ bad_size file_type size }
 {
-    match file_type {
-        FileType::Regular => size.negative,
-        FileType::Directory => false,
-        FileType::Symlink => false,
-        FileType::Link => false,
-    }
+    matches!(file_type, FileType::Regular) && size.negative
 }
 
 // "a positive one declares the length, zero or none nothing"
@@ -160,15 +123,7 @@ fn declared_by(file_type: FileType, size: Number) -> u64
     ensures { result ≡ declared_by file_type size }
 {
     match file_type {
-        FileType::Regular => unless_negative(size),
-        FileType::Directory => 0,
-        FileType::Symlink => 0,
-        FileType::Link => 0,
+        FileType::Regular if !size.negative => size.magnitude,
+        _ => 0,
     }
-}
-
-fn unless_negative(size: Number) -> u64
-    ensures { result ≡ cond size.negative 0 size.magnitude }
-{
-    if size.negative { 0 } else { size.magnitude }
 }

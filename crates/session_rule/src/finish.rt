@@ -14,5 +14,8 @@ pub(crate) fn finish(session: Session) -> Change
     if session.started == 0 {
         return asks(Due::Commit);
     }
-    drops(Told::Discarded, session_reply(Status::Einval, session))
+    drops(
+        Told::Discarded,
+        Some(session_reply(Status::Einval, session)),
+    )
 }

@@ -16,7 +16,6 @@ pub mod decisions;
 mod file;
 mod files;
 mod finish;
-pub mod ids;
 mod receives;
 pub mod replies;
 mod settling;

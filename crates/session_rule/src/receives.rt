@@ -3,16 +3,14 @@ ghost use Rattle.std.specs.Prelude.{◌+◌, cond, ◌≡◌, ltb};
 ghost use Rattle.protocol.specs.Change.{change};
 ghost use Rattle.protocol.specs.Files.{if_new};
 ghost use Rattle.protocol.specs.Receives.{named, path_named, path_checked, request_of, out_of_turn, request_fails};
-ghost use Rattle.protocol.specs.Replies.{no_reply};
 ghost use Rattle.protocol.specs.Table.{no_file, first, is_free};
 
 use crate::changes::{opens, settles, tells};
 use crate::file::{file_status, if_new, opening};
 use crate::files::{file_at, free_file};
 use crate::replies::file_reply;
-use protocol::{
-    Change, Due, Edit, FileRecord, FileState, Found, News, Reply, Session, Status, Told,
-};
+use protocol::refusals::OUT_OF_TURN;
+use protocol::{Change, Due, Edit, FileRecord, FileState, News, Session, Status, Told};
 
 // "an empty or known fid or a bad name gets 01's status and doesn't count"
 pub(crate) fn path(session: Session, id: &[u8], name: &[u8]) -> Change
@@ -36,31 +34,31 @@ fn checked(session: Session, id: &[u8], name: &[u8]) -> Change
 fn counted(session: Session, id: &[u8]) -> Change
     ensures { result ≡ path_named session id.now (first is_free session.files) }
 {
-    match free_file(session) {
-        Found::Nowhere => file_status(session, id, Status::Emfile),
-        Found::At(j) => path_at(session.wanted, j, id),
+    match free_file(&session.files) {
+        None => file_status(session, id, Status::Emfile),
+        Some(j) => path_at(session.wanted, j, id),
     }
 }
 
 // "Only after the last is the user asked": with it the session waits, and keeps no path.
 fn path_at(wanted: u64, j: usize, id: &[u8]) -> Change
     ensures { result ≡ cond (ltb (j + 1) wanted)
-        (change (Edit.Filed j) (named id.now) (News.Tells Told.Path) no_reply)
-        (change Edit.Waits no_file (News.Tells Told.LastPath) no_reply) }
+        (change (Edit.Filed j) (named id.now) (News.Tells Told.Path) None)
+        (change Edit.Waits no_file (News.Tells Told.LastPath) None) }
 {
     if are_more(j, wanted) {
         return Change {
             edit: Edit::Filed(j),
             file: named(id),
             news: News::Tells(Told::Path),
-            reply: Reply::NONE,
+            reply: None,
         };
     }
     Change {
         edit: Edit::Waits,
         file: FileRecord::FREE,
         news: News::Tells(Told::LastPath),
-        reply: Reply::NONE,
+        reply: None,
     }
 }
 
@@ -68,11 +66,7 @@ fn path_at(wanted: u64, j: usize, id: &[u8]) -> Change
 fn are_more(j: usize, wanted: u64) -> bool
     ensures { result ≡ ltb (j + 1) wanted }
 {
-    let before = j as u64;
-    if before >= wanted {
-        return false;
-    }
-    before + 1 < wanted
+    (j as u64) < wanted.saturating_sub(1)
 }
 
 // "After that OK a file command is a request, without 01's checks, and an ask": its file is the
@@ -87,15 +81,17 @@ pub(crate) fn request(id: &[u8]) -> Change
 pub(crate) fn fail_request(session: Session, status: Status) -> Change
     ensures { result ≡ request_fails status session }
 {
-    let file = file_at(session, 0);
-    settles(status, file_reply(status, session, file, 0))
+    settles(
+        status,
+        Some(file_reply(status, session, file_at(&session.files, 0), 0)),
+    )
 }
 
 // "a new call out of turn or done for a request 18"
 pub(crate) fn out_of_turn() -> Change
     ensures { result ≡ out_of_turn }
 {
-    tells(Told::Refused(18), Reply::NONE)
+    tells(Told::Refused(OUT_OF_TURN), None)
 }
 
 // A path that is named, or a file that is asked for.

@@ -22,7 +22,15 @@ pub(crate) fn settle(
 ) -> Change
     ensures { result ≡ settled session j state count status size }
 {
-    put_back(session, j, file_at(session, j), state, count, status, size)
+    put_back(
+        session,
+        j,
+        file_at(&session.files, j),
+        state,
+        count,
+        status,
+        size,
+    )
 }
 
 // A part of n bytes was written: the count grows, and is replied.
@@ -35,7 +43,7 @@ pub(crate) fn settle_write(
 ) -> Change
     ensures { result ≡ settled session j state (grown session j n) status (grown session j n) }
 {
-    let file = file_at(session, j);
+    let file = file_at(&session.files, j);
     let count = grow(file.count, n);
     put_back(session, j, file, state, count, status, count)
 }
@@ -44,7 +52,7 @@ pub(crate) fn settle_write(
 pub(crate) fn fail_file(session: Session, j: usize, status: Status) -> Change
     ensures { result ≡ failed_file session j status }
 {
-    let file = file_at(session, j);
+    let file = file_at(&session.files, j);
     put_back(session, j, file, FileState::Failed, file.count, status, 0)
 }
 
@@ -58,16 +66,16 @@ fn put_back(
     status: Status,
     size: u64,
 ) -> Change
-    ensures { result ≡ files j (moved file state count) status (file_reply status session file size) }
+    ensures { result ≡ files j (moved file state count) status (Some (file_reply status session file size)) }
 {
     Change {
         edit: Edit::Filed(j),
         file: FileRecord {
-            state: state,
-            count: count,
+            state,
+            count,
             ..file
         },
         news: News::Clears(Told::Status(status)),
-        reply: file_reply(status, session, file, size),
+        reply: Some(file_reply(status, session, file, size)),
     }
 }

@@ -8,13 +8,12 @@ ghost use Rattle.protocol.specs.Receives.{bad_paths};
 ghost use Rattle.protocol.specs.Sessions.{asked_session, naming_session, absent_status, send_room, receive_room, absent_result};
 ghost use Rattle.sessions.specs.Leaving.{taken};
 
-use crate::find::free_session;
+use crate::find::free;
 use crate::next::{Next, still, tell};
 use command::Action;
 use decimal::Number;
-use protocol::{Found, Kind, Reply, Session, SessionState, Status, Table, Told};
+use protocol::{Id, Kind, Session, SessionState, Status, Table, Told};
 use session_rule::actions::look_up;
-use session_rule::ids::padded;
 use session_rule::replies::session_reply;
 
 // What a command does, by its action, its quiet, its size and its id.
@@ -32,9 +31,9 @@ pub(crate) fn absent(table: Table, action: Action, quiet: u64, size: Number, id:
 fn send(table: Table, session: Session) -> Next
     ensures { taken table result ≡ send_room table session (first is_absent table.sessions) }
 {
-    match free_session(table) {
-        Found::Nowhere => absent_status(table, session, Status::Ebusy),
-        Found::At(i) => placed(table, i, session, Told::Asked),
+    match free(&table.sessions) {
+        None => absent_status(table, session, Status::Ebusy),
+        Some(i) => placed(table, i, session, Told::Asked),
     }
 }
 
@@ -42,9 +41,9 @@ fn send(table: Table, session: Session) -> Next
 fn receive(table: Table, session: Session, paths: Number) -> Next
     ensures { taken table result ≡ receive_room table session paths (first is_absent table.sessions) }
 {
-    match free_session(table) {
-        Found::Nowhere => absent_status(table, session, Status::Ebusy),
-        Found::At(i) => receive_at(table, i, session, paths),
+    match free(&table.sessions) {
+        None => absent_status(table, session, Status::Ebusy),
+        Some(i) => receive_at(table, i, session, paths),
     }
 }
 
@@ -63,26 +62,19 @@ fn receive_at(table: Table, i: usize, session: Session, paths: Number) -> Next
 pub fn bad_paths(paths: Number) -> bool
     ensures { result ≡ bad_paths paths }
 {
-    if paths.negative {
-        return true;
-    }
-    if paths.magnitude == 0 {
-        return true;
-    }
-    paths.magnitude > 32
+    paths.negative || paths.magnitude == 0 || paths.magnitude > 32
 }
 
 // A new session at place i, and nothing else but something told.
 fn placed(table: Table, i: usize, session: Session, told: Told) -> Next
     ensures { taken table result ≡ telling (put_session table i session) told }
 {
-    let owed = table.owed;
     Next {
         place: i,
-        session: session,
-        owed: owed,
-        told: told,
-        reply: Reply::NONE,
+        session,
+        owed: table.owed,
+        told,
+        reply: None,
     }
 }
 
@@ -90,19 +82,21 @@ fn placed(table: Table, i: usize, session: Session, told: Told) -> Next
 fn absent_status(table: Table, session: Session, status: Status) -> Next
     ensures { taken table result ≡ absent_status table session status }
 {
-    still(table, Told::Status(status), session_reply(status, session))
+    still(
+        table,
+        Told::Status(status),
+        Some(session_reply(status, session)),
+    )
 }
 
 // The session that `send` makes.
 pub fn asked(quiet: u64, id: &[u8]) -> Session
     ensures { result ≡ asked_session quiet id.now }
 {
-    let own = padded(id);
     Session {
         state: SessionState::Asked,
-        quiet: quiet,
-        id: own,
-        id_len: id.len(),
+        quiet,
+        id: Id::of(id),
         ..Session::ABSENT
     }
 }
@@ -111,13 +105,11 @@ pub fn asked(quiet: u64, id: &[u8]) -> Session
 pub fn naming(session: Session, wanted: u64) -> Session
     ensures { result ≡ naming_session session wanted }
 {
-    let id = session.id;
     Session {
         state: SessionState::Naming,
         quiet: session.quiet,
-        id: id,
-        id_len: session.id_len,
-        wanted: wanted,
+        id: session.id,
+        wanted,
         ..Session::ABSENT
     }
 }

@@ -6,17 +6,14 @@ ghost use Rattle.protocol.specs.Table.{waiting, put_file};
 use crate::numbers::{done_bytes_with, started_with};
 use crate::places::emptied;
 use command::Place;
-use protocol::{Ask, Due, Edit, FileRecord, News, Owed, Session, SessionState, Told};
+use protocol::{Ask, Due, Edit, FileRecord, News, Session, SessionState, Told};
 
 pub(crate) fn edited(session: Session, file: FileRecord, edit: Edit) -> Session
     ensures { result ≡ edited session file edit }
 {
     match edit {
         Edit::Same => session,
-        Edit::Turned(state) => Session {
-            state: state,
-            ..session
-        },
+        Edit::Turned(state) => Session { state, ..session },
         Edit::Filed(j) => put_file(session, j, file),
         Edit::Waits => waiting(session),
         Edit::Dropped => emptied(session),
@@ -27,12 +24,10 @@ pub(crate) fn edited(session: Session, file: FileRecord, edit: Edit) -> Session
 fn waiting(session: Session) -> Session
     ensures { result ≡ waiting session }
 {
-    let id = session.id;
     Session {
         state: SessionState::Waiting,
         quiet: session.quiet,
-        id: id,
-        id_len: session.id_len,
+        id: session.id,
         wanted: session.wanted,
         ..emptied(session)
     }
@@ -49,7 +44,7 @@ fn put_file(session: Session, j: usize, file: FileRecord) -> Session
         Session {
             started: started_with(session.started, old, file),
             done_bytes: done_bytes_with(session.done_bytes, old, file),
-            files: files,
+            files,
             ..session
         }
     } else {
@@ -58,28 +53,23 @@ fn put_file(session: Session, j: usize, file: FileRecord) -> Session
 }
 
 // What is owed afterwards, the session's place being i.
-pub(crate) fn owed_after(owed: Owed, i: usize, news: News) -> Owed
+pub(crate) fn owed_after(owed: Option<(usize, Due)>, i: usize, news: News) -> Option<(usize, Due)>
     ensures { result ≡ owed_after owed i news }
 {
     match news {
         News::Tells(_) => owed,
         News::Clears(_) => clear(i, owed),
-        News::Asks(due) => Owed::For(i, due),
+        News::Asks(due) => Some((i, due)),
     }
 }
 
 // What the session at place i owed is cleared, and nothing that another owes.
-fn clear(i: usize, owed: Owed) -> Owed
+fn clear(i: usize, owed: Option<(usize, Due)>) -> Option<(usize, Due)>
     ensures { result ≡ cleared i owed }
 {
     match owed {
-        Owed::Nothing => Owed::Nothing,
-        Owed::For(k, _) => {
-            if k == i {
-                return Owed::Nothing;
-            }
-            owed
-        }
+        Some((k, _)) if k == i => None,
+        _ => owed,
     }
 }
 
@@ -87,8 +77,7 @@ pub(crate) fn told_by(payload: Place, news: News) -> Told
     ensures { result ≡ told_by payload news }
 {
     match news {
-        News::Tells(told) => told,
-        News::Clears(told) => told,
+        News::Tells(told) | News::Clears(told) => told,
         News::Asks(due) => Told::Ask(ask_of(payload, due)),
     }
 }
@@ -97,8 +86,7 @@ fn ask_of(payload: Place, due: Due) -> Ask
     ensures { result ≡ ask_of payload due }
 {
     match due {
-        Due::OpenFile(_) => Ask::Open,
-        Due::OpenDirectory(_) => Ask::Open,
+        Due::OpenFile(_) | Due::OpenDirectory(_) => Ask::Open,
         Due::Write(_, _) => Ask::Write(payload),
         Due::WriteLast(_, _) => Ask::WriteLast(payload),
         Due::Commit => Ask::Commit,

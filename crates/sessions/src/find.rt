@@ -1,65 +1,40 @@
-// Finding: a session by its id, and free room for a new one.
-ghost use Rattle.std.specs.Prelude.{◌≡◌, ◌&&◌, not, take};
-ghost use Rattle.octets.specs.Slices.{equals};
-ghost use Rattle.protocol.specs.Table.{first, is_present, is_absent, find_session};
+// Finding: a session by its id, and free room for a new one. The sessions are lent: a callee copies what
+// it is given.
+ghost use Rattle.std.specs.Prelude.{◌≡◌, not};
+ghost use Rattle.protocol.specs.Table.{first, has_id, is_present, is_absent, find_session};
 
-use protocol::{Found, SessionState, Table};
-use session_rule::ids::same_id;
+use protocol::{Session, SessionState, Table};
 
-pub fn find_session(table: Table, id: &[u8]) -> Found
+pub fn find_session(table: Table, id: &[u8]) -> Option<usize>
     ensures { result ≡ find_session table id.now }
 {
-    let mut i = 0;
-    while i < Table::SESSIONS {
-        let session = table.sessions[i];
-        let state = session.state;
-        let own = session.id;
-        if has_id(state, own, session.id_len, id) {
-            return Found::At(i);
-        }
-        i += 1;
-    }
-    Found::Nowhere
+    find(&table.sessions, id)
 }
 
-pub(crate) fn free_session(table: Table) -> Found
-    ensures { result ≡ first is_absent table.sessions }
+// The place of the session with an id.
+pub fn find(sessions: &[Session], id: &[u8]) -> Option<usize>
+    ensures { result ≡ first (has_id id.now) sessions.now }
 {
-    let mut i = 0;
-    while i < Table::SESSIONS {
-        let session = table.sessions[i];
-        let state = session.state;
-        if is_absent(state) {
-            return Found::At(i);
-        }
-        i += 1;
-    }
-    Found::Nowhere
+    sessions.iter().position(|session| has_id(session, id))
 }
 
-// Whether a session has the id, by its state and the first n bytes of its own.
-pub fn has_id(state: SessionState, own: [u8; 32], n: usize, id: &[u8]) -> bool
-    ensures { result ≡ (is_present state && equals (take n own) id.now) }
+// The first place that no session has.
+pub fn free(sessions: &[Session]) -> Option<usize>
+    ensures { result ≡ first is_absent sessions.now }
 {
-    if is_present(state) {
-        same_id(own, n, id)
-    } else {
-        false
-    }
+    sessions.iter().position(|session| is_absent(session.state))
+}
+
+fn has_id(session: &Session, id: &[u8]) -> bool
+    ensures { result ≡ has_id id.now session.now }
+{
+    is_present(session.state) && session.id.is(id)
 }
 
 fn is_present(state: SessionState) -> bool
     ensures { result ≡ is_present state }
 {
-    match state {
-        SessionState::Absent => false,
-        SessionState::Asked => true,
-        SessionState::Open => true,
-        SessionState::Naming => true,
-        SessionState::Waiting => true,
-        SessionState::Listing => true,
-        SessionState::Serving => true,
-    }
+    !matches!(state, SessionState::Absent)
 }
 
 pub fn is_absent(state: SessionState) -> bool

@@ -25,7 +25,8 @@ use command::{Command, Place};
 use find::find_session;
 use next::{Next, step, tell};
 use places::session_at;
-use protocol::{Decision, Failure, Found, Owed, Session, Table, Told};
+use protocol::refusals::{NO_SESSION, NOTHING_OWED, OUT_OF_TURN};
+use protocol::{Decision, Due, Failure, Session, Table, Told};
 use session_rule::{answers, commands, decisions};
 
 // What a command does, while nothing is owed; its ids stand in the text, its name in the scratch.
@@ -33,14 +34,10 @@ use session_rule::{answers, commands, decisions};
 pub fn obey(table: Table, command: Command, text: &[u8], scratch: &[u8]) -> Next
     ensures { taken table result ≡ obey_of table command text.now scratch.now }
 {
-    let place = command.id;
-    let action = command.action;
-    let size = command.size;
-    let owed = table.owed;
-    let id = octets::part(text, place.start, place.len);
+    let id = octets::part(text, command.id.start, command.id.len);
     match find_session(table, id) {
-        Found::Nowhere => absent(table, action, command.quiet, size, id),
-        Found::At(i) => present(session_at(table, i), i, owed, command, text, scratch),
+        None => absent(table, command.action, command.quiet, command.size, id),
+        Some(i) => present(session_at(table, i), i, table.owed, command, text, scratch),
     }
 }
 
@@ -48,7 +45,7 @@ pub fn obey(table: Table, command: Command, text: &[u8], scratch: &[u8]) -> Next
 pub fn present(
     session: Session,
     i: usize,
-    owed: Owed,
+    owed: Option<(usize, Due)>,
     command: Command,
     text: &[u8],
     scratch: &[u8],
@@ -58,30 +55,27 @@ pub fn present(
 {
     let file = command.file_id;
     let name = command.name;
-    let payload = command.payload;
     let change = commands::obey(
         session,
         command,
         octets::part(text, file.start, file.len),
         octets::part(scratch, name.start, name.len),
     );
-    step(session, i, owed, payload, change)
+    step(session, i, owed, command.payload, change)
 }
 
-// The console has done what it was asked.
+// The console has done what it was asked. `done`, `failed` and `unlisted` stay apart: one function over the
+// answer as a closure needs a ghost function that each of the three picks, which is no plainer.
 #[tactic(auto, unfolding(protocol::specs::Sessions::settle_done))]
 pub fn done(table: Table) -> Next
     ensures { taken table result ≡ settle_done table }
 {
-    let owed = table.owed;
-    match owed {
-        Owed::Nothing => tell(table, Told::Refused(11)),
-        Owed::For(i, due) => {
-            let session = session_at(table, i);
-            let change = answers::done(session, due);
-            step(session, i, owed, Place::NOWHERE, change)
-        }
-    }
+    let Some((i, due)) = table.owed else {
+        return tell(table, Told::Refused(NOTHING_OWED));
+    };
+    let session = session_at(table, i);
+    let change = answers::done(session, due);
+    step(session, i, table.owed, Place::NOWHERE, change)
 }
 
 // The console has failed to do what it was asked.
@@ -89,15 +83,12 @@ pub fn done(table: Table) -> Next
 pub fn failed(table: Table, failure: Failure) -> Next
     ensures { taken table result ≡ settle_failed table failure }
 {
-    let owed = table.owed;
-    match owed {
-        Owed::Nothing => tell(table, Told::Refused(11)),
-        Owed::For(i, due) => {
-            let session = session_at(table, i);
-            let change = answers::failed(failure, session, due);
-            step(session, i, owed, Place::NOWHERE, change)
-        }
-    }
+    let Some((i, due)) = table.owed else {
+        return tell(table, Told::Refused(NOTHING_OWED));
+    };
+    let session = session_at(table, i);
+    let change = answers::failed(failure, session, due);
+    step(session, i, table.owed, Place::NOWHERE, change)
 }
 
 // The console calls the file that it was asked for "a directory or not listed"; 18 where nothing is owed.
@@ -105,15 +96,12 @@ pub fn failed(table: Table, failure: Failure) -> Next
 pub fn unlisted(table: Table) -> Next
     ensures { taken table result ≡ settle_unlisted table }
 {
-    let owed = table.owed;
-    match owed {
-        Owed::Nothing => tell(table, Told::Refused(18)),
-        Owed::For(i, due) => {
-            let session = session_at(table, i);
-            let change = answers::unlisted(session, due);
-            step(session, i, owed, Place::NOWHERE, change)
-        }
-    }
+    let Some((i, due)) = table.owed else {
+        return tell(table, Told::Refused(OUT_OF_TURN));
+    };
+    let session = session_at(table, i);
+    let change = answers::unlisted(session, due);
+    step(session, i, table.owed, Place::NOWHERE, change)
 }
 
 // The console lets an asked session be open, turns it away, or drops one, asked or open.
@@ -121,23 +109,17 @@ pub fn unlisted(table: Table) -> Next
 pub fn decide(table: Table, decision: Decision, id: &[u8]) -> Next
     ensures { taken table result ≡ decided_of table decision id.now }
 {
-    let owed = table.owed;
-    match find_session(table, id) {
-        Found::Nowhere => tell(table, Told::Refused(12)),
-        Found::At(i) => {
-            let session = session_at(table, i);
-            let change = decisions::decide(decision, session);
-            step(session, i, owed, Place::NOWHERE, change)
-        }
-    }
+    let Some(i) = find_session(table, id) else {
+        return tell(table, Told::Refused(NO_SESSION));
+    };
+    let session = session_at(table, i);
+    let change = decisions::decide(decision, session);
+    step(session, i, table.owed, Place::NOWHERE, change)
 }
 
 // Whether the console owes an answer.
-pub fn is_owed(owed: Owed) -> bool
+pub fn is_owed(owed: Option<(usize, Due)>) -> bool
     ensures { result ≡ is_owed owed }
 {
-    match owed {
-        Owed::Nothing => false,
-        Owed::For(_, _) => true,
-    }
+    owed.is_some()
 }

@@ -1,31 +1,24 @@
 // The numbers kept of a session's files: what a record adds to them, and one record for another.
-ghost use Rattle.std.specs.Prelude.{cond, ◌≡◌, ◌-◌};
+ghost use Rattle.std.specs.Prelude.{cond, ◌≡◌};
 ghost use Rattle.protocol.specs.Table.{is_started_state, is_done, started_share, done_share, adjusted};
 
 use protocol::{FileRecord, FileState};
-
-// The largest number that is kept.
-const LARGEST: u64 = 18446744073709551615;
 
 // The number of started files, with a new record for an old one.
 pub(crate) fn started_with(kept: u64, old: FileRecord, new: FileRecord) -> u64
     ensures { result ≡ adjusted kept (started_share old) (started_share new) }
 {
-    let before = old.state;
-    let after = new.state;
-    adjusted(kept, started_share(before), started_share(after))
+    adjusted(kept, started_share(old.state), started_share(new.state))
 }
 
 // The sum of counts of done files, likewise.
 pub(crate) fn done_bytes_with(kept: u64, old: FileRecord, new: FileRecord) -> u64
     ensures { result ≡ adjusted kept (done_share old) (done_share new) }
 {
-    let before = old.state;
-    let after = new.state;
     adjusted(
         kept,
-        done_share(before, old.count),
-        done_share(after, new.count),
+        done_share(old.state, old.count),
+        done_share(new.state, new.count),
     )
 }
 
@@ -34,12 +27,8 @@ fn started_share(state: FileState) -> u64
     ensures { result ≡ cond (is_started_state state) 1 0 }
 {
     match state {
-        FileState::Free => 0,
-        FileState::Opening => 0,
         FileState::Started => 1,
-        FileState::Done => 0,
-        FileState::Failed => 0,
-        FileState::Named => 0,
+        _ => 0,
     }
 }
 
@@ -48,12 +37,8 @@ fn done_share(state: FileState, count: u64) -> u64
     ensures { result ≡ cond (is_done state) count 0 }
 {
     match state {
-        FileState::Free => 0,
-        FileState::Opening => 0,
-        FileState::Started => 0,
         FileState::Done => count,
-        FileState::Failed => 0,
-        FileState::Named => 0,
+        _ => 0,
     }
 }
 
@@ -62,16 +47,5 @@ fn done_share(state: FileState, count: u64) -> u64
 fn adjusted(kept: u64, old: u64, new: u64) -> u64
     ensures { result ≡ adjusted kept old new }
 {
-    let left = without(kept, old);
-    if new > LARGEST - left {
-        LARGEST
-    } else {
-        left + new
-    }
-}
-
-fn without(kept: u64, old: u64) -> u64
-    ensures { result ≡ kept - old }
-{
-    if kept > old { kept - old } else { 0 }
+    kept.saturating_sub(old).saturating_add(new)
 }

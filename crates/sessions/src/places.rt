@@ -2,7 +2,7 @@
 ghost use Rattle.std.specs.Prelude.{◌≡◌};
 ghost use Rattle.protocol.specs.Table.{absent_session, session_at};
 
-use protocol::{FileRecord, Session, SessionState, Table};
+use protocol::{FileRecord, Id, Session, SessionState, Table};
 
 pub fn session_at(table: Table, i: usize) -> Session
     ensures { result ≡ session_at table i }
@@ -14,26 +14,23 @@ pub fn session_at(table: Table, i: usize) -> Session
     }
 }
 
-// An absent session, stored over another: `Session::ABSENT` in one arm of a choice would take the
-// sessions of every arm apart, field by field.
+// An absent session, stored over another, free room by free room. Measured on a part of a file, by value:
+// `fill` took a third more time, and `Session::ABSENT` in one arm of a choice 5 % more instructions, since
+// it takes the sessions of every arm apart.
 pub(crate) fn emptied(session: Session) -> Session
     ensures { result ≡ absent_session }
 {
     let mut files = session.files;
-    let mut j = 0;
-    while j < Session::FILES {
+    for j in 0..Session::FILES {
         files[j] = FileRecord::FREE;
-        j += 1;
     }
-    let id = [0u8; 32];
     Session {
         state: SessionState::Absent,
         quiet: 0,
-        id: id,
-        id_len: 0,
+        id: Id::NONE,
         wanted: 0,
         started: 0,
         done_bytes: 0,
-        files: files,
+        files,
     }
 }

@@ -1,42 +1,40 @@
 -- What a read gives, and how a run stands.
-use Rattle.std.specs.Prelude.{ℕ, min, ◌<◌, ◌≤◌, ◌≡◌, Bool, true, false, List, length, take, Option, Result, Ok, Err}
+use Rattle.std.specs.Prelude.{ℕ, min, ◌<◌, ◌≤◌, ◌≡◌, Bool, true, false, List, length, take, Option, Some, None, Result, Ok, Err}
 use Rattle.std.specs.declared.io.Error.{Error}
 use Rattle.std.specs.declared.io.Stdout.{Stdout}
 use Rattle.std.specs.Io.KnownBytes.{Consumes, IsAtEnd}
 use Rattle.std.specs.Io.KnownBytes.{Keeps as KeepsBytes}
-use Rattle.streams.specs.declared.Got.{Got}
-use Rattle.streams.specs.declared.Got.TheVariants.{Bytes, Failed}
 use Rattle.streams.specs.declared.Run.{Run}
 use Rattle.streams.specs.declared.Run.TheVariants.{Well, NotRead, NotWritten, Stuck}
 
 -- what the answer to a read means: a number of bytes, or a failure
-abbrev pub got_of : Result ℕ Error → ℕ → Got
-got_of (Ok k) most = Bytes (min k most)
-got_of (Err e) most = Failed
+abbrev pub got_of : Result ℕ Error → ℕ → Option ℕ
+got_of (Ok k) most = Some (min k most)
+got_of (Err e) most = None
 
 -- `&xs[..n]` is in bounds and has n bytes: the second part follows from the first, and spares a caller a proof file
 abbrev pub IsPrefixLen : ℕ → List ℕ → Type 0
 IsPrefixLen n xs = (n ≤ length xs) × (n ≡ length (take n xs))
 
 -- the bytes read stand at the start of the buffer
-abbrev pub Within : Got → List ℕ → Type 0
-Within (Bytes n) xs = IsPrefixLen n xs
-Within Failed xs = Unit {0}
+abbrev pub Within : Option ℕ → List ℕ → Type 0
+Within (Some n) xs = IsPrefixLen n xs
+Within None xs = Unit {0}
 
 -- where a reader knows its bytes: one read took those that stand at the start of the buffer, none of them only at the end
 -- or with no room, and one that failed took none
-abbrev pub ReadsOnce : (old new : Option (List ℕ)) → Got → List ℕ → Type 0
-ReadsOnce old new (Bytes n) xs = Consumes old new (take n xs) × (n ≡ 0 → 0 < length xs → IsAtEnd new)
-ReadsOnce old new Failed xs = KeepsBytes old new
+abbrev pub ReadsOnce : (old new : Option (List ℕ)) → Option ℕ → List ℕ → Type 0
+ReadsOnce old new (Some n) xs = Consumes old new (take n xs) × (n ≡ 0 → 0 < length xs → IsAtEnd new)
+ReadsOnce old new None xs = KeepsBytes old new
 
 -- likewise of reads that gave n bytes until the buffer was full: where it is not, nothing is left
 abbrev pub Fills : (old new : Option (List ℕ)) → ℕ → List ℕ → Type 0
 Fills old new n xs = Consumes old new (take n xs) × (n < length xs → IsAtEnd new)
 
 -- the same of what they are answered by; of reads of which one failed nothing is said
-abbrev pub ReadsOn : (old new : Option (List ℕ)) → Got → List ℕ → Type 0
-ReadsOn old new (Bytes n) xs = Fills old new n xs
-ReadsOn old new Failed xs = Unit {0}
+abbrev pub ReadsOn : (old new : Option (List ℕ)) → Option ℕ → List ℕ → Type 0
+ReadsOn old new (Some n) xs = Fills old new n xs
+ReadsOn old new None xs = Unit {0}
 
 abbrev pub is_well : Run → Bool
 is_well (Well out) = true

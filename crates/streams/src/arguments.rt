@@ -32,8 +32,5 @@ pub fn argument_count(env: &impl Env) -> usize {
 }
 
 fn is_missing(env: &impl Env, i: usize) -> bool {
-    match env.arg(i, &mut []) {
-        Err(FillError::NotPresent) => true,
-        _ => false,
-    }
+    matches!(env.arg(i, &mut []), Err(FillError::NotPresent))
 }

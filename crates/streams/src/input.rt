@@ -1,28 +1,28 @@
-// Reading, from standard input or another reader.
+// Reading, from standard input or another reader: how many bytes were read to the start of the buffer, 0 at
+// the end of the input; or None where a read failed.
 ghost use Rattle.std.specs.Prelude.{length, ◌≡◌, IfOk};
 ghost use Rattle.std.specs.Io.{ReadsAtMost};
 ghost use Rattle.streams.specs.Streams.{Within, got_of, ReadsOnce, ReadsOn, Fills};
 
-use crate::Got;
 use std::io;
 use std::io::{Read, Stdin};
 
 // One read of standard input.
-pub fn read(mut input: Stdin, buf: &mut [u8]) -> Got
+pub fn read(mut input: Stdin, buf: &mut [u8]) -> Option<usize>
     ensures { Within result buf.new }
 {
     read_from(&mut input, buf)
 }
 
 // Reads standard input until the buffer is full or the input ends.
-pub fn read_all(mut input: Stdin, buf: &mut [u8]) -> Got
+pub fn read_all(mut input: Stdin, buf: &mut [u8]) -> Option<usize>
     ensures { Within result buf.new }
 {
     read_all_from(&mut input, buf)
 }
 
 // One read of a reader.
-pub fn read_from<R: Read>(input: &mut R, buf: &mut [u8]) -> Got
+pub fn read_from<R: Read>(input: &mut R, buf: &mut [u8]) -> Option<usize>
     ensures within { Within result buf.new }
     ensures bytes { ReadsOnce (R.remaining input.old) (R.remaining input.new) result buf.new }
 {
@@ -31,7 +31,7 @@ pub fn read_from<R: Read>(input: &mut R, buf: &mut [u8]) -> Got
 }
 
 // Reads a reader until the buffer is full or the input ends.
-pub fn read_all_from<R: Read>(input: &mut R, buf: &mut [u8]) -> Got
+pub fn read_all_from<R: Read>(input: &mut R, buf: &mut [u8]) -> Option<usize>
     ensures within { Within result buf.new }
     ensures bytes { ReadsOn (R.remaining input.old) (R.remaining input.new) result buf.new }
 {
@@ -56,11 +56,11 @@ pub fn fill<R: Read>(input: &mut R, buf: &mut [u8]) -> io::Result<usize>
 }
 
 // What the answer to a read means.
-fn counted(answer: io::Result<usize>, buf: &[u8]) -> Got
+fn counted(answer: io::Result<usize>, buf: &[u8]) -> Option<usize>
     ensures { result ≡ got_of answer (length buf.now) }
 {
     match answer {
-        Ok(n) => Got::Bytes(n.min(buf.len())),
-        Err(_) => Got::Failed,
+        Ok(n) => Some(n.min(buf.len())),
+        Err(_) => None,
     }
 }

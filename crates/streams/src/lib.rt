@@ -10,6 +10,7 @@ mod arguments;
 mod files;
 mod hex;
 mod input;
+mod numbers;
 mod output;
 mod said;
 #[cfg(test)]
@@ -18,18 +19,13 @@ mod tests;
 pub use arguments::{argument, argument_count};
 pub use files::{open_read, path_text};
 pub use input::{fill, read, read_all, read_all_from, read_from};
-pub use said::{say, say_error, say_hex, say_number};
+pub use numbers::put_number;
+pub use said::{say, say_end, say_error, say_hex, say_number};
 use std::io::Stdout;
 
-// How many bytes were read to the start of the buffer, 0 at the end of the input; or a failure.
-#[derive(Clone, Copy)]
-pub enum Got {
-    Bytes(usize),
-    Failed,
-}
-
 // How a run stands: well, or the first thing that failed. Only a run that is well has standard output to
-// write to, so that nothing is written once something failed.
+// write to, so that nothing is written once something failed. It is no Result: programs keep it in their
+// state from call to call and go on after a failure, and each would rebuild that state around a `?`.
 #[derive(Clone, Copy)]
 pub enum Run {
     Well(Stdout),

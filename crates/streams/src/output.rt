@@ -12,12 +12,7 @@ impl Run {
     pub fn is_well(self) -> bool
         ensures { result ≡ is_well self }
     {
-        match self {
-            Run::Well(_) => true,
-            Run::NotRead => false,
-            Run::NotWritten => false,
-            Run::Stuck => false,
-        }
+        matches!(self, Run::Well(_))
     }
 
     // Writes the bytes as they are.
@@ -58,11 +53,10 @@ impl Run {
     fn out(self) -> Option<Stdout>
         ensures { MatchOption result (is_well self ≡ false) (λ out. self ≡ Run.Well out) }
     {
-        match self {
-            Run::Well(out) => Some(out),
-            Run::NotRead => None,
-            Run::NotWritten => None,
-            Run::Stuck => None,
+        if let Run::Well(out) = self {
+            Some(out)
+        } else {
+            None
         }
     }
 

@@ -1,7 +1,7 @@
 // What is said on standard error. Where it cannot be written, nothing more can be said.
 use crate::hex::Hex;
 use std::io;
-use std::io::{Stderr, Write};
+use std::io::{IsTerminal, Stderr, Write};
 
 // The bytes as they are.
 pub fn say(err: Stderr, s: &[u8]) {
@@ -11,6 +11,14 @@ pub fn say(err: Stderr, s: &[u8]) {
 // A number in decimal.
 pub fn say_number(err: Stderr, n: u64) {
     let _ = Print::print(&err, n);
+}
+
+// The end of a line. A terminal may be in raw mode, in which a line's end does not return to its start.
+pub fn say_end(err: Stderr) {
+    if err.is_terminal() {
+        say(err, b"\r");
+    }
+    say(err, b"\n");
 }
 
 // The bytes in lower-case hex.

@@ -10,7 +10,7 @@ use lib.Dec.{leb}
 use borrow.Author.Tests.{le-leb, leb-true, leb-false}
 use Rattle.octets.specs.Outcome.{Outcome}
 use Rattle.octets.specs.Slices.{copy_at}
-use Rattle.octets.specs.declared.Stored.{Stored}
+use Rattle.std.specs.Prelude.{Option}
 use Rattle.octets.proofs.Stores.{part-stored, part-kept}
 use Rattle.command.specs.Values.{Value}
 use Rattle.command.specs.Slots.{bytes_at}
@@ -39,11 +39,11 @@ take-least own n h = go (leb n 32) refl
         rw (m, take_all 32 own (omega arith), take_all n own (omega arith))
 
 -- two strings that were copied one after the other
-pub both-copied : (n at : ℕ) (first second : List ℕ) (o p : Outcome Stored) → o ≡ copy_at first (replicate n 0) 0
+pub both-copied : (n at : ℕ) (first second : List ℕ) (o p : Outcome (Option ℕ)) → o ≡ copy_at first (replicate n 0) 0
     → p ≡ copy_at second o.buffer at → p.buffer ≡ both_in n at first second
 unfolding both_in
 both-copied n at first second o p e f =
-    ap (λ (q : Outcome Stored). q.buffer) f ∙ ap (λ (q : Outcome Stored). (copy_at second q.buffer at).buffer) e
+    ap (λ (q : Outcome (Option ℕ)). q.buffer) f ∙ ap (λ (q : Outcome (Option ℕ)). (copy_at second q.buffer at).buffer) e
 
 module _ (n at : ℕ) (first second : List ℕ) (h : length first ≤ at) (l : at + length second ≤ n) where
   abbrev zeros : List ℕ

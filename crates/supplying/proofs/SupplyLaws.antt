@@ -7,26 +7,24 @@ use native.Mathlib.Omega.{arith}
 use lib.ListN.{length, set, replicate, length-replicate}
 use lib.Seq.{set-get_or}
 use lib.Dec.{ltb}
+use Rattle.std.specs.Prelude.{None, Option, Some}
 use Rattle.octets.specs.Outcome.{Outcome, outcome}
 use Rattle.command.specs.Write.{Answer}
 use Rattle.command.specs.Framed.{frame_room, framed_of}
 use Rattle.protocol.specs.Table.{no_session, session_at, find_session}
 use Rattle.protocol.specs.Change.{stepped}
 use Rattle.protocol.specs.Calls.{answered_by}
-use Rattle.protocol.specs.Replies.{no_reply}
 use Rattle.protocol.specs.Supplies.{Supply, values_for, is_over, is_listing, listing_at, turn_of, passes_home, framed_for, is_held_back}
 use Rattle.protocol.specs.Supplies.{refused_with, wrote_at, supplied_at, supply_of}
 use Rattle.protocol.specs.declared.Session.{Session}
 use Rattle.protocol.specs.declared.Table.{Table}
 use Rattle.protocol.specs.declared.Receiver.{Receiver}
-use Rattle.protocol.specs.declared.Status.TheVariants as Status
 use Rattle.protocol.specs.declared.Answered.{Answered}
-use Rattle.protocol.specs.declared.Found.{Found}
 use Rattle.protocol.proofs.Frames.{refused-same-buffer, written_same}
 use Rattle.supplying.specs.Supplied.{supply_in, unsupplied, taken_in, found_in, supplied_in}
 use Rattle.supplying.specs.Turns.{is_part, concerned, seat_of, in_turn}
 use Rattle.supplying.specs.declared.Supplying.{Supplying}
-use Rattle.supplying.specs.declared.Supplied.{Supplied}
+use Rattle.supplying.specs.declared.Left.{Left}
 
 -- ---- the writer
 framed-same : (s : Session) (u : Supply) (out out' : List ℕ) → frame_room ≤ length out → frame_room ≤ length out'
@@ -56,22 +54,22 @@ refused-same s u out n = go (passes_home u)
 
 -- ---- put back
 -- what a call leaves, at a place of the table
-abbrev pub put_back : Receiver → ℕ → Outcome Supplied → Outcome Answered
+abbrev pub put_back : Receiver → ℕ → Outcome Left → Outcome Answered
 put_back r i x =
     let a = x.answer in
     outcome (answered_by r.framing
-    (stepped (record { sessions = set r.table.sessions i a.session; owed = a.owed }) a.told no_reply) a.written) x.buffer
+    (stepped (record { sessions = set r.table.sessions i a.session; owed = a.owed }) a.told None) a.written) x.buffer
 
 -- a session's place; where none is found, any
-pub data Sits : Found → ℕ → Type 0 where
-  none : (k : ℕ) → Sits Found.Nowhere k
-  there : (i : ℕ) → Sits (Found.At i) i
+pub data Sits : Option ℕ → ℕ → Type 0 where
+  none : (k : ℕ) → Sits None k
+  there : (i : ℕ) → Sits (Some i) i
 
-sits-there : (f : Found) → Sits f (seat_of f)
-sits-there Found.Nowhere = Sits.none 0
-sits-there (Found.At i) = Sits.there i
+sits-there : (f : Option ℕ) → Sits f (seat_of f)
+sits-there None = Sits.none 0
+sits-there (Some i) = Sits.there i
 
-sits-chosen : (b : Bool) (f : Found) → Sits (cond b f Found.Nowhere) (seat_of f)
+sits-chosen : (b : Bool) (f : Option ℕ) → Sits (cond b f None) (seat_of f)
 sits-chosen true f = sits-there f
 sits-chosen false f = Sits.none (seat_of f)
 
@@ -98,7 +96,7 @@ module _ (r : Receiver) (u : Supply) (out : List ℕ) where
       go false h (Answer.refused n) w = rw (h, w, refused-same s u out n w) (refuses i n)
       go false h (Answer.written n) w = rw (w, h)
 
-  found : {f : Found} {k : ℕ} → Sits f k → put_back r k (found_in u f (session_at t k) t.owed out) ≡ supplied_at r u out f
+  found : {f : Option ℕ} {k : ℕ} → Sits f k → put_back r k (found_in u f (session_at t k) t.owed out) ≡ supplied_at r u out f
   found (Sits.none k) = refuses k 18
   found (Sits.there i) = takes i
 
@@ -115,16 +113,16 @@ module _ (r : Receiver) (u : Supply) (out : List ℕ) where
       go false e false o = rw (e, o) (found h)
 
 -- ---- in turn
-listing : (t : Table) {f : Found} {k : ℕ} → Sits f k → cond (is_listing (session_at t k).state) f Found.Nowhere ≡ listing_at t f
+listing : (t : Table) {f : Option ℕ} {k : ℕ} → Sits f k → cond (is_listing (session_at t k).state) f None ≡ listing_at t f
 listing t (Sits.none k) = go (is_listing (session_at t k).state)
   where
-    go : (b : Bool) → cond b Found.Nowhere Found.Nowhere ≡ Found.Nowhere
+    go : (b : Bool) → cond {A = Option ℕ} b None None ≡ None
     go true = refl
     go false = refl
 listing t (Sits.there i) = refl
 
 module _ (x : Supplying) (text : List ℕ) where
-  abbrev at : Table → Found
+  abbrev at : Table → Option ℕ
   at t = concerned x t.owed text (find_session t)
 
   -- the session that is found, and then its state

@@ -14,6 +14,7 @@ use Rattle.command.specs.Write.{Answer}
 use Rattle.command.specs.Framed.{framed_of}
 use Rattle.command.specs.declared.Action.{Action}
 use Rattle.command.specs.declared.Place.{Place}
+use Rattle.command.specs.declared.Command.{Command}
 use Rattle.protocol.specs.Written.{values_with, piece_action, piece_values}
 use Rattle.protocol.specs.Supplies.{Supply, home_room, home_values, framed_for}
 use Rattle.protocol.specs.Table.{no_file, id_of, file_id_of}
@@ -60,3 +61,15 @@ pub part-framed : (s : Session) (d : FileRecord) (bytes : List ℕ) (last : Bool
     → o ≡ framed_for s (Supply.part last bytes) out
 unfolding framed_for
 part-framed s d bytes last out o h e = rw (← first-inside s.files 31 d no_file h) e
+
+-- the same by what was written of it: its ids, its command and both together
+pub part-written : (s : Session) (d : FileRecord) (last : Bool) (bytes out ids : List ℕ) (k : Command) (o : Outcome Answer)
+    → length s.files ≡ 32 → length s.id.bytes ≡ 32 → ids ≡ ids_of s.id.bytes (get_or s.files 0 d).id.bytes
+    → length (get_or s.files 0 d).id.bytes ≡ 32
+    → k ≡ command_with (piece_action last) (up_to (min s.id.len 32)) (from 32 (min (get_or s.files 0 d).id.len 32)) nowhere nowhere
+    (up_to (length bytes))
+    → o ≡ framed_of (values_of k ids bytes) out → o ≡ framed_for s (Supply.part last bytes) out
+part-written s d last bytes out ids k o files own ids-is file k-is e =
+    let f = get_or s.files 0 d in
+    part-framed s d bytes last out o files
+    (rw (k-is, ids-is, part-values s.id.bytes f.id.bytes s.id.len f.id.len bytes last own file) at e)

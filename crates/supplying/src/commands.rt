@@ -1,5 +1,5 @@
 // The commands that are written, by places, and the slice in which a part's ids stand.
-ghost use Rattle.std.specs.Prelude.{◌≡◌, min};
+ghost use Rattle.std.specs.Prelude.{◌≡◌, length, min};
 ghost use Rattle.command.specs.Slots.{nowhere};
 ghost use Rattle.protocol.specs.Written.{piece_action};
 ghost use Rattle.protocol.specs.Supplies.{entry_command, error_command};
@@ -7,38 +7,24 @@ ghost use Rattle.protocol.specs.Table.{id_room};
 ghost use Rattle.supplying.specs.Places.{up_to, from, command_with, ids_of};
 
 use command::{Action, Command, Place};
-use octets::size::least;
-use protocol::Entry;
-
-// "at most 32 bytes" of an id: the length of its array.
-pub(crate) const ID_ROOM: usize = 32;
+use protocol::{Entry, Id};
 
 // A file of the listing.
 pub(crate) fn entry(entry: Entry) -> Command
     ensures { result ≡ entry_command entry }
 {
-    let file_type = entry.file_type;
-    let modified = entry.modified;
-    let permissions = entry.permissions;
-    let size = entry.size;
-    let id = entry.id;
-    let path_id = entry.path_id;
-    let name = entry.name;
-    let own_id = entry.own_id;
-    let parent = entry.parent;
-    let target = entry.target;
     Command {
         action: Action::File,
-        file_type: file_type,
-        id: id,
-        file_id: path_id,
-        modified: modified,
-        permissions: permissions,
-        size: size,
-        name: name,
-        status: own_id,
-        parent: parent,
-        payload: target,
+        file_type: entry.file_type,
+        id: entry.id,
+        file_id: entry.path_id,
+        modified: entry.modified,
+        permissions: entry.permissions,
+        size: entry.size,
+        name: entry.name,
+        status: entry.own_id,
+        parent: entry.parent,
+        payload: entry.target,
         ..Command::NONE
     }
 }
@@ -49,7 +35,7 @@ pub(crate) fn error(id: Place, path_id: Place, n: usize) -> Command
 {
     Command {
         action: Action::Status,
-        id: id,
+        id,
         file_id: path_id,
         status: Place { start: 0, len: n },
         ..Command::NONE
@@ -77,16 +63,15 @@ pub(crate) fn piece(last: bool, id: usize, file_id: usize, bytes: usize) -> Comm
     ensures { result
         ≡ command_with (piece_action last) (up_to (min id id_room)) (from id_room (min file_id id_room)) nowhere nowhere (up_to bytes) }
 {
-    let action = piece_action(last);
     Command {
-        action: action,
+        action: if last { Action::EndData } else { Action::Data },
         id: Place {
             start: 0,
-            len: least(id, ID_ROOM),
+            len: id.min(Id::ROOM),
         },
         file_id: Place {
-            start: ID_ROOM,
-            len: least(file_id, ID_ROOM),
+            start: Id::ROOM,
+            len: file_id.min(Id::ROOM),
         },
         payload: Place {
             start: 0,
@@ -96,18 +81,13 @@ pub(crate) fn piece(last: bool, id: usize, file_id: usize, bytes: usize) -> Comm
     }
 }
 
-fn piece_action(last: bool) -> Action
-    ensures { result ≡ piece_action last }
-{
-    if last { Action::EndData } else { Action::Data }
-}
-
 // The session's id and then the file's.
-pub(crate) fn ids(own: [u8; ID_ROOM], file: [u8; ID_ROOM]) -> [u8; 2 * ID_ROOM]
-    ensures { result ≡ ids_of own file }
+pub(crate) fn ids(own: &Id, file: &Id) -> [u8; 2 * Id::ROOM]
+    ensures ids { result ≡ ids_of own.now.bytes file.now.bytes }
+    ensures lengths { (length own.now.bytes ≡ id_room) × (length file.now.bytes ≡ id_room) }
 {
-    let mut ids = [0u8; 2 * ID_ROOM];
-    octets::copy_at(&own, &mut ids, 0);
-    octets::copy_at(&file, &mut ids, ID_ROOM);
+    let mut ids = [0u8; 2 * Id::ROOM];
+    octets::copy_at(&own.bytes, &mut ids, 0);
+    octets::copy_at(&file.bytes, &mut ids, Id::ROOM);
     ids
 }

@@ -5,7 +5,6 @@
 // No public function has a `requires`: any session, any place and any slices are answered.
 #![tactic(auto)]
 
-mod changes;
 mod commands;
 pub mod turns;
 mod writers;
@@ -15,14 +14,16 @@ ghost use Rattle.octets.specs.Outcome.{outcome};
 ghost use Rattle.command.specs.Slots.{nowhere};
 ghost use Rattle.command.specs.Write.{answered};
 ghost use Rattle.command.specs.Framed.{frame_room};
-ghost use Rattle.protocol.specs.Supplies.{is_over, framed_for, is_held_back};
+ghost use Rattle.protocol.specs.Supplies.{is_over, framed_for, is_held_back, change_for};
 ghost use Rattle.sessions.specs.Leaving.{next_by};
-ghost use Rattle.supplying.specs.Supplied.{supply_in, held_answer, unsupplied, settled_by, taken_in, supplied_in};
+ghost use Rattle.supplying.specs.Supplied.{given_in, held_answer, unsupplied, settled_by, taken_in, supplied_in};
 
-use changes::change_for;
-use command::{Place, Written};
+use command::{Place, Refusal};
 use command_writer::framed::FRAME_ROOM;
-use protocol::{Change, Entry, Failure, FileRecord, Found, Owed, Session, Status, Told};
+use protocol::refusals::{OUT_OF_TURN, OVER_LIMIT, SHORT_BUFFER};
+use protocol::{
+    Change, Due, Edit, Entry, Failure, FileRecord, News, Session, SessionState, Status, Told,
+};
 use reply::is_held;
 use sessions::next::step;
 
@@ -39,157 +40,163 @@ pub enum Supplying {
     Part(bool),
 }
 
+// What is supplied, with its two slices.
+#[derive(Clone, Copy)]
+pub struct Given<'a> {
+    pub supplying: Supplying,
+    pub text: &'a [u8],
+    pub contents: &'a [u8],
+}
+
 // What a call leaves: the session to put back, what is owed, what is told, and how many bytes of the
 // buffer were written.
 #[derive(Clone, Copy)]
-pub struct Supplied {
+pub struct Left {
     pub session: Session,
-    pub owed: Owed,
+    pub owed: Option<(usize, Due)>,
     pub told: Told,
     pub written: usize,
 }
 
 // Supplies something in the session that was found in turn. 9 comes first, then 17, 18, and the writer's
 // refusals; a refused call changes nothing.
-pub fn supply_at<'a>(
-    supplying: Supplying,
-    found: Found,
+pub fn supply_at(
+    given: Given<'_>,
+    found: Option<usize>,
     session: Session,
-    owed: Owed,
-    text: &'a [u8],
-    contents: &'a [u8],
+    owed: Option<(usize, Due)>,
     out: &mut [u8],
-) -> Supplied
-    ensures { outcome result out.new
-        ≡ supplied_in (supply_in supplying text.now contents.now) found session owed out.old }
+) -> Left
+    ensures { outcome result out.new ≡ supplied_in (given_in given.entry) found session owed out.old }
 {
     if out.len() < FRAME_ROOM {
-        return unsupplied(session, owed, 9);
+        return unsupplied(session, owed, SHORT_BUFFER);
     }
-    if is_over(supplying, contents) {
-        return unsupplied(session, owed, 17);
+    if given.is_over() {
+        return unsupplied(session, owed, OVER_LIMIT);
     }
-    match found {
-        Found::Nowhere => unsupplied(session, owed, 18),
-        Found::At(i) => take(supplying, i, session, owed, text, contents, out),
-    }
+    let Some(i) = found else {
+        return unsupplied(session, owed, OUT_OF_TURN);
+    };
+    take(given, i, session, owed, out)
 }
 
 // Nothing is changed.
-fn unsupplied(session: Session, owed: Owed, number: u8) -> Supplied
+fn unsupplied(session: Session, owed: Option<(usize, Due)>, number: u8) -> Left
     ensures { result ≡ unsupplied session owed number }
 {
-    Supplied {
-        session: session,
-        owed: owed,
+    Left {
+        session,
+        owed,
         told: Told::Refused(number),
         written: 0,
     }
 }
 
-// "A part over 4,096 bytes gets 17"
-fn is_over(supplying: Supplying, contents: &[u8]) -> bool
-    ensures { (text : List ℕ) → result ≡ is_over (supply_in supplying text contents.now) }
-{
-    match supplying {
-        Supplying::List(_) => false,
-        Supplying::ListFailed(_, _, _) => false,
-        Supplying::Home => false,
-        Supplying::Part(_) => contents.len() > FileRecord::PART_LIMIT,
-    }
-}
-
 // In turn: it is written, or held back.
-fn take<'a>(
-    supplying: Supplying,
+fn take(
+    given: Given<'_>,
     i: usize,
     session: Session,
-    owed: Owed,
-    text: &'a [u8],
-    contents: &'a [u8],
+    owed: Option<(usize, Due)>,
     out: &mut [u8],
-) -> Supplied
+) -> Left
     requires { frame_room ≤ length out.old }
-    ensures { outcome result out.new
-        ≡ taken_in (supply_in supplying text.now contents.now) i session owed out.old }
+    ensures { outcome result out.new ≡ taken_in (given_in given.entry) i session owed out.old }
 {
-    let change = change_for(supplying);
-    if is_held_back(supplying, session.quiet) {
-        let written = write_nowhere(supplying, session, text, contents);
-        return settle(i, session, owed, change, written);
-    }
-    let written = write(supplying, session, text, contents, out);
-    settle(i, session, owed, change, written)
+    let written = if given.is_held_back(&session) {
+        given.write_nowhere(&session)
+    } else {
+        given.write(&session, out)
+    };
+    settle(i, session, owed, given.change(), written)
 }
 
-// "Quiet holds back only status replies", and every failure's as any other's.
-fn is_held_back(supplying: Supplying, quiet: u64) -> bool
-    ensures { (s : Session) (text contents : List ℕ) → s.quiet ≡ quiet
-        → result ≡ is_held_back s (supply_in supplying text contents) }
-{
-    match supplying {
-        Supplying::List(_) => false,
-        Supplying::ListFailed(_, _, _) => is_held(Status::Eio, quiet),
-        Supplying::Home => is_held(Status::Ok, quiet),
-        Supplying::Part(_) => false,
+impl Given<'_> {
+    // "A part over 4,096 bytes gets 17"
+    fn is_over(&self) -> bool
+        ensures { result ≡ is_over (given_in self.now) }
+    {
+        matches!(self.supplying, Supplying::Part(_)) && self.contents.len() > FileRecord::PART_LIMIT
     }
-}
 
-// The writer's refusal of what is held back; where there is none, no byte counts as written.
-fn write_nowhere<'a>(
-    supplying: Supplying,
-    session: Session,
-    text: &'a [u8],
-    contents: &'a [u8],
-) -> Written
-    ensures { (out : List ℕ) → frame_room ≤ length out → answered result
-        ≡ held_answer (framed_for session (supply_in supplying text.now contents.now) out).answer }
-{
-    let mut out = [0u8; FRAME_ROOM];
-    match write(supplying, session, text, contents, &mut out) {
-        Written::Length(_) => Written::Length(0),
-        Written::Refused(refusal) => Written::Refused(refusal),
-    }
-}
-
-// Writes it, in turn or not.
-fn write<'a>(
-    supplying: Supplying,
-    session: Session,
-    text: &'a [u8],
-    contents: &'a [u8],
-    out: &mut [u8],
-) -> Written
-    ensures { outcome (answered result) out.new
-        ≡ framed_for session (supply_in supplying text.now contents.now) out.old }
-{
-    match supplying {
-        Supplying::List(entry) => writers::write_entry(entry, text, contents, out),
-        Supplying::ListFailed(id, path_id, failure) => {
-            writers::write_error(text, id, path_id, failure, out)
+    // "Quiet holds back only status replies", and every failure's as any other's.
+    fn is_held_back(&self, session: &Session) -> bool
+        ensures { result ≡ is_held_back session.now (given_in self.now) }
+    {
+        match self.supplying {
+            Supplying::ListFailed(_, _, _) => is_held(Status::Eio, session.quiet),
+            Supplying::Home => is_held(Status::Ok, session.quiet),
+            _ => false,
         }
-        Supplying::Home => writers::write_home(text, contents, out),
-        Supplying::Part(last) => writers::write_part(session, last, contents, out),
+    }
+
+    // The writer's refusal of what is held back; where there is none, no byte counts as written.
+    fn write_nowhere(&self, session: &Session) -> Result<usize, Refusal>
+        ensures { (out : List ℕ) → frame_room ≤ length out
+            → answered result ≡ held_answer (framed_for session.now (given_in self.now) out).answer }
+    {
+        let mut out = [0; FRAME_ROOM];
+        self.write(session, &mut out)?;
+        Ok(0)
+    }
+
+    // Writes it, in turn or not.
+    fn write(&self, session: &Session, out: &mut [u8]) -> Result<usize, Refusal>
+        ensures { outcome (answered result) out.new ≡ framed_for session.now (given_in self.now) out.old }
+    {
+        match self.supplying {
+            Supplying::List(entry) => writers::write_entry(entry, self.text, self.contents, out),
+            Supplying::ListFailed(id, path_id, failure) => {
+                writers::write_error(self.text, id, path_id, failure, out)
+            }
+            Supplying::Home => writers::write_home(self.text, self.contents, out),
+            Supplying::Part(last) => writers::write_part(session, last, self.contents, out),
+        }
+    }
+
+    // What becomes of the session that is supplied. After the home path, written or held back, it serves;
+    // a request is "owed until the console has supplied its last part".
+    fn change(&self) -> Change
+        ensures { result ≡ change_for (given_in self.now) }
+    {
+        let (edit, news) = match self.supplying {
+            Supplying::Home => (
+                Edit::Turned(SessionState::Serving),
+                News::Tells(Told::Nothing),
+            ),
+            Supplying::Part(true) => (Edit::Same, News::Clears(Told::Nothing)),
+            _ => (Edit::Same, News::Tells(Told::Nothing)),
+        };
+        Change {
+            edit,
+            file: FileRecord::FREE,
+            news,
+            reply: None,
+        }
     }
 }
 
 // The session's step, unless the writer refuses.
-fn settle(i: usize, session: Session, owed: Owed, change: Change, written: Written) -> Supplied
+fn settle(
+    i: usize,
+    session: Session,
+    owed: Option<(usize, Due)>,
+    change: Change,
+    written: Result<usize, Refusal>,
+) -> Left
     ensures { result ≡ settled_by session owed (next_by session i owed nowhere change) (answered written) }
 {
     match written {
-        Written::Length(n) => {
+        Ok(n) => {
             let next = step(session, i, owed, Place::NOWHERE, change);
-            let after = next.session;
-            let left = next.owed;
-            let told = next.told;
-            Supplied {
-                session: after,
-                owed: left,
-                told: told,
+            Left {
+                session: next.session,
+                owed: next.owed,
+                told: next.told,
                 written: n,
             }
         }
-        Written::Refused(refusal) => unsupplied(session, owed, refusal.number()),
+        Err(refusal) => unsupplied(session, owed, refusal.number()),
     }
 }

@@ -1,21 +1,18 @@
 // Which session is supplied, and whether it is in turn.
 ghost use Rattle.std.specs.Prelude.{◌≡◌};
+ghost use Rattle.protocol.specs.Table.{first, has_id};
 ghost use Rattle.protocol.specs.Supplies.{is_listing, request_at};
-ghost use Rattle.supplying.specs.Turns.{is_part, id_for, seat_of, in_turn};
+ghost use Rattle.supplying.specs.Turns.{is_part, id_for, concerned, in_turn};
 
-use crate::Supplying;
-use protocol::{Due, Found, Owed, SessionState};
+use crate::{Given, Supplying};
+use protocol::{Due, Session, SessionState};
+use sessions::find::find;
 
 // Whether it is a part, which concerns the session that asks for a file.
 pub fn is_part(supplying: Supplying) -> bool
     ensures { result ≡ is_part supplying }
 {
-    match supplying {
-        Supplying::List(_) => false,
-        Supplying::ListFailed(_, _, _) => false,
-        Supplying::Home => false,
-        Supplying::Part(_) => true,
-    }
+    matches!(supplying, Supplying::Part(_))
 }
 
 // The id of the session that anything else concerns.
@@ -23,73 +20,54 @@ pub fn id_in(supplying: Supplying, text: &[u8]) -> &[u8]
     ensures { result.now ≡ id_for supplying text.now }
 {
     match supplying {
-        Supplying::List(entry) => {
-            let id = entry.id;
-            octets::part(text, id.start, id.len)
-        }
+        Supplying::List(entry) => octets::part(text, entry.id.start, entry.id.len),
         Supplying::ListFailed(id, _, _) => octets::part(text, id.start, id.len),
         Supplying::Home => text,
         Supplying::Part(_) => &text[..0],
     }
 }
 
-// The place of the session that is concerned; where there is none, the first.
-pub fn seat(found: Found) -> usize
-    ensures { result ≡ seat_of found }
+// The place of the session that is concerned: for a part that of the one that asks for a file, for
+// anything else that of the one with its id.
+pub fn concerned(
+    given: Given<'_>,
+    owed: Option<(usize, Due)>,
+    sessions: &[Session],
+) -> Option<usize>
+    ensures { result ≡ concerned given.entry.supplying owed given.entry.text.now
+        (λ id. first (has_id id) sessions.now) }
 {
-    match found {
-        Found::Nowhere => 0,
-        Found::At(i) => i,
+    if is_part(given.supplying) {
+        request_at(owed)
+    } else {
+        find(sessions, id_in(given.supplying, given.text))
     }
 }
 
 // Where it is in turn, by the state of the session that is concerned.
-pub fn in_turn(supplying: Supplying, state: SessionState, found: Found) -> Found
+pub fn in_turn(supplying: Supplying, state: SessionState, found: Option<usize>) -> Option<usize>
     ensures { result ≡ in_turn supplying state found }
 {
-    if is_part(supplying) {
-        return found;
+    if is_part(supplying) || is_listing(state) {
+        found
+    } else {
+        None
     }
-    if is_listing(state) {
-        return found;
-    }
-    Found::Nowhere
 }
 
 // Whether a session takes a listing and the home path.
 fn is_listing(state: SessionState) -> bool
     ensures { result ≡ is_listing state }
 {
-    match state {
-        SessionState::Absent => false,
-        SessionState::Asked => false,
-        SessionState::Open => false,
-        SessionState::Naming => false,
-        SessionState::Waiting => false,
-        SessionState::Listing => true,
-        SessionState::Serving => false,
-    }
+    matches!(state, SessionState::Listing)
 }
 
 // The place of the session that asks for a file, where that is what is owed.
-pub fn request_at(owed: Owed) -> Found
+pub fn request_at(owed: Option<(usize, Due)>) -> Option<usize>
     ensures { result ≡ request_at owed }
 {
     match owed {
-        Owed::Nothing => Found::Nowhere,
-        Owed::For(i, due) => request_of(i, due),
-    }
-}
-
-fn request_of(i: usize, due: Due) -> Found
-    ensures { result ≡ request_at (Owed.For i due) }
-{
-    match due {
-        Due::OpenFile(_) => Found::Nowhere,
-        Due::OpenDirectory(_) => Found::Nowhere,
-        Due::Write(_, _) => Found::Nowhere,
-        Due::WriteLast(_, _) => Found::Nowhere,
-        Due::Commit => Found::Nowhere,
-        Due::Request => Found::At(i),
+        Some((i, Due::Request)) => Some(i),
+        _ => None,
     }
 }

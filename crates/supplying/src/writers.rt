@@ -1,21 +1,18 @@
 // The frames of what is supplied: a file of the listing, why a path is not listed, the home path, and the
 // parts of the file that is asked for. Nothing here looks whether it is in turn, or whether quiet holds it
 // back. Where what is written does not depend on the session, the contract speaks of every session.
-ghost use Rattle.std.specs.Prelude.{◌≡◌, length, take};
+ghost use Rattle.std.specs.Prelude.{◌≡◌};
 ghost use Rattle.octets.specs.Outcome.{outcome};
-ghost use Rattle.command.specs.Slots.{values_of};
 ghost use Rattle.command.specs.Write.{answered};
-ghost use Rattle.command.specs.Framed.{framed_of};
-ghost use Rattle.protocol.specs.Written.{piece_values};
-ghost use Rattle.protocol.specs.Supplies.{Supply, framed_for, error_command};
+ghost use Rattle.protocol.specs.Supplies.{Supply, framed_for};
 ghost use Rattle.supplying.specs.LongHomes.{LongHomeAsWritten};
 
 use crate::commands;
-use crate::commands::{ID_ROOM, ids};
-use command::{Place, Refusal, Written};
+use command::{Place, Refusal};
 use command_writer::framed::write_framed;
 use frames::Framing;
-use protocol::{Entry, Failure, Session};
+use protocol::{Entry, Failure, Session, Status};
+use reply::word_of;
 
 // A home path of more bytes is refused by its length alone: its text would pass the limit.
 const HOME_ROOM: usize = Framing::TEXT_LIMIT - 2;
@@ -23,12 +20,12 @@ const HOME_ROOM: usize = Framing::TEXT_LIMIT - 2;
 // Writes the file command of an entry: its ids stand in the text, its name, its own id and a link's target
 // in the contents.
 #[tactic(auto, unfolding(protocol::specs::Supplies::framed_for))]
-pub(crate) fn write_entry<'a>(
+pub(crate) fn write_entry(
     entry: Entry,
-    text: &'a [u8],
-    contents: &'a [u8],
+    text: &[u8],
+    contents: &[u8],
     out: &mut [u8],
-) -> Written
+) -> Result<usize, Refusal>
     ensures { (s : Session) → outcome (answered result) out.new
         ≡ framed_for s (Supply.list entry text.now contents.now) out.old }
 {
@@ -43,42 +40,23 @@ pub(crate) fn write_error(
     path_id: Place,
     failure: Failure,
     out: &mut [u8],
-) -> Written
+) -> Result<usize, Refusal>
     ensures { (s : Session) → outcome (answered result) out.new
         ≡ framed_for s (Supply.list_failed text.now id path_id failure) out.old }
 {
-    match failure {
-        Failure::Eperm => write_word(text, id, path_id, b"EPERM", out),
-        Failure::Eio => write_word(text, id, path_id, b"EIO", out),
-        Failure::Enoent => write_word(text, id, path_id, b"ENOENT", out),
-        Failure::Enospc => write_word(text, id, path_id, b"ENOSPC", out),
-    }
-}
-
-// The status of a path, by its word.
-fn write_word<'a>(
-    text: &'a [u8],
-    id: Place,
-    path_id: Place,
-    word: &'a [u8],
-    out: &mut [u8],
-) -> Written
-    ensures { outcome (answered result) out.new
-        ≡ framed_of (values_of (error_command id path_id (length word.now)) text.now word.now)
-        out.old }
-{
+    let word = word_of(Status::from(failure));
     write_framed(commands::error(id, path_id, word.len()), text, word, out)
 }
 
 // Writes "the OK with the home path". Both stand in one slice, the status first. A path that has no room
 // there is refused as the writer would refuse it.
-pub(crate) fn write_home(id: &[u8], path: &[u8], out: &mut [u8]) -> Written
+pub(crate) fn write_home(id: &[u8], path: &[u8], out: &mut [u8]) -> Result<usize, Refusal>
     ensures out_after { (s : Session) → outcome (answered result) out.new
         ≡ framed_for s (Supply.home id.now path.now) out.old }
     ensures long_home_as_written { LongHomeAsWritten }
 {
     if path.len() > HOME_ROOM {
-        return Written::Refused(Refusal::ShortBuffer);
+        return Err(Refusal::ShortBuffer);
     }
     let mut contents = [0u8; Framing::TEXT_LIMIT];
     octets::copy_at(b"OK", &mut contents, 0);
@@ -88,30 +66,17 @@ pub(crate) fn write_home(id: &[u8], path: &[u8], out: &mut [u8]) -> Written
 
 // Writes a part of the file that the session asks for, "as data and end_data": the file's id is that of
 // its first record.
-pub(crate) fn write_part(session: Session, last: bool, bytes: &[u8], out: &mut [u8]) -> Written
+pub(crate) fn write_part(
+    session: &Session,
+    last: bool,
+    bytes: &[u8],
+    out: &mut [u8],
+) -> Result<usize, Refusal>
     ensures { outcome (answered result) out.new
-        ≡ framed_for session (Supply.part last bytes.now) out.old }
+        ≡ framed_for session.now (Supply.part last bytes.now) out.old }
 {
     let file = session.files[0];
-    let own = session.id;
-    let file_id = file.id;
-    write_piece(own, session.id_len, file_id, file.id_len, bytes, last, out)
-}
-
-// A part of a file: the ids are the first n and m bytes of their arrays.
-fn write_piece(
-    own: [u8; ID_ROOM],
-    n: usize,
-    file_id: [u8; ID_ROOM],
-    m: usize,
-    bytes: &[u8],
-    last: bool,
-    out: &mut [u8],
-) -> Written
-    ensures { outcome (answered result) out.new
-        ≡ framed_of (piece_values (take n own) (take m file_id) bytes.now last) out.old }
-{
-    let ids = ids(own, file_id);
-    let command = commands::piece(last, n, m, bytes.len());
+    let ids = commands::ids(&session.id, &file.id);
+    let command = commands::piece(last, session.id.len, file.id.len, bytes.len());
     write_framed(command, &ids, bytes, out)
 }

@@ -1,9 +1,8 @@
 // A console with one session, m: feeds the session's commands, allows it, and answers done to every ask.
 use crate::ROOM;
-use command::{Command, Reading};
+use command::Command;
 use frames::Framing;
-use octets::size::{least, less};
-use protocol::{Answered, FileRecord, Receiver, Reply};
+use protocol::{Answered, Receiver, Reply};
 use streams::Run;
 
 // How the run stands, and the receiver.
@@ -16,7 +15,7 @@ pub struct Console {
 // A fresh receiver, the session allowed.
 pub(crate) fn fresh(run: Run) -> Console {
     let state = Console {
-        run: run,
+        run,
         receiver: Receiver::fresh(),
     };
     play(state, b"ac=send", b"", false)
@@ -32,35 +31,20 @@ pub(crate) fn again(state: Console) -> Console {
 pub(crate) fn play<'a>(before: Console, fields: &'a [u8], value: &'a [u8], shown: bool) -> Console {
     let mut frame = [0u8; ROOM];
     let mut reply = [0u8; Reply::ROOM];
-    let n = framed(fields, value, &mut frame);
-    let run = before.run;
-    let answered = feed(before.receiver, octets::part(&frame, 0, n), &mut reply);
-    let next = answered.receiver;
+    let end = framed(fields, value, &mut frame).unwrap_or(0);
+    let answered = feed(before.receiver, octets::part(&frame, 0, end), &mut reply);
     let text = octets::part(&reply, 0, answered.reply_len);
     Console {
-        run: tell(run, shown, text),
-        receiver: next,
+        run: tell(before.run, shown, text),
+        receiver: answered.receiver,
     }
 }
 
 // The session's first file record with another count.
 pub(crate) fn with_count(state: Console, n: u64) -> Console {
-    let run = state.run;
-    let receiver = state.receiver;
-    let framing = receiver.framing;
-    let mut table = receiver.table;
-    let mut session = table.sessions[0];
-    let file = session.files[0];
-    session.files[0] = FileRecord { count: n, ..file };
-    table.sessions[0] = session;
-    let counted = Receiver {
-        framing: framing,
-        table: table,
-    };
-    Console {
-        run: run,
-        receiver: counted,
-    }
+    let mut receiver = state.receiver;
+    receiver.table.sessions[0].files[0].count = n;
+    Console { receiver, ..state }
 }
 
 // Feeds a piece, says done, and allows the session: what was not asked is refused, and changes nothing.
@@ -81,15 +65,12 @@ fn first(n: usize, m: usize) -> usize {
     if n > 0 { n } else { m }
 }
 
-// Stores the command's frame, and says where it ends.
-fn framed<'a>(fields: &'a [u8], value: &'a [u8], frame: &mut [u8]) -> usize {
-    octets::copy_at(b"\x1B]5113;id=m;", frame, 0);
-    octets::copy_at(fields, frame, 12);
-    let named = 12 + least(fields.len(), ROOM);
-    octets::copy_at(value, frame, named);
-    let ended = named + least(value.len(), ROOM);
-    octets::copy_at(b"\x1B\\", frame, ended);
-    ended + 2
+// Stores the command's frame, and says where it ends: none where it has no room.
+fn framed<'a>(fields: &'a [u8], value: &'a [u8], frame: &mut [u8]) -> Option<usize> {
+    let begun = octets::copy_at(b"\x1B]5113;id=m;", frame, 0)?;
+    let named = octets::copy_at(fields, frame, begun)?;
+    let ended = octets::copy_at(value, frame, named)?;
+    octets::copy_at(b"\x1B\\", frame, ended)
 }
 
 // A blank, and the status word of a reply's frame and its size if it has one, `-` for no reply.
@@ -97,23 +78,22 @@ fn tell(run: Run, shown: bool, frame: &[u8]) -> Run {
     if !shown {
         return run;
     }
-    if frame.len() == 0 {
+    if frame.is_empty() {
         return run.text(b" -");
     }
     let mut scratch = [0u8; Command::SCRATCH_ROOM];
-    let text = octets::part(frame, 2, less(frame.len(), 4));
+    let text = octets::part(frame, 2, frame.len().saturating_sub(4));
     match command_reader::read(text, &mut scratch) {
-        Reading::Read(c) => status(run.text(b" "), c, &scratch),
-        Reading::Refused(_) => run.text(b" no command"),
+        Ok(c) => status(run.text(b" "), c, &scratch),
+        Err(_) => run.text(b" no command"),
     }
 }
 
 fn status(run: Run, c: Command, scratch: &[u8]) -> Run {
     let place = c.status;
     let told = run.text(octets::part(scratch, place.start, place.len));
-    let size = c.size;
-    if size.magnitude == 0 {
+    if c.size.magnitude == 0 {
         return told;
     }
-    told.text(b"=").number(size.magnitude as usize)
+    told.text(b"=").number(c.size.magnitude as usize)
 }

@@ -1,38 +1,28 @@
 // Integers, read and written.
 use crate::line::{after, number};
-use decimal::{Number, Parsed, Written};
+use decimal::{Number, ParseError, WriteError};
 use streams::Run;
 
 pub(crate) fn read(run: Run, text: &[u8]) -> Run {
     match decimal::parse(text) {
-        Parsed::Integer(n) => integer(run, n),
-        Parsed::Malformed => run.text(b"malformed"),
-        Parsed::OutOfRange => run.text(b"out of range"),
+        Ok(n) => integer(run, n),
+        Err(ParseError::Malformed) => run.text(b"malformed"),
+        Err(ParseError::OutOfRange) => run.text(b"out of range"),
     }
 }
 
 // The sign and the magnitude.
 fn integer(run: Run, n: Number) -> Run {
-    let magnitude = n.magnitude as usize;
-    if n.negative {
-        run.text(b"minus ").number(magnitude)
-    } else {
-        run.number(magnitude)
-    }
+    let signed = if n.negative { run.text(b"minus ") } else { run };
+    signed.number(n.magnitude as usize)
 }
 
 // `minus MAGNITUDE` or a magnitude alone: also what no integer of the protocol is.
 fn number_of(words: &[u8]) -> Number {
-    if octets::starts_with(words, b"minus ") {
-        Number {
-            negative: true,
-            magnitude: number(after(words)),
-        }
-    } else {
-        Number {
-            negative: false,
-            magnitude: number(words),
-        }
+    let negative = words.starts_with(b"minus ");
+    Number {
+        negative,
+        magnitude: number(if negative { after(words) } else { words }),
     }
 }
 
@@ -41,10 +31,9 @@ pub(crate) fn write(run: Run, words: &[u8]) -> Run {
     let n = number_of(words);
     let length = decimal::text_length(n);
     let counted = run.text(b", ").number(length).text(b" bytes: ");
-    let w = decimal::write(n, &mut buffer, 0);
-    match w {
-        Written::End(end) => counted.text(octets::part(&buffer, 0, end)),
-        _ => tell(counted, w),
+    match decimal::write(n, &mut buffer, 0) {
+        Ok(end) => counted.text(octets::part(&buffer, 0, end)),
+        Err(error) => refused(counted, error),
     }
 }
 
@@ -52,15 +41,17 @@ pub(crate) fn write(run: Run, words: &[u8]) -> Run {
 pub(crate) fn write_at(run: Run, words: &[u8]) -> Run {
     let mut buffer = [0x2Eu8; 4];
     let at = number(after(after(words))) as usize;
-    let w = decimal::write(number_of(words), &mut buffer, at);
-    tell(run, w).text(b", ").text(&buffer)
+    let told = match decimal::write(number_of(words), &mut buffer, at) {
+        Ok(end) => run.number(end),
+        Err(error) => refused(run, error),
+    };
+    told.text(b", ").text(&buffer)
 }
 
-fn tell(run: Run, w: Written) -> Run {
-    match w {
-        Written::End(end) => run.number(end),
-        Written::NegativeZero => run.text(b"negative zero"),
-        Written::OutOfRange => run.text(b"out of range"),
-        Written::NoRoom => run.text(b"no room"),
+fn refused(run: Run, error: WriteError) -> Run {
+    match error {
+        WriteError::NegativeZero => run.text(b"negative zero"),
+        WriteError::OutOfRange => run.text(b"out of range"),
+        WriteError::NoRoom => run.text(b"no room"),
     }
 }

@@ -3,15 +3,16 @@
 use crate::console::Console;
 use crate::line::{after, number, word};
 use crate::{ROOM, console};
-use octets::Stored;
-use octets::size::less;
 use protocol::FileRecord;
 use streams::Run;
 
 pub(crate) fn sizes(run: Run, s: &[u8]) -> Run {
     let asked = run.text(s).text(b":");
     let n = octets::find(s, 0, b' ');
-    let state = items(console::fresh(asked), octets::part(s, n, less(s.len(), n)));
+    let state = items(
+        console::fresh(asked),
+        octets::part(s, n, s.len().saturating_sub(n)),
+    );
     state.run
 }
 
@@ -36,7 +37,7 @@ fn item(state: Console, s: &[u8]) -> Console {
 }
 
 fn last(s: &[u8]) -> u8 {
-    if s.len() > 0 { s[s.len() - 1] } else { 0 }
+    s.last().copied().unwrap_or(0)
 }
 
 // Words are told by their last letter. `file`, `data` and `end` are commands whose reply is printed.
@@ -61,7 +62,7 @@ fn prepare(state: Console, letter: u8, n: u64) -> Console {
 
 // The file a, with the fields that the item adds.
 fn file(state: Console, fields: &[u8]) -> Console {
-    if fields.len() == 0 {
+    if fields.is_empty() {
         return console::play(state, b"ac=file;fid=a;n=L256", b"", true);
     }
     console::play(state, b"ac=file;fid=a;n=L256;", fields, true)
@@ -72,18 +73,16 @@ fn part(state: Console, fields: &[u8], n: u64) -> Console {
     let bytes = [0u8; FileRecord::PART_LIMIT + 1];
     let mut text = [0u8; ROOM];
     match base64_codec::encode(octets::part(&bytes, 0, n as usize), &mut text, 0) {
-        Stored::End(end) => console::play(state, fields, octets::part(&text, 0, end), true),
-        Stored::NoRoom => state,
+        Some(end) => console::play(state, fields, octets::part(&text, 0, end), true),
+        None => state,
     }
 }
 
 // n directories, each with an id of its own.
 fn filled(before: Console, n: u64) -> Console {
     let mut state = before;
-    let mut left = n;
-    while left > 0 {
-        state = directory(state, left);
-        left -= 1;
+    for k in (0..n).rev() {
+        state = directory(state, k + 1);
     }
     state
 }

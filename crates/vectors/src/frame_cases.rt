@@ -3,7 +3,7 @@
 use crate::ROOM;
 use crate::line::{after, expand, fill, number, operands, printed};
 use frames::{Framing, Report};
-use octets::size::less;
+use protocol::refusals::{SHORT_BUFFER, TEXT_BROKEN_OFF, TEXT_TOO_LONG};
 use streams::Run;
 
 // The framing after the bytes so far, and how the run stands.
@@ -31,7 +31,7 @@ pub(crate) fn cut(run: Run, s: &[u8]) -> Run {
     let end = expand(short, &mut stream);
     let at = number(operands(s)) as usize;
     let first = octets::part(&stream, 0, at);
-    let second = octets::part(&stream, at, less(end, at));
+    let second = octets::part(&stream, at, end.saturating_sub(at));
     both(run.text(printed(s)), first, second, &mut buffer)
 }
 
@@ -51,24 +51,18 @@ fn feed(before: Turn, piece: &[u8], carry: &mut [u8]) -> Turn {
     let mut at = 0;
     while at < piece.len() {
         let s = frames::scan(framing, &piece[at..], carry);
-        let next = s.framing;
-        framing = next;
-        let r = s.report;
-        run = report(run, r, frames::text(&piece[at..], carry, r));
-        let used = s.consumed;
+        framing = s.framing;
+        run = report(run, s.report, frames::text(&piece[at..], carry, s.report));
         if !run.is_well() {
             break;
         }
-        if used == 0 {
+        if s.consumed == 0 {
             run = Run::Stuck;
             break;
         }
-        at += used;
+        at += s.consumed;
     }
-    Turn {
-        framing: framing,
-        run: run,
-    }
+    Turn { framing, run }
 }
 
 fn report(run: Run, r: Report, text: &[u8]) -> Run {
@@ -76,12 +70,12 @@ fn report(run: Run, r: Report, text: &[u8]) -> Run {
         Report::Nothing => run,
         Report::InPiece(_, _) => run.text(b" in the piece ").number(text.len()),
         Report::InCarry(_) => run.text(b" in the carry ").number(text.len()),
-        Report::TooLong => refused(run, 1),
-        Report::Abandoned => refused(run, 2),
-        Report::ShortCarry => refused(run, 9),
+        Report::TooLong => refused(run, TEXT_TOO_LONG),
+        Report::Abandoned => refused(run, TEXT_BROKEN_OFF),
+        Report::ShortCarry => refused(run, SHORT_BUFFER),
     }
 }
 
-fn refused(run: Run, n: usize) -> Run {
-    run.text(b" refused ").number(n)
+fn refused(run: Run, n: u8) -> Run {
+    run.text(b" refused ").number(usize::from(n))
 }

@@ -1,6 +1,5 @@
 // The parts of a case's line.
 use crate::ROOM;
-use octets::size::least;
 use streams::Run;
 
 // A case as it is printed before its answer.
@@ -10,7 +9,7 @@ pub(crate) fn asked(run: Run, case: &[u8]) -> Run {
 
 // The first byte, 0 for none.
 pub(crate) fn first(s: &[u8]) -> u8 {
-    if s.len() > 0 { s[0] } else { 0 }
+    s.first().copied().unwrap_or(0)
 }
 
 // What stands after place n.
@@ -40,29 +39,20 @@ pub(crate) fn operands(s: &[u8]) -> &[u8] {
 // The number that a text begins with, 0 for none.
 pub(crate) fn number(s: &[u8]) -> u64 {
     let mut n = 0;
-    let mut i = 0;
-    while i < s.len() {
-        let b = s[i];
-        if b < b'0' {
+    for b in s {
+        if !b.is_ascii_digit() {
             break;
         }
-        if b > b'9' {
-            break;
-        }
-        n = followed(n, b - b'0');
-        i += 1;
+        n = followed(n, *b - b'0');
     }
     n
 }
 
 // A number and one digit more, where a u64 has room for it.
 fn followed(n: u64, digit: u8) -> u64 {
-    let d = digit as u64;
-    if n <= (18446744073709551615 - d) / 10 {
-        n * 10 + d
-    } else {
-        n
-    }
+    n.checked_mul(10)
+        .and_then(|tens| tens.checked_add(u64::from(digit)))
+        .unwrap_or(n)
 }
 
 // A text may have one byte in it that is repeated: `{A*8192}`. That byte:
@@ -77,7 +67,7 @@ pub(crate) fn expand(s: &[u8], out: &mut [u8]) -> usize {
     let times = number(rest(s, octets::find(s, 0, b'*'))) as usize;
     let last = rest(s, octets::find(s, 0, b'}'));
     octets::copy_at(octets::part(s, 0, open), out, 0);
-    let end = least(open, ROOM) + least(times, ROOM);
+    let end = open.min(ROOM) + times.min(ROOM);
     octets::copy_at(last, out, end);
-    end + least(last.len(), ROOM)
+    end + last.len().min(ROOM)
 }

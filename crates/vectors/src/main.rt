@@ -20,7 +20,7 @@ mod write_cases;
 use frames::Framing;
 use line::{after, asked, first, rest};
 use std::io::Stdout;
-use streams::{Got, Run};
+use streams::Run;
 
 // Room for a text one byte too long, its frame, and some bytes more.
 pub(crate) const ROOM: usize = Framing::TEXT_LIMIT + 64;
@@ -28,8 +28,8 @@ pub(crate) const ROOM: usize = Framing::TEXT_LIMIT + 64;
 fn main(rt: HostRuntime) {
     let mut bytes = [0u8; 65536];
     let run = match streams::read_all(rt.stdin(), &mut bytes) {
-        Got::Bytes(n) => cases(rt.stdout(), &bytes[..n]),
-        Got::Failed => Run::NotRead,
+        Some(n) => cases(rt.stdout(), &bytes[..n]),
+        None => Run::NotRead,
     };
     run.end(rt.stderr(), b"vectors");
 }
@@ -42,10 +42,7 @@ fn cases(out: Stdout, bytes: &[u8]) -> Run {
         let end = octets::find(bytes, at, b'\n');
         run = case(run, octets::part(bytes, at, end - at));
         run = run.text(octets::part(bytes, end, 1));
-        if !run.is_well() {
-            break;
-        }
-        if end >= bytes.len() {
+        if !run.is_well() || end >= bytes.len() {
             break;
         }
         at = end + 1;

@@ -23,9 +23,8 @@ fn command(action_on: &[u8]) -> Command {
     let bypass_on = after(after(id_on));
     let payload_on = after(after(bypass_on));
     let quiet_on = after(after(payload_on));
-    let action = action(number(action_on));
     Command {
-        action: action,
+        action: action(number(action_on)),
         id: place(id_on),
         bypass: place(bypass_on),
         payload: place(payload_on),

@@ -10,7 +10,7 @@ use lib.Dec.{leb}
 use borrow.Author.Tests.{le-leb, eq-eqb, ne_eqb}
 use Rattle.octets.specs.Outcome.{Outcome, outcome}
 use Rattle.octets.specs.Slices.{part_of, copy_at}
-use Rattle.octets.specs.declared.Stored.{Stored}
+use Rattle.std.specs.Prelude.{Option}
 use Rattle.octets.proofs.Stores.{sets-append, part-stored}
 use Rattle.protocol.specs.Stretches.{Key}
 use Rattle.windows.specs.Compare.{same_key, contents_of}
@@ -26,11 +26,11 @@ part_length xs at n = by (leb (at + n) (length xs))
     by true = omega (arith, length-take n (drop at xs))
     by false = omega arith
 
-copied : {r : Stored} {into' : List ℕ} (part into : List ℕ) (n : ℕ) → n + length part ≤ length into
+copied : {r : Option ℕ} {into' : List ℕ} (part into : List ℕ) (n : ℕ) → n + length part ≤ length into
     → outcome r into' ≡ copy_at part into n → into' ≡ sets into n part
 unfolding copy_at
 copied part into n h e =
-    ap (λ (o : Outcome Stored). o.buffer) (rw (le-leb (n + length part) (length into) h) at e)
+    ap (λ (o : Outcome (Option ℕ)). o.buffer) (rw (le-leb (n + length part) (length into) h) at e)
 
 module _ (s : Side) (k : Key) where
   abbrev ahead : ℕ → List ℕ
@@ -97,7 +97,7 @@ module _ (s : Side) (k : Key) where
               )
 
           -- a part of it
-          pub gather-part : {r : Stored} {into' : List ℕ} → same_key k (key_at s.recording s.numbers at) ≡ true
+          pub gather-part : {r : Option ℕ} {into' : List ℕ} → same_key k (key_at s.recording s.numbers at) ≡ true
               → get_or s.numbers at 0 ≡ 0 → outcome r into' ≡ copy_at part into n → Gathering (at + 7) (n + length part) into'
           gather-part e m o =
               let q : ahead at ≡ part ++ ahead (at + 7) = contents-at s at l k ∙ rw (e, eq-eqb (get_or s.numbers at 0) 0 m) in

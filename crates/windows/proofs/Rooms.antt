@@ -10,7 +10,9 @@ use Rattle.frames.specs.Stream.{Mode, read_byte}
 use Rattle.recordings.specs.Pieces.{outside_first, completed, cut, joined, pieces_of}
 use Rattle.hearing.specs.Hearing.{sightings_from, heard_from}
 use Rattle.windows.specs.Compare.{starts_of, only_seconds, compared, listed, compare_of}
-use Rattle.windows.specs.declared.Compared.{Compared}
+use Rattle.std.specs.Prelude.{Result, Ok, Err}
+use Rattle.recordings.specs.Refusals.{refusal_number}
+use Rattle.recordings.specs.declared.Refusal.{Refusal}
 use Rattle.windows.specs.Examples.{RoomsOf}
 use Rattle.windows.specs.WrongComparers.{limiting_first, at_the_limit, room_in_rows}
 use Rattle.windows.proofs.Computing.{examining}
@@ -30,23 +32,23 @@ zeros-length : (n : ℕ) → length (replicate {A = ℕ} n 0) ≡ n
 zeros-length n = length-replicate {A = ℕ} n 0
 
 module _ (n : ℕ) where
-  zeros-compared : n ≤ 65536 → compare_of (replicate n 0) [] [] ≡ outcome (Compared.Rows 0) []
+  zeros-compared : n ≤ 65536 → compare_of (replicate n 0) [] [] ≡ outcome (Ok 0) []
   unfolding compare_of pieces_of joined cut sightings_from heard_from starts_of compared only_seconds listed
   zeros-compared l = rw (zeros-length n, le-ltb 65536 n l, none_in-zeros n 0 [])
 
-  first_too-long : 65536 < n → compare_of (replicate n 0) [] [] ≡ outcome (Compared.Refused 17) []
+  first_too-long : 65536 < n → compare_of (replicate n 0) [] [] ≡ outcome (Err Refusal.TooLong) []
   unfolding compare_of
   first_too-long l = rw (zeros-length n, lt-ltb 65536 n l)
 
-  second_too-long : 65536 < n → compare_of [] (replicate n 0) [] ≡ outcome (Compared.Refused 17) []
+  second_too-long : 65536 < n → compare_of [] (replicate n 0) [] ≡ outcome (Err Refusal.TooLong) []
   unfolding compare_of
   second_too-long l = rw (zeros-length n, lt-ltb 65536 n l)
 
-  second-passed : limiting_first [] (replicate n 0) [] ≡ outcome (Compared.Rows 0) []
+  second-passed : limiting_first [] (replicate n 0) [] ≡ outcome (Ok 0) []
   unfolding pieces_of joined cut sightings_from heard_from starts_of compared only_seconds listed
   second-passed = rw (none_in-zeros n 0 [])
 
-  limit-refused : 65536 ≤ n → at_the_limit (replicate n 0) [] [] ≡ outcome (Compared.Refused 17) []
+  limit-refused : 65536 ≤ n → at_the_limit (replicate n 0) [] [] ≡ outcome (Err Refusal.TooLong) []
   limit-refused l = rw (zeros-length n, le-leb 65536 n l)
 
 pub rooms_hold : RoomsOf compare_of
@@ -62,12 +64,12 @@ rooms_hold =
     }
 
 -- ---- the wrong tests
-abbrev refusal : Outcome Compared → ℕ
+abbrev refusal : Outcome (Result ℕ Refusal) → ℕ
 refusal o = go o.answer
   where
-    go : Compared → ℕ
-    go (Compared.Rows n) = 0
-    go (Compared.Refused n) = n
+    go : Result ℕ Refusal → ℕ
+    go (Ok n) = 0
+    go (Err r) = refusal_number r
 
 pub second-unlimited : RoomsOf limiting_first → ⊥
 second-unlimited h =

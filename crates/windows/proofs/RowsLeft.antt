@@ -2,20 +2,37 @@
 use Prim.Native.Nat.{ℕ, zero, suc, ◌+◌, ◌-◌, ◌*◌, ◌≤◌, ◌<◌}
 use mathlib.Core.Path.{◌≡◌, refl, ap, sym, ◌∙◌}
 use mathlib.Core.Bool.{Bool, true, false, cond}
-use mathlib.Core.Option.{Option}
 use mathlib.Core.List.{List, [], ◌∷◌, ◌++◌}
 use native.Mathlib.Omega.{arith}
 use native.Mathlib.Numerals.{towards_suc}
 use lib.ListN.{length, get_or, take, drop, length-drop, take-append-drop}
 use lib.Seq.{drop-cons, length-take-le}
 use lib.Dec.{eqb}
+use Rattle.std.specs.Prelude.{Some}
 use Rattle.octets.specs.Slices.{part_of}
 use Rattle.protocol.specs.Stretches.{Key}
 use Rattle.hearing.specs.Hearing.{Place, Happening}
 use Rattle.windows.specs.Compare.{same_key, Start, contents_of, starts_of}
 use Rattle.windows.specs.Ranks.{count_of, nth}
-use Rattle.hearing.specs.Rows.{happening_of, happenings_in, Apart}
-use Rattle.windows.specs.Steps.{Side, key_at, place_at, starts_at, starts_from, starts_in, start_at, RowPlace}
+use borrow.Author.Tests.{eqb-true}
+use Rattle.hearing.specs.Rows.{happening_of, happenings_in, Apart, is_start, kind_of}
+use Rattle.hearing.specs.declared.row.Kind.{Kind}
+use Rattle.windows.specs.Steps.{Side, key_at, place_at, starts_at, starts_from, starts_in, start_at}
+
+-- a place where a row begins, counted from the first
+abbrev pub RowPlace : ℕ → Type 0
+RowPlace at = (m : ℕ) × (at ≡ m * 7)
+
+-- ---- the kind of a row
+pub start_kind : (n : ℕ) → is_start (kind_of n) ≡ true → n ≡ 0 → ⊥
+start_kind n e z = let i : ◌≡◌ {A = ℕ} 0 1 = ap (λ (b : Bool). cond b 0 1) (sym (rw z at e)) in absurd (omega arith)
+
+pub part_kind : (n : ℕ) → is_start (kind_of n) ≡ false → n ≡ 0
+part_kind n = by (eqb n 0) refl
+  where
+    by : (t : Bool) → eqb n 0 ≡ t → is_start (cond t Kind.Part Kind.Start) ≡ false → n ≡ 0
+    by true k e = eqb-true n 0 k
+    by false k e = let i : ◌≡◌ {A = ℕ} 0 1 = ap (λ (b : Bool). cond b 0 1) e in absurd (omega arith)
 
 -- ---- the seven numbers of a row
 drop-row : (ns : List ℕ) (at : ℕ) → at + 7 ≤ length ns
@@ -71,7 +88,7 @@ module _ (key : Key) (part : List ℕ) (place : Place) (hs : List Happening) whe
 
   nth-more : (t : Bool) (k : Key) (n : ℕ)
       → nth k n (starts_of (before t))
-      ≡ cond (cond t false (same_key k key)) (cond (eqb n 0) (Option.some here) (nth k (n - 1) (starts_of hs))) (nth k n (starts_of hs))
+      ≡ cond (cond t false (same_key k key)) (cond (eqb n 0) (Some here) (nth k (n - 1) (starts_of hs))) (nth k n (starts_of hs))
   unfolding starts_of nth
   nth-more true k n = refl
   nth-more false k n = refl
@@ -112,7 +129,7 @@ module _ (s : Side) (at : ℕ) (h : at + 7 ≤ length s.numbers) where
 
   pub nth-at : (k : Key) (n : ℕ)
       → nth k n (starts_from s at)
-      ≡ cond (starts_at s.recording ns at k) (cond (eqb n 0) (Option.some (start_at s at)) (nth k (n - 1) (starts_from s (at + 7))))
+      ≡ cond (starts_at s.recording ns at k) (cond (eqb n 0) (Some (start_at s at)) (nth k (n - 1) (starts_from s (at + 7))))
       (nth k n (starts_from s (at + 7)))
   nth-at k n =
       ap (λ (hs : List Happening). nth k n (starts_of hs)) row_next

@@ -3,10 +3,10 @@ use Prim.Native.Nat.{ℕ}
 use Prim.Native.String.{String}
 use mathlib.Core.Path.{◌≡◌, refl, ap}
 use mathlib.Core.Bool.{true}
-use mathlib.Core.Option.{Option}
 use mathlib.Core.List.{List, [], ◌∷◌, map}
 use native.Mathlib.Omega.{arith}
 use lib.ListN.{length, get_or}
+use Rattle.std.specs.Prelude.{Option, Some, None}
 use Rattle.octets.specs.Ascii.{ascii}
 use Rattle.command.specs.Values.{Value, count}
 use Rattle.protocol.specs.History.{Command, Heard, Question, Mark}
@@ -47,8 +47,8 @@ abbrev earliest_length : List (List ℕ) → ℕ
 earliest_length cs = length (get_or cs 0 [])
 
 abbrev latest_length : Option (List ℕ) → ℕ
-latest_length Option.none = 0
-latest_length (Option.some c) = length c
+latest_length None = 0
+latest_length (Some c) = length c
 
 -- ---- marks
 -- a command of a code for a file; what it does not say is absent

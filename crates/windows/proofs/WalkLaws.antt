@@ -10,9 +10,9 @@ use Rattle.octets.specs.Outcome.{Outcome, outcome}
 use Rattle.protocol.specs.Stretches.{Key}
 use Rattle.windows.specs.Compare.{same_key, Start, starts_of, Line}
 use Rattle.windows.specs.Ranks.{count_of, first_lines, second_lines}
-use Rattle.windows.specs.Steps.{Side, key_at, starts_from, starts_in, start_at, rank_at, first_line, second_line, is_left, RowPlace}
+use Rattle.windows.specs.Steps.{Side, key_at, starts_from, starts_in, start_at, rank_at, first_line, second_line, is_left}
 use Rattle.windows.specs.Steps.{with_line, first_row, second_row, Writes}
-use Rattle.windows.proofs.RowsLeft.{no_row, starts-at, count-split}
+use Rattle.windows.proofs.RowsLeft.{RowPlace, no_row, starts-at, count-split}
 use Rattle.windows.proofs.LineLaws.{Walking, walk-starts, walk-past, walk_ends}
 
 count-last : (k : Key) (xs : List Start) (x : Start) → count_of k (xs ++ x ∷ []) ≡ count_of k xs + count_of k (x ∷ [])

@@ -1,13 +1,13 @@
 -- Two recordings of one window compared: lists alone.
-use Rattle.std.specs.Prelude.{ℕ, suc, Bool, cond, ◌&&◌, ◌||◌, List, [], ◌∷◌, ◌++◌, length, ltb, eqb}
-use Rattle.std.proofs.Math.Option.{Option}
+use Rattle.std.specs.Prelude.{ℕ, suc, Bool, cond, ◌&&◌, ◌||◌, List, [], ◌∷◌, ◌++◌, length, ltb, eqb, Option, Some, None}
 use Rattle.std.proofs.lemmas.List.Edits.{sets}
 use Rattle.octets.specs.Outcome.{Outcome, outcome}
 use Rattle.octets.specs.Slices.{equals}
 use Rattle.protocol.specs.Stretches.{Key}
 use Rattle.recordings.specs.Mend.{recording_limit}
 use Rattle.hearing.specs.Hearing.{Place, Happening, heard_in}
-use Rattle.windows.specs.declared.Compared.{Compared}
+use Rattle.std.specs.Prelude.{Result, Ok, Err}
+use Rattle.recordings.specs.declared.Refusal.{Refusal}
 
 -- ---- the starts of a recording
 -- a pair is "a session id and a file id, both compared whole"
@@ -56,16 +56,16 @@ first_diff (x ∷ xs) (y ∷ ys) = cond (eqb x y) (later (first_diff xs ys)) (Ve
 -- ---- "a pair's starts matched in order"
 -- the first start of a pair among those that are left; and those that are left without it
 unfoldable pub partner : Key → List Start → Option Start
-partner k [] = Option.none
-partner k (b ∷ bs) = cond (same_key k b.key) (Option.some b) (partner k bs)
+partner k [] = None
+partner k (b ∷ bs) = cond (same_key k b.key) (Some b) (partner k bs)
 
 unfoldable pub without : Key → List Start → List Start
 without k [] = []
 without k (b ∷ bs) = cond (same_key k b.key) bs (b ∷ without k bs)
 
 abbrev pub against : Start → Option Start → Verdict
-against a Option.none = Verdict.only_first
-against a (Option.some b) = first_diff a.contents b.contents
+against a None = Verdict.only_first
+against a (Some b) = first_diff a.contents b.contents
 
 -- a line of the list: a verdict, and the start that it is of, the second's where only the second has it
 pub record Line : Type 0 where
@@ -109,8 +109,8 @@ listed (l ∷ ls) = numbers_of l ++ listed ls
 
 -- ---- the answer, and the list afterwards
 -- "A recording over 65,536 bytes: 17; then no room for the list: 9; nothing written"
-unfoldable pub compare_of : (first second list : List ℕ) → Outcome Compared
+unfoldable pub compare_of : (first second list : List ℕ) → Outcome (Result ℕ Refusal)
 compare_of xs ys list =
-    cond (ltb recording_limit (length xs) || ltb recording_limit (length ys)) (outcome (Compared.Refused 17) list)
-    (cond (ltb (length list) (length (listed (lines_of xs ys)))) (outcome (Compared.Refused 9) list)
-    (outcome (Compared.Rows (length (lines_of xs ys))) (sets list 0 (listed (lines_of xs ys)))))
+    cond (ltb recording_limit (length xs) || ltb recording_limit (length ys)) (outcome (Err Refusal.TooLong) list)
+    (cond (ltb (length list) (length (listed (lines_of xs ys)))) (outcome (Err Refusal.NoRoom) list)
+    (outcome (Ok (length (lines_of xs ys))) (sets list 0 (listed (lines_of xs ys)))))

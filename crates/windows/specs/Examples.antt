@@ -7,7 +7,8 @@ use Rattle.base64_codec.specs.Encode.{text_of}
 use Rattle.frames.specs.Stream.{framed}
 use Rattle.hearing.specs.Hearing.{heard_in}
 use Rattle.windows.specs.Compare.{Start, starts_of, Verdict, Line, compared, listed, compare_of}
-use Rattle.windows.specs.declared.Compared.{Compared}
+use Rattle.std.specs.Prelude.{Result, Ok, Err}
+use Rattle.recordings.specs.declared.Refusal.{Refusal}
 
 -- ---- commands, each a frame
 abbrev pub send : String → List ℕ
@@ -125,18 +126,18 @@ pub record ExamplesOf (r : Reader) : Type 0 where
 
 -- ---- the answer, and the list afterwards
 abbrev pub Answerer : Type 0
-Answerer = (first second list : List ℕ) → Outcome Compared
+Answerer = (first second list : List ℕ) → Outcome (Result ℕ Refusal)
 
 pub record RoomsOf (c : Answerer) : Type 0 where
   -- beyond its rows the list is as before
-  pub enough : c sent [] (replicate 7 9) ≡ outcome (Compared.Rows 1) (1 ∷ 0 ∷ 39 ∷ 1 ∷ 45 ∷ 1 ∷ 9 ∷ [])
+  pub enough : c sent [] (replicate 7 9) ≡ outcome (Ok 1) (1 ∷ 0 ∷ 39 ∷ 1 ∷ 45 ∷ 1 ∷ 9 ∷ [])
   -- one number too few: nothing is written
-  pub short : c sent [] (replicate 5 9) ≡ outcome (Compared.Refused 9) (replicate 5 9)
-  pub empty : c [] [] [] ≡ outcome (Compared.Rows 0) []
+  pub short : c sent [] (replicate 5 9) ≡ outcome (Err Refusal.NoRoom) (replicate 5 9)
+  pub empty : c [] [] [] ≡ outcome (Ok 0) []
   -- 65,536 bytes are not too many; one more is, in either recording, whatever the list's room
-  pub most : c (replicate 65536 0) [] [] ≡ outcome (Compared.Rows 0) []
-  pub too_long : c (replicate 65537 0) [] [] ≡ outcome (Compared.Refused 17) []
-  pub second_too_long : c [] (replicate 65537 0) [] ≡ outcome (Compared.Refused 17) []
+  pub most : c (replicate 65536 0) [] [] ≡ outcome (Ok 0) []
+  pub too_long : c (replicate 65537 0) [] [] ≡ outcome (Err Refusal.TooLong) []
+  pub second_too_long : c [] (replicate 65537 0) [] ≡ outcome (Err Refusal.TooLong) []
 
 abbrev pub CompareExamples : Type 0
 CompareExamples = ExamplesOf (λ recording. starts_of (heard_in recording)) × RoomsOf compare_of

@@ -1,6 +1,5 @@
 -- The laws of comparing, each of any comparer, starter or hearer, so that it can be refuted of a wrong one.
-use Rattle.std.specs.Prelude.{ℕ, ◌≤◌, ◌≡◌, cond, List, [], ◌∷◌, ◌++◌, map, length, take, drop, replicate}
-use Rattle.std.proofs.Math.Option.{Option}
+use Rattle.std.specs.Prelude.{ℕ, ◌≤◌, ◌≡◌, cond, List, [], ◌∷◌, ◌++◌, map, length, take, drop, replicate, Option, Some, None}
 use Rattle.protocol.specs.History.{Mark}
 use Rattle.protocol.specs.Stretches.{Key, Stretch, since, parts}
 use Rattle.recordings.specs.Pieces.{mended_of}
@@ -120,14 +119,14 @@ MendedSame c h =
 -- ---- what is compared is what demand 3's history has
 -- the contents of the latest start
 abbrev pub last_of : List (List ℕ) → Option (List ℕ)
-last_of [] = Option.none
-last_of (c ∷ []) = Option.some c
+last_of [] = None
+last_of (c ∷ []) = Some c
 last_of (c ∷ d ∷ cs) = last_of (d ∷ cs)
 
 -- "the parts handed over for it and answered done, joined"
 abbrev pub claimed_parts : Key → Option Stretch → Option (List ℕ)
-claimed_parts k Option.none = Option.none
-claimed_parts k (Option.some t) = Option.some (parts k t.marks)
+claimed_parts k None = None
+claimed_parts k (Some t) = Some (parts k t.marks)
 
 -- "Contents are the parts handed over from that start": at every point of a history, those that demand 3 has of the pair since its
 -- latest start

@@ -1,3 +1,4 @@
+pub mod Lines
 pub mod Compare
 pub mod Ranks
 pub mod Steps

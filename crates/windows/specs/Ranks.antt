@@ -1,6 +1,5 @@
 -- The same list with nothing taken away, as the code makes it: a pair's k-th start in the first is matched with its k-th in the second.
-use Rattle.std.specs.Prelude.{ℕ, suc, ◌-◌, cond, List, [], ◌∷◌, ◌++◌, leb, eqb}
-use Rattle.std.proofs.Math.Option.{Option}
+use Rattle.std.specs.Prelude.{ℕ, suc, ◌-◌, cond, List, [], ◌∷◌, ◌++◌, leb, eqb, Option, Some, None}
 use Rattle.protocol.specs.Stretches.{Key}
 use Rattle.windows.specs.Compare.{same_key, Start, Verdict, against, Line}
 
@@ -11,8 +10,8 @@ count_of k (x ∷ xs) = cond (same_key k x.key) (suc (count_of k xs)) (count_of 
 
 -- the one with n others of its pair before it
 unfoldable pub nth : Key → ℕ → List Start → Option Start
-nth k n [] = Option.none
-nth k n (y ∷ ys) = cond (same_key k y.key) (cond (eqb n 0) (Option.some y) (nth k (n - 1) ys)) (nth k n ys)
+nth k n [] = None
+nth k n (y ∷ ys) = cond (same_key k y.key) (cond (eqb n 0) (Some y) (nth k (n - 1) ys)) (nth k n ys)
 
 -- the lines of the first's starts, given those before them
 unfoldable pub first_lines : (before xs ys : List Start) → List Line

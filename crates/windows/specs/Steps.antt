@@ -1,6 +1,6 @@
 -- What the functions under `compare` answer: what a row gives, one turn of the walk over the rows, and lines stored.
-use Rattle.std.specs.Prelude.{ℕ, ◌+◌, ◌*◌, ◌≤◌, ◌≡◌, Bool, false, cond, List, [], ◌∷◌, ◌++◌, length, take, drop, get_or, leb, ltb, eqb}
-use Rattle.std.proofs.Math.Option.{Option}
+use Rattle.std.specs.Prelude.{ℕ, ◌+◌, ◌*◌, ◌≤◌, ◌≡◌, Bool, false, cond, List, [], ◌++◌, length, take, drop, get_or, leb, ltb, eqb}
+use Rattle.std.specs.Prelude.{Option, Some, None, Result, Ok, Err}
 use Rattle.std.proofs.lemmas.List.Edits.{sets}
 use Rattle.octets.specs.Outcome.{Outcome, outcome}
 use Rattle.octets.specs.Slices.{part_of}
@@ -8,11 +8,15 @@ use Rattle.protocol.specs.Stretches.{Key}
 use Rattle.recordings.specs.Mend.{recording_limit}
 use Rattle.hearing.specs.Hearing.{Place, heard_in}
 use Rattle.windows.specs.Compare.{contents_of, starts_of, same_key, Start, Verdict, against}
-use Rattle.windows.specs.Compare.{Line, compared, verdict_number, offset_of, numbers_of, listed}
+use Rattle.windows.specs.Compare.{Line, compared, numbers_of, listed}
 use Rattle.windows.specs.Ranks.{count_of, nth, first_lines, second_lines}
 use Rattle.hearing.specs.Rows.{happenings_in, Apart}
-use Rattle.windows.specs.declared.Compared.{Compared}
-use Rattle.windows.specs.declared.verdicts.Judgement.{Judgement}
+use Rattle.hearing.specs.declared.row.Row.{Row}
+use Rattle.recordings.specs.declared.Refusal.{Refusal}
+use Rattle.windows.specs.declared.line.Judgement.{Judgement}
+use Rattle.windows.specs.declared.line.Line.{Line as WrittenLine}
+use Rattle.windows.specs.declared.side.Pair.{Pair}
+use Rattle.windows.specs.declared.side.Side.{Side as LentSide}
 
 -- a recording as it was heard
 pub record Side : Type 0 where
@@ -22,6 +26,12 @@ pub record Side : Type 0 where
 
 abbrev pub side : (recording parts numbers : List ℕ) → Side
 side recording parts numbers = record { recording = recording; parts = parts; numbers = numbers }
+
+abbrev pub heard : LentSide → Side
+heard s = side s.recording.now s.bytes.now s.events.now
+
+abbrev pub heard_before : Side → ℕ → Side
+heard_before s at = side s.recording s.parts (take at s.numbers)
 
 -- what is left of its starts from a place on
 abbrev pub starts_from : Side → ℕ → List Start
@@ -39,6 +49,9 @@ pub record Laid (s : Side) (room : ℕ) : Type 0 where
 -- ---- the row at a place
 abbrev pub key_with : (id file : List ℕ) → Key
 key_with id file = record { id = id; file = file }
+
+abbrev pub key_of : Pair → Key
+key_of p = key_with p.id.now p.file.now
 
 abbrev pub id_at : (recording numbers : List ℕ) → ℕ → List ℕ
 id_at recording numbers at = part_of recording (get_or numbers (at + 1) 0) (get_or numbers (at + 2) 0)
@@ -72,13 +85,14 @@ start_at s at =
       contents = contents_of key (happenings_in s.recording s.parts (drop (at + 7) s.numbers));
     }
 
--- a row that was looked for: none where the numbers end before
-abbrev pub found_at : Side → ℕ → Option Start
-found_at s at = cond (leb (at + 7) (length s.numbers)) (Option.some (start_at s at)) Option.none
+-- a row that was looked for, by how many rows stand before it
+abbrev pub found_at : Side → Option ℕ → Option Start
+found_at s None = None
+found_at s (Some row) = Some (start_at s (row * 7))
 
--- a place where a row begins, counted from the first
-abbrev pub RowPlace : ℕ → Type 0
-RowPlace at = (m : ℕ) × (at ≡ m * 7)
+abbrev pub IsRow : Side → Option ℕ → Type 0
+IsRow s None = Unit {0}
+IsRow s (Some row) = row * 7 + 7 ≤ length s.numbers
 
 -- ---- the line of a row
 -- how many starts of its pair stand before it
@@ -99,18 +113,14 @@ abbrev pub second_line : Side → ℕ → Line
 second_line second at = record { verdict = Verdict.only_second; start = start_at second at }
 
 abbrev pub judged : Verdict → Judgement
-judged v = record { verdict = verdict_number v; offset = offset_of v }
+judged Verdict.only_first = Judgement.OnlyFirst
+judged Verdict.only_second = Judgement.OnlySecond
+judged Verdict.same = Judgement.Same
+judged (Verdict.different n) = Judgement.Different n
 
 -- ---- lines stored
-abbrev pub row_numbers : Judgement → (numbers : List ℕ) → ℕ → List ℕ
-row_numbers j numbers at =
-    j.verdict
-    ∷ j.offset
-    ∷ get_or numbers (at + 1) 0
-    ∷ get_or numbers (at + 2) 0
-    ∷ get_or numbers (at + 3) 0
-    ∷ get_or numbers (at + 4) 0
-    ∷ []
+abbrev pub line_with : Judgement → Row → WrittenLine
+line_with j r = record { found = j; id = r.id; file_id = r.file_id }
 
 -- a line where it fits, and else the list as before
 unfoldable pub with_line : List ℕ → ℕ → Line → List ℕ
@@ -138,13 +148,13 @@ lines_between first second =
     first_lines [] (starts_in first) (starts_in second) ++ second_lines [] (starts_in second) (starts_in first)
 
 -- "no room for the list: 9; nothing written"
-unfoldable pub listed_in : List Line → (list : List ℕ) → Outcome Compared
+unfoldable pub listed_in : List Line → (list : List ℕ) → Outcome (Result ℕ Refusal)
 listed_in lines list =
-    cond (ltb (length list) (length (listed lines))) (outcome (Compared.Refused 9) list)
-    (outcome (Compared.Rows (length lines)) (sets list 0 (listed lines)))
+    cond (ltb (length list) (length (listed lines))) (outcome (Err Refusal.NoRoom) list)
+    (outcome (Ok (length lines)) (sets list 0 (listed lines)))
 
 -- the second's refusal, or the lines of both, once the first was heard
-unfoldable pub beside_of : (first : Side) (second list : List ℕ) → Outcome Compared
+unfoldable pub beside_of : (first : Side) (second list : List ℕ) → Outcome (Result ℕ Refusal)
 beside_of first ys list =
-    cond (ltb recording_limit (length ys)) (outcome (Compared.Refused 17) list)
+    cond (ltb recording_limit (length ys)) (outcome (Err Refusal.TooLong) list)
     (listed_in (compared (starts_in first) (starts_of (heard_in ys))) list)

@@ -1,7 +1,7 @@
 -- Wrong comparers, starters and answerers, most made by changing ours, each with one error. A law that held of one of them
 -- would be worth nothing; `CompareTeeth` says that the laws, or the examples, are false of them.
 use Rattle.std.specs.Prelude.{ℕ, ◌*◌, Bool, true, cond, ◌&&◌, ◌||◌, List, [], ◌∷◌, ◌++◌, map, reverse, length, take, drop, ltb, leb, eqb}
-use Rattle.std.proofs.Math.Option.{Option}
+use Rattle.std.specs.Prelude.{Option, Some, None}
 use Rattle.std.proofs.lemmas.List.Edits.{sets}
 use Rattle.octets.specs.Outcome.{outcome}
 use Rattle.octets.specs.Slices.{equals}
@@ -10,7 +10,8 @@ use Rattle.recordings.specs.Mend.{recording_limit}
 use Rattle.hearing.specs.Hearing.{Happening, heard_in}
 use Rattle.windows.specs.Compare.{same_key, Start, starts_of, Verdict, later, first_diff, partner, against, Line, only_seconds, compared}
 use Rattle.windows.specs.Compare.{lines_of, listed}
-use Rattle.windows.specs.declared.Compared.TheVariants as Compared
+use Rattle.std.specs.Prelude.{Ok, Err}
+use Rattle.recordings.specs.declared.Refusal.TheVariants as Refusal
 use Rattle.windows.specs.Laws.{Comparer, SameAlone, MatchedInOrder, Mirrored, ListsOnce, Differ, FirstOffset}
 use Rattle.windows.specs.Laws.{Starter, EachStart, SettledContents, ClaimedContents}
 use Rattle.windows.specs.Examples.{ExamplesOf, Answerer, RoomsOf}
@@ -29,8 +30,8 @@ backwards xs ys = compared xs (reverse ys)
 
 -- by another test of pairs
 abbrev pub partner_by : (Key → Key → Bool) → Key → List Start → Option Start
-partner_by alike k [] = Option.none
-partner_by alike k (b ∷ bs) = cond (alike k b.key) (Option.some b) (partner_by alike k bs)
+partner_by alike k [] = None
+partner_by alike k (b ∷ bs) = cond (alike k b.key) (Some b) (partner_by alike k bs)
 
 abbrev pub without_by : (Key → Key → Bool) → Key → List Start → List Start
 without_by alike k [] = []
@@ -123,9 +124,9 @@ last_part_alone k hs = go [] hs
 -- ---- answering, by how the two sizes are tested
 abbrev pub answered_by : (too_long : List ℕ → List ℕ → Bool) (short : (room rows : ℕ) → Bool) → Answerer
 answered_by too_long short xs ys list =
-    cond (too_long xs ys) (outcome (Compared.Refused 17) list)
-    (cond (short (length list) (length (lines_of xs ys))) (outcome (Compared.Refused 9) list)
-    (outcome (Compared.Rows (length (lines_of xs ys))) (sets list 0 (listed (lines_of xs ys)))))
+    cond (too_long xs ys) (outcome (Err Refusal.TooLong) list)
+    (cond (short (length list) (length (lines_of xs ys))) (outcome (Err Refusal.NoRoom) list)
+    (outcome (Ok (length (lines_of xs ys))) (sets list 0 (listed (lines_of xs ys)))))
 
 abbrev pub is_long : List ℕ → Bool
 is_long xs = ltb recording_limit (length xs)

@@ -1,6 +1,5 @@
 -- Wrong hearers, each with one error. A law that held of one of them would be worth nothing; `HearerTeeth` says which law is false of it.
-use Rattle.std.specs.Prelude.{ℕ, cond, ◌&&◌, ◌||◌, List, [], ◌∷◌, ◌++◌, eqb}
-use Rattle.std.proofs.Math.Option.{Option}
+use Rattle.std.specs.Prelude.{ℕ, cond, ◌&&◌, ◌||◌, List, [], ◌∷◌, ◌++◌, eqb, Option, Some, None}
 use Rattle.command.specs.Slots.{action_code}
 use Rattle.protocol.specs.Table.{empty_table}
 use Rattle.protocol.specs.Sessions.{string_in}
@@ -33,12 +32,12 @@ abbrev pub every_open : Hearer
 every_open = with (λ (x : Sighting) (a : Acted). ear x a (hearing a.step.told a.scratch))
   where
     ear : Sighting → Acted → Option Heard → List Happening
-    ear x a Option.none = []
-    ear x a (Option.some Heard.opens) = start_of x a
-    ear x a (Option.some (Heard.writes b)) = part_of x a b
-    ear x a (Option.some (Heard.writes_last b)) = part_of x a b
-    ear x a (Option.some Heard.commits) = []
-    ear x a (Option.some Heard.requests) = []
+    ear x a None = []
+    ear x a (Some Heard.opens) = start_of x a
+    ear x a (Some (Heard.writes b)) = part_of x a b
+    ear x a (Some (Heard.writes_last b)) = part_of x a b
+    ear x a (Some Heard.commits) = []
+    ear x a (Some Heard.requests) = []
 
 -- starts are taken from the file commands read, parts from the data commands read, instead of from the asks told
 abbrev pub files_read : Hearer

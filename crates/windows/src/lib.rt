@@ -2,14 +2,15 @@
 // it is only in the first, only in the second, the same, or different.
 //
 // Each recording is heard as the console of `replay` hears it (the crate `hearing`), which leaves rows of
-// what happened (`rows`); these are matched (`matching`), their contents gathered (`contents`) and
-// compared (`verdicts`), and the lines listed (`lines`).
+// what happened (`side`); these are matched (`matching`), their contents gathered (`contents`) and
+// compared (`verdicts`), and the lines listed (`lines`, `line`).
 #![tactic(auto)]
 
 mod contents;
+mod line;
 mod lines;
 mod matching;
-mod rows;
+mod side;
 mod verdicts;
 
 ghost use Rattle.std.specs.Prelude.{◌≡◌};
@@ -21,125 +22,59 @@ ghost use Rattle.windows.specs.Laws.{CompareLaws};
 ghost use Rattle.windows.specs.Examples.{CompareExamples};
 ghost use Rattle.windows.specs.WrongComparers.{CompareTeeth};
 ghost use Rattle.windows.specs.WrongHearers.{HearerTeeth};
-ghost use Rattle.windows.specs.Steps.{side, Laid, lines_between, beside_of, listed_in};
+ghost use Rattle.windows.specs.Steps.{heard, Laid, lines_between, beside_of, listed_in};
 
-use hearing::Notes;
-
-// How many rows the list has; or why nothing was done: 17 for a recording over the limit, 9 for no room.
-#[derive(Clone, Copy)]
-pub enum Compared {
-    Rows(usize),
-    Refused(u8),
-}
-
-impl Compared {
-    // How many bytes a recording has at most.
-    pub const LIMIT: usize = Notes::LIMIT;
-
-    // How many numbers are room for the list of any two recordings: 3,854 rows.
-    pub const LIST_ROOM: usize = 23124;
-
-    // How many numbers a row has: the verdict, the offset (0 unless different), and where the session's id
-    // and the file's id stand, start and length each.
-    pub const ROW: usize = 6;
-
-    // The verdicts: only in the first, only in the second, same, different.
-    pub const FIRST: usize = 1;
-
-    pub const SECOND: usize = 2;
-
-    pub const SAME: usize = 3;
-
-    pub const DIFFERENT: usize = 4;
-}
+pub use line::{Judgement, Line};
+use recordings::Mended;
+pub use recordings::Refusal;
+use side::Side;
 
 // Compares two recordings, and lists each start once: the first's in order, then those only the second
-// has, in order. The ids of a row stand in the second recording where only the second has it, and else
-// in the first. Nothing is written where something is refused.
-pub fn compare<'a>(first: &'a [u8], second: &'a [u8], list: &mut [usize]) -> Compared
+// has, in order. The answer is how many lines the list has. The ids of a line stand in the second
+// recording where only the second has it, and else in the first. Nothing is written where something is
+// refused.
+pub fn compare(first: &[u8], second: &[u8], list: &mut [usize]) -> Result<usize, Refusal>
     ensures list_after { outcome result list.new ≡ compare_of first.now second.now list.old }
     ensures compare_laws { CompareLaws compared first_diff heard_in starts_of × CompareTeeth × HearerTeeth × CompareExamples }
 {
-    let mut events = [0usize; Compared::LIMIT];
-    let mut bytes = [0u8; Compared::LIMIT];
-    match hearing::hear(first, &mut events, &mut bytes) {
-        Notes::Numbers(n) => beside(first, &bytes, &events[..n], second, list),
-        Notes::Refused(why) => Compared::Refused(why),
-    }
+    let mut events = [0usize; Mended::LIMIT];
+    let mut bytes = [0u8; Mended::LIMIT];
+    let n = hearing::hear(first, &mut events, &mut bytes)?;
+    let first = Side {
+        recording: first,
+        bytes: &bytes,
+        events: &events[..n],
+    };
+    beside(first, second, list)
 }
 
 // The same once the first was heard: the second is heard too.
-fn beside<'a>(
-    first: &'a [u8],
-    first_bytes: &'a [u8],
-    first_events: &'a [usize],
-    second: &'a [u8],
-    list: &mut [usize],
-) -> Compared
-    requires { Laid (side first.now first_bytes.now first_events.now) recording_limit }
-    ensures { outcome result list.new
-        ≡ beside_of (side first.now first_bytes.now first_events.now)
-        second.now list.old }
+fn beside(first: Side, second: &[u8], list: &mut [usize]) -> Result<usize, Refusal>
+    requires { Laid (heard first) recording_limit }
+    ensures { outcome result list.new ≡ beside_of (heard first.entry) second.now list.old }
 {
-    let mut events = [0usize; Compared::LIMIT];
-    let mut bytes = [0u8; Compared::LIMIT];
-    match hearing::hear(second, &mut events, &mut bytes) {
-        Notes::Numbers(n) => {
-            fitted(
-                first,
-                first_bytes,
-                first_events,
-                second,
-                &bytes,
-                &events[..n],
-                list,
-            )
-        }
-        Notes::Refused(why) => Compared::Refused(why),
-    }
+    let mut events = [0usize; Mended::LIMIT];
+    let mut bytes = [0u8; Mended::LIMIT];
+    let n = hearing::hear(second, &mut events, &mut bytes)?;
+    let second = Side {
+        recording: second,
+        bytes: &bytes,
+        events: &events[..n],
+    };
+    fitted(first, second, list)
 }
 
 // Lists the lines, where there is room for all of them.
-fn fitted<'a>(
-    first: &'a [u8],
-    first_bytes: &'a [u8],
-    first_events: &'a [usize],
-    second: &'a [u8],
-    second_bytes: &'a [u8],
-    second_events: &'a [usize],
-    list: &mut [usize],
-) -> Compared
-    requires { Laid (side first.now first_bytes.now first_events.now) recording_limit
-        × Laid (side second.now second_bytes.now second_events.now) recording_limit }
+fn fitted(first: Side, second: Side, list: &mut [usize]) -> Result<usize, Refusal>
+    requires { Laid (heard first) recording_limit × Laid (heard second) recording_limit }
     ensures { outcome result list.new
-        ≡ listed_in (lines_between (side first.now first_bytes.now first_events.now)
-        (side second.now second_bytes.now second_events.now)) list.old }
+        ≡ listed_in (lines_between (heard first.entry) (heard second.entry)) list.old }
 {
-    let mut a = [0u8; Compared::LIMIT];
-    let mut b = [0u8; Compared::LIMIT];
-    let needed = lines::list(
-        first,
-        first_bytes,
-        first_events,
-        second,
-        second_bytes,
-        second_events,
-        &mut a,
-        &mut b,
-        &mut [],
-    );
-    if needed * Compared::ROW > list.len() {
-        return Compared::Refused(9);
+    let mut a = [0u8; Mended::LIMIT];
+    let mut b = [0u8; Mended::LIMIT];
+    let needed = lines::list(first, second, &mut a, &mut b, &mut []);
+    if needed * Line::LEN > list.len() {
+        return Err(Refusal::NoRoom);
     }
-    Compared::Rows(lines::list(
-        first,
-        first_bytes,
-        first_events,
-        second,
-        second_bytes,
-        second_events,
-        &mut a,
-        &mut b,
-        list,
-    ))
+    Ok(lines::list(first, second, &mut a, &mut b, list))
 }

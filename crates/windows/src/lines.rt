@@ -1,221 +1,116 @@
 // The walk over the rows of both sides. It counts the lines, and stores each where the list has room for
 // it: one walk with no room measures, and a second one stores.
 ghost use Rattle.std.specs.Prelude.{◌≡◌, [], ◌+◌, ◌*◌, ◌≤◌, length};
-ghost use Rattle.std.proofs.lemmas.List.Edits.{sets};
 ghost use Rattle.octets.specs.Outcome.{outcome};
 ghost use Rattle.recordings.specs.Mend.{recording_limit};
 ghost use Rattle.windows.specs.Ranks.{first_lines, second_lines};
 ghost use Rattle.windows.specs.Steps as Steps;
-ghost use Rattle.windows.specs.Steps.{side, Laid, Writes, starts_in, lines_between, row_numbers};
+ghost use Rattle.windows.specs.Steps.{heard, Laid, Writes, starts_in, lines_between};
 
-use crate::verdicts::Judgement;
-use crate::{Compared, matching, verdicts};
-use hearing::Notes;
+use crate::side::Side;
+use crate::{Judgement, Line, matching, verdicts};
+use hearing::Row;
 
 // All lines: the first's starts in order, then those only the second has, in order.
-pub(crate) fn list<'a>(
-    first: &'a [u8],
-    first_bytes: &'a [u8],
-    first_events: &'a [usize],
-    second: &'a [u8],
-    second_bytes: &'a [u8],
-    second_events: &'a [usize],
+pub(crate) fn list(
+    first: Side,
+    second: Side,
     a: &mut [u8],
     b: &mut [u8],
     list: &mut [usize],
 ) -> usize
-    requires { Laid (side first.now first_bytes.now first_events.now) (length a.old)
-        × Laid (side second.now second_bytes.now second_events.now) (length b.old) }
-    ensures { (result ≤ recording_limit + recording_limit) × Writes (lines_between
-        (side first.now first_bytes.now first_events.now)
-        (side second.now second_bytes.now second_events.now))
-        0 list.old result list.new }
+    requires { Laid (heard first) (length a.old) × Laid (heard second) (length b.old) }
+    ensures { (result ≤ recording_limit + recording_limit)
+        × Writes (lines_between (heard first.entry) (heard second.entry)) 0 list.old result list.new }
 {
-    let rows = firsts(
-        first,
-        first_bytes,
-        first_events,
-        second,
-        second_bytes,
-        second_events,
-        a,
-        b,
-        list,
-    );
-    seconds(
-        first,
-        first_bytes,
-        first_events,
-        second,
-        second_bytes,
-        second_events,
-        list,
-        rows,
-    )
+    let lines = firsts(first, second, a, b, list);
+    seconds(first, second, list, lines)
 }
 
 // The lines of the first's starts.
-fn firsts<'a>(
-    first: &'a [u8],
-    first_bytes: &'a [u8],
-    first_events: &'a [usize],
-    second: &'a [u8],
-    second_bytes: &'a [u8],
-    second_events: &'a [usize],
-    a: &mut [u8],
-    b: &mut [u8],
-    list: &mut [usize],
-) -> usize
-    requires { Laid (side first.now first_bytes.now first_events.now) (length a.old)
-        × Laid (side second.now second_bytes.now second_events.now) (length b.old) }
+fn firsts(first: Side, second: Side, a: &mut [u8], b: &mut [u8], list: &mut [usize]) -> usize
+    requires { Laid (heard first) (length a.old) × Laid (heard second) (length b.old) }
     ensures { (result ≤ recording_limit) × Writes (first_lines []
-        (starts_in (side first.now first_bytes.now first_events.now))
-        (starts_in (side second.now second_bytes.now second_events.now)))
+        (starts_in (heard first.entry)) (starts_in (heard second.entry)))
         0 list.old result list.new }
 {
-    let mut at = 0;
-    let mut row = 0;
-    while first_events.len() - at >= Notes::ROW {
-        row = first_row(
-            first,
-            first_bytes,
-            first_events,
-            at,
-            second,
-            second_bytes,
-            second_events,
-            a,
-            b,
-            list,
-            row,
-        );
-        at += Notes::ROW;
+    let mut line = 0;
+    for row in 0..first.rows() {
+        line = first_row(first, row, second, a, b, list, line);
     }
-    row
+    line
 }
 
-// Past a row of the first: a line where it is a start.
+// Past a row of the first: a line where it is a start. What is found of it is asked only where the line
+// has room.
 #[tactic(auto, unfolding(crate::specs::Steps::first_row, crate::specs::Steps::with_line))]
-fn first_row<'a>(
-    first: &'a [u8],
-    first_bytes: &'a [u8],
-    first_events: &'a [usize],
-    at: usize,
-    second: &'a [u8],
-    second_bytes: &'a [u8],
-    second_events: &'a [usize],
+fn first_row(
+    first: Side,
+    row: usize,
+    second: Side,
     a: &mut [u8],
     b: &mut [u8],
     list: &mut [usize],
-    row: usize,
+    line: usize,
 ) -> usize
-    requires { Steps.RowPlace at × (at + 7 ≤ length first_events.now)
-        × Laid (side first.now first_bytes.now first_events.now) (length a.old)
-        × Laid (side second.now second_bytes.now second_events.now) (length b.old)
-        × (row ≤ recording_limit) }
-    ensures { outcome result list.new ≡ Steps.first_row
-        (side first.now first_bytes.now first_events.now)
-        (side second.now second_bytes.now second_events.now) at list.old row }
+    requires { (row * 7 + 7 ≤ length first.events.now)
+        × Laid (heard first) (length a.old) × Laid (heard second) (length b.old)
+        × (line ≤ recording_limit) }
+    ensures { outcome result list.new
+        ≡ Steps.first_row (heard first.entry) (heard second.entry) (row * 7) list.old line }
 {
-    if first_events[at] == Notes::PART {
-        return row;
+    let start = first.row(row);
+    if !start.is_start() {
+        return line;
     }
-    let place = row * Compared::ROW;
-    if !octets::fits(place, Compared::ROW, list.len()) {
-        return row + 1;
+    if octets::fits(line * Line::LEN, Line::LEN, list.len()) {
+        let found = verdicts::judge(first, row, second, a, b);
+        line_of(start, found).write(list, line);
     }
-    let found = verdicts::judge(
-        first,
-        first_bytes,
-        first_events,
-        at,
-        second,
-        second_bytes,
-        second_events,
-        a,
-        b,
-    );
-    put_row(found, first_events, at, list, place);
-    row + 1
+    line + 1
 }
 
-// The lines of the starts that only the second has, from a row on.
-fn seconds<'a>(
-    first: &'a [u8],
-    first_bytes: &'a [u8],
-    first_events: &'a [usize],
-    second: &'a [u8],
-    second_bytes: &'a [u8],
-    second_events: &'a [usize],
-    list: &mut [usize],
-    from: usize,
-) -> usize
-    requires { (length second_events.now ≤ recording_limit) × (from ≤ recording_limit) }
+// The lines of the starts that only the second has, from a line on.
+//
+// This walk and the first's stay two: a step as a closure would change the two buffers that it captures, and
+// of such calls the loop's proof would know nothing.
+fn seconds(first: Side, second: Side, list: &mut [usize], from: usize) -> usize
+    requires { (length second.events.now ≤ recording_limit) × (from ≤ recording_limit) }
     ensures { (result ≤ recording_limit + recording_limit) × Writes (second_lines []
-        (starts_in (side second.now second_bytes.now second_events.now))
-        (starts_in (side first.now first_bytes.now first_events.now)))
+        (starts_in (heard second.entry)) (starts_in (heard first.entry)))
         from list.old result list.new }
 {
-    let mut at = 0;
-    let mut row = from;
-    while second_events.len() - at >= Notes::ROW {
-        row = second_row(
-            first,
-            first_bytes,
-            first_events,
-            second,
-            second_bytes,
-            second_events,
-            at,
-            list,
-            row,
-        );
-        at += Notes::ROW;
+    let mut line = from;
+    for row in 0..second.rows() {
+        line = second_row(first, second, row, list, line);
     }
-    row
+    line
 }
 
 // Past a row of the second: a line where it is a start that only the second has.
 #[tactic(auto, unfolding(crate::specs::Steps::second_row, crate::specs::Steps::with_line))]
-fn second_row<'a>(
-    first: &'a [u8],
-    first_bytes: &'a [u8],
-    first_events: &'a [usize],
-    second: &'a [u8],
-    second_bytes: &'a [u8],
-    second_events: &'a [usize],
-    at: usize,
-    list: &mut [usize],
-    row: usize,
-) -> usize
-    requires { (at + 7 ≤ length second_events.now) × (row ≤ recording_limit + recording_limit) }
-    ensures { outcome result list.new ≡ Steps.second_row
-        (side first.now first_bytes.now first_events.now)
-        (side second.now second_bytes.now second_events.now) at list.old row }
+fn second_row(first: Side, second: Side, row: usize, list: &mut [usize], line: usize) -> usize
+    requires { (row * 7 + 7 ≤ length second.events.now) × (line ≤ recording_limit + recording_limit) }
+    ensures { outcome result list.new
+        ≡ Steps.second_row (heard first.entry) (heard second.entry) (row * 7) list.old line }
 {
-    if second_events[at] == Notes::PART {
-        return row;
+    let start = second.row(row);
+    if !start.is_start() || !matching::is_left(first, second, row) {
+        return line;
     }
-    if !matching::is_left(first, first_events, second, second_events, at) {
-        return row;
+    if octets::fits(line * Line::LEN, Line::LEN, list.len()) {
+        line_of(start, Judgement::OnlySecond).write(list, line);
     }
-    let place = row * Compared::ROW;
-    if !octets::fits(place, Compared::ROW, list.len()) {
-        return row + 1;
-    }
-    put_row(Judgement::SECOND, second_events, at, list, place);
-    row + 1
+    line + 1
 }
 
-// Stores a line: what was found, and where the two ids of the row stand.
-fn put_row(found: Judgement, events: &[usize], at: usize, list: &mut [usize], place: usize)
-    requires { (at + 7 ≤ length events.now) × (place + 6 ≤ length list.old) }
-    ensures { list.new ≡ sets list.old place (row_numbers found events.now at) }
+// What was found of a start, and where the two ids of its row stand.
+fn line_of(start: Row, found: Judgement) -> Line
+    ensures { result ≡ Steps.line_with found start }
 {
-    list[place] = found.verdict;
-    list[place + 1] = found.offset;
-    list[place + 2] = events[at + 1];
-    list[place + 3] = events[at + 2];
-    list[place + 4] = events[at + 3];
-    list[place + 5] = events[at + 4];
+    Line {
+        found,
+        id: start.id,
+        file_id: start.file_id,
+    }
 }

@@ -1,123 +1,58 @@
 // What is found of a start: whether both have it, and where their contents differ.
-ghost use Rattle.std.specs.Prelude.{◌≡◌, ◌+◌, ◌≤◌, length};
-ghost use Rattle.windows.specs.Compare.{Verdict, first_diff, against};
-ghost use Rattle.windows.specs.Steps.{side, Laid, start_at, partner_of, judged, RowPlace};
+ghost use Rattle.std.specs.Prelude.{◌≡◌, ◌+◌, ◌*◌, ◌≤◌, ◌==◌, not, length, position, zip};
+ghost use Rattle.windows.specs.Compare.{first_diff, against};
+ghost use Rattle.windows.specs.Steps.{heard, Laid, start_at, partner_of, judged};
 
-use crate::{Compared, contents, matching};
-use hearing::Notes;
-
-// A verdict's number, and the offset: 0 unless contents differ.
-#[derive(Drop)]
-pub struct Judgement {
-    pub verdict: usize,
-    pub offset: usize,
-}
-
-impl Judgement {
-    pub const FIRST: Judgement = Judgement {
-        verdict: Compared::FIRST,
-        offset: 0,
-    };
-
-    pub const SECOND: Judgement = Judgement {
-        verdict: Compared::SECOND,
-        offset: 0,
-    };
-
-    pub const SAME: Judgement = Judgement {
-        verdict: Compared::SAME,
-        offset: 0,
-    };
-}
+use crate::side::Side;
+use crate::{Judgement, contents, matching};
 
 // Compares contents: the first offset at which they differ is the shorter length where one is the start
 // of the other.
 fn first_difference(a: &[u8], b: &[u8]) -> Judgement
     ensures { result ≡ judged (first_diff a.now b.now) }
 {
-    let len = octets::size::least(a.len(), b.len());
-    let mut i = 0;
-    while i < len {
-        if a[i] != b[i] {
-            return different(i);
-        }
-        i += 1;
+    match first_unlike(a, b) {
+        Some(offset) => Judgement::Different(offset),
+        None if a.len() == b.len() => Judgement::Same,
+        None => Judgement::Different(a.len().min(b.len())),
     }
-    if a.len() != b.len() {
-        return different(len);
-    }
-    Judgement::SAME
 }
 
-fn different(offset: usize) -> Judgement
-    ensures { result ≡ judged (Verdict.different offset) }
+// The first offset at which both have a byte, and not the same.
+fn first_unlike(a: &[u8], b: &[u8]) -> Option<usize>
+    ensures { result ≡ position (λ bytes. not (bytes.0 == bytes.1)) (zip a.now b.now) }
 {
-    Judgement {
-        verdict: Compared::DIFFERENT,
-        offset: offset,
-    }
+    a.iter().zip(b).position(|(x, y)| x != y)
 }
 
 // The contents of two starts compared, each gathered first.
-fn compared<'a>(
-    first: &'a [u8],
-    first_bytes: &'a [u8],
-    first_events: &'a [usize],
-    at: usize,
-    second: &'a [u8],
-    second_bytes: &'a [u8],
-    second_events: &'a [usize],
+fn compared(
+    first: Side,
+    row: usize,
+    second: Side,
     partner: usize,
     a: &mut [u8],
     b: &mut [u8],
 ) -> Judgement
-    requires { RowPlace at × (at + 7 ≤ length first_events.now)
-        × Laid (side first.now first_bytes.now first_events.now) (length a.old)
-        × RowPlace partner × (partner + 7 ≤ length second_events.now)
-        × Laid (side second.now second_bytes.now second_events.now) (length b.old) }
-    ensures { result ≡ judged (first_diff
-        (start_at (side first.now first_bytes.now first_events.now) at).contents
-        (start_at (side second.now second_bytes.now second_events.now) partner).contents) }
+    requires { (row * 7 + 7 ≤ length first.events.now) × Laid (heard first) (length a.old)
+        × (partner * 7 + 7 ≤ length second.events.now) × Laid (heard second) (length b.old) }
+    ensures { result ≡ judged (first_diff (start_at (heard first.entry) (row * 7)).contents
+        (start_at (heard second.entry) (partner * 7)).contents) }
 {
-    let n = contents::gather(first, first_bytes, first_events, at, a);
-    let m = contents::gather(second, second_bytes, second_events, partner, b);
+    let n = contents::gather(first, row, a);
+    let m = contents::gather(second, partner, b);
     first_difference(&a[..n], &b[..m])
 }
 
 // What is found of a start in the first.
-pub(crate) fn judge<'a>(
-    first: &'a [u8],
-    first_bytes: &'a [u8],
-    first_events: &'a [usize],
-    at: usize,
-    second: &'a [u8],
-    second_bytes: &'a [u8],
-    second_events: &'a [usize],
-    a: &mut [u8],
-    b: &mut [u8],
-) -> Judgement
-    requires { RowPlace at × (at + 7 ≤ length first_events.now)
-        × Laid (side first.now first_bytes.now first_events.now) (length a.old)
-        × Laid (side second.now second_bytes.now second_events.now) (length b.old) }
-    ensures { result ≡ judged (against
-        (start_at (side first.now first_bytes.now first_events.now) at)
-        (partner_of (side first.now first_bytes.now first_events.now)
-        (side second.now second_bytes.now second_events.now) at)) }
+pub(crate) fn judge(first: Side, row: usize, second: Side, a: &mut [u8], b: &mut [u8]) -> Judgement
+    requires { (row * 7 + 7 ≤ length first.events.now)
+        × Laid (heard first) (length a.old) × Laid (heard second) (length b.old) }
+    ensures { result ≡ judged (against (start_at (heard first.entry) (row * 7))
+        (partner_of (heard first.entry) (heard second.entry) (row * 7))) }
 {
-    let partner = matching::partner(first, first_events, at, second, second_events);
-    if !octets::fits(partner, Notes::ROW, second_events.len()) {
-        return Judgement::FIRST;
+    match matching::partner(first, row, second) {
+        None => Judgement::OnlyFirst,
+        Some(partner) => compared(first, row, second, partner, a, b),
     }
-    compared(
-        first,
-        first_bytes,
-        first_events,
-        at,
-        second,
-        second_bytes,
-        second_events,
-        partner,
-        a,
-        b,
-    )
 }

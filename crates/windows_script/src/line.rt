@@ -1,20 +1,18 @@
 // The lines that are printed.
-ghost use Rattle.std.specs.Prelude.{◌+◌, ◌≤◌, length};
-
-use octets::size::least;
 use script_parts::list_sum;
-use std::io::Stdout;
 use streams::Run;
-use windows::Compared;
+use windows::{Line, Refusal};
 
-// The refusal's number, or 0, the rows, the sum of the whole list, and a line for each row.
-pub(crate) fn tell(out: Stdout, compared: Compared, list: &[usize]) -> Run {
-    let run = Run::Well(out);
+// The refusal's number, or 0, how many lines the list has, the sum of the whole list, and each line.
+pub(crate) fn tell(run: Run, compared: Result<usize, Refusal>, list: &[usize]) -> Run {
     match compared {
-        Compared::Refused(n) => sum_after(run.number(n as usize).text(b" 0"), list),
-        Compared::Rows(n) => {
+        Err(refusal) => {
+            let refused = run.number(usize::from(refusal.number())).text(b" 0");
+            sum_after(refused, list)
+        }
+        Ok(n) => {
             let counted = run.text(b"0 ").number(n);
-            rows(sum_after(counted, list), list, n)
+            lines(sum_after(counted, list), list, n)
         }
     }
 }
@@ -23,24 +21,18 @@ fn sum_after(run: Run, list: &[usize]) -> Run {
     run.text(b" ").number(list_sum(list)).text(b"\n")
 }
 
-// The six numbers of each of the first n rows.
-fn rows(run: Run, list: &[usize], n: usize) -> Run {
-    let count = least(n, list.len() / Compared::ROW);
-    let mut all = run;
-    let mut i = 0;
-    while i < count {
-        all = row(all, list, i * Compared::ROW);
-        i += 1;
+// The six numbers of each of the first n lines.
+fn lines(mut run: Run, list: &[usize], n: usize) -> Run {
+    for &[number, offset, id, id_len, file, file_len] in list
+        .as_chunks::<{ Line::LEN }>()
+        .0
+        .iter()
+        .take(n)
+    {
+        let found = run.number(number).text(b" ").number(offset);
+        run = place(place(found, id, id_len), file, file_len).text(b"\n");
     }
-    all
-}
-
-fn row(run: Run, list: &[usize], at: usize) -> Run
-    requires { at + 6 ≤ length list.now }
-{
-    let verdict = run.number(list[at]).text(b" ").number(list[at + 1]);
-    let session = place(verdict, list[at + 2], list[at + 3]);
-    place(session, list[at + 4], list[at + 5]).text(b"\n")
+    run
 }
 
 // A start and a length.

@@ -7,13 +7,14 @@ use borrow.Author.Tests.{leb-true}
 use Rattle.base64_codec.specs.Alphabet.{value_of}
 use Rattle.base64_codec.specs.Decode.{verdict_of, bytes_of, decode_of}
 use Rattle.base64_codec.specs.Values.{values_from}
-use Rattle.base64_codec.specs.declared.Verdict.TheVariants.{Valid}
+use Rattle.std.specs.Prelude.{Ok}
+use Rattle.std.proofs.lemmas.Result.{err_from_is_err_and}
 use Rattle.base64_codec.proofs.Lengths.{length_valid}
 use Rattle.base64_codec.proofs.Calls.{decode-encode}
 use Rattle.base64_codec.proofs.decode.Goals as goal
 
 -- so many bytes are asked for
-size : (t : List ℕ) (n : ℕ) → verdict_of t ≡ Valid n → length (bytes_of t) ≡ length t / 4 * 3 - n
+size : (t : List ℕ) (n : ℕ) → verdict_of t ≡ Ok n → length (bytes_of t) ≡ length t / 4 * 3 - n
 size t n e = omega (arith, length_valid t n e)
 
 pub check-requires : goal.check-requires
@@ -21,12 +22,12 @@ unfolding values_from value_of
 check-requires c = refl
 
 pub overflow_sub-n : goal.overflow_sub-n
-overflow_sub-n c = omega (arith, length_valid _ _ (sym c.in-Valid.ensures))
+overflow_sub-n c = omega (arith, length_valid _ _ (sym c.in_ok-padding.ensures))
 
 pub returns-then-not-fits-clause-out_after : goal.returns-then-not-fits-clause-out_after
 unfolding decode_of
 returns-then-not-fits-clause-out_after c =
-    let valid = sym c.in-Valid.ensures in
+    let valid = sym c.in_ok-padding.ensures in
     rw (valid, size _ _ valid, ← c.fits.ensures, c.if-not-fits.true)
 
 pub returns-then-not-fits-clause-decoded_encodes : goal.returns-then-not-fits-clause-decoded_encodes
@@ -36,23 +37,23 @@ pub fill-requires-clause-table_value : goal.fill-requires-clause-table_value
 unfolding values_from value_of
 fill-requires-clause-table_value c = refl
 
-pub fill-requires-clause-text_value : goal.fill-requires-clause-text_value
-fill-requires-clause-text_value c =
-    let valid = sym c.in-Valid.ensures in
-    (valid, rw (size _ _ valid) (leb-true _ _ (sym c.fits.ensures ∙ c.if-not-fits.false)))
+pub fill-requires-clause-room : goal.fill-requires-clause-room
+fill-requires-clause-room c = rw (size _ _ (sym c.in_ok-padding.ensures)) (leb-true _ _ (sym c.fits.ensures ∙ c.if-not-fits.false))
 
-pub returns-else-not-fits-clause-out_after : goal.returns-else-not-fits-clause-out_after
+pub returns-clause-out_after : goal.returns-clause-out_after
 unfolding decode_of
-returns-else-not-fits-clause-out_after c =
-    let valid = sym c.in-Valid.ensures in
+returns-clause-out_after c =
+    let valid = sym c.in_ok-padding.ensures in
     rw (valid, size _ _ valid, ← c.fits.ensures, c.if-not-fits.false, c.fill.ensures)
 
-pub returns-else-not-fits-clause-decoded_encodes : goal.returns-else-not-fits-clause-decoded_encodes
-returns-else-not-fits-clause-decoded_encodes c = decode-encode
+pub returns-clause-decoded_encodes : goal.returns-clause-decoded_encodes
+returns-clause-decoded_encodes c = decode-encode
 
-pub returns-in-Invalid-clause-out_after : goal.returns-in-Invalid-clause-out_after
+pub returns-in_err-padding-clause-out_after : goal.returns-in_err-padding-clause-out_after
 unfolding decode_of
-returns-in-Invalid-clause-out_after c = rw (← c.in-Invalid.ensures)
+returns-in_err-padding-clause-out_after c =
+    let told = err_from_is_err_and c.from_residual.result c.from_residual.ensures.1 in
+    rw (told.1, told.2, ← c.in_err-padding.ensures)
 
-pub returns-in-Invalid-clause-decoded_encodes : goal.returns-in-Invalid-clause-decoded_encodes
-returns-in-Invalid-clause-decoded_encodes c = decode-encode
+pub returns-in_err-padding-clause-decoded_encodes : goal.returns-in_err-padding-clause-decoded_encodes
+returns-in_err-padding-clause-decoded_encodes c = decode-encode

@@ -7,6 +7,6 @@ pub returns-then-n : goal.returns-then-n
 unfolding text_of
 returns-then-n c = rw (c.width-w.ensures.0, c.if-n.true, length-fixed) (omega arith)
 
-pub returns : goal.returns
+pub returns-else-n : goal.returns-else-n
 unfolding text_of
-returns c = rw (c.width-w.ensures.0, c.if-n.false, length-fixed)
+returns-else-n c = rw (c.width-w.ensures.0, c.if-n.false, length-fixed)

@@ -5,7 +5,7 @@ use native.Mathlib.Omega.{arith}
 use lib.ListN.{length}
 use Rattle.octets.specs.Outcome.{outcome}
 use Rattle.octets.specs.Slices.{copy_at}
-use Rattle.octets.specs.declared.Stored.TheVariants.{End}
+use Rattle.std.specs.Prelude.{Some}
 use Rattle.octets.proofs.Stores.{sets-part}
 use Rattle.octets.proofs.copy_at.Goals as goal
 
@@ -22,4 +22,4 @@ returns c =
     let a = c.args in
     let room : a.at + length a.src.now ≤ length a.dst.now = leb-true _ _ (sym c.fits.ensures ∙ c.if-not-fits.false) in
     rw (← c.fits.ensures, c.if-not-fits.false, c.copy_from_slice.ensures.after)
-    (ap (outcome (End _)) (sets-part a.src.now a.dst.now a.at room))
+    (ap (outcome (Some _)) (sets-part a.src.now a.dst.now a.at room))

@@ -1,10 +1,7 @@
-use mathlib.Core.Path.{◌∙◌}
 use native.Mathlib.Omega.{arith}
 use native.Mathlib.Nat.{add-zero}
-use lib.Seq.{take-length}
 use Rattle.octets.specs.Search.{index_of}
 use Rattle.octets.proofs.Lists.{drop-end}
-use borrow.Author.Rules.{rules}
 use Rattle.octets.proofs.find.Goals as goal
 
 pub returns-then-from-s : goal.returns-then-from-s

@@ -2,27 +2,21 @@
 use Prim.Native.Nat.{ℕ}
 use mathlib.Core.Path.{◌≡◌, refl}
 use mathlib.Core.Bool.{Bool, true, false, cond}
-use mathlib.Core.Option.{Option}
+use Rattle.std.specs.Prelude.{Option, Some, None}
 use Rattle.decimal.specs.declared.Number.{Number}
 use Rattle.protocol.specs.Table.{id_of, session_used, first, is_absent, put_session}
-use Rattle.protocol.specs.Replies.{no_reply, session_reply}
+use Rattle.protocol.specs.Replies.{session_reply}
 use Rattle.protocol.specs.Change.{stepped}
-use Rattle.protocol.specs.Files.{Request}
 use Rattle.protocol.specs.Receives.{bad_paths}
 use Rattle.protocol.specs.Sessions.{naming_session, absent_result, send_room, receive_room}
 use Rattle.protocol.specs.declared.Session.{Session}
 use Rattle.protocol.specs.declared.Kind.{Kind}
-use Rattle.protocol.specs.declared.Kind.TheVariants as Kind
 use Rattle.protocol.specs.declared.Table.{Table}
 use Rattle.protocol.specs.declared.Status.TheVariants as Status
 use Rattle.protocol.specs.declared.Told.{Told}
-use Rattle.protocol.specs.declared.Told.TheVariants as Told
 use Rattle.protocol.specs.declared.Reply.{Reply}
 use Rattle.protocol.specs.declared.Stepped.{Stepped}
-use Rattle.protocol.specs.declared.Found.{Found}
-use Rattle.protocol.specs.declared.Found.TheVariants as Found
-use Rattle.protocol.proofs.Tellings.{is_plain, plain}
-use Rattle.protocol.proofs.Ways.{nothing}
+use Rattle.protocol.proofs.Tellings.{is_plain}
 use Rattle.protocol.proofs.isolation.Alone.{Made, made, makes}
 use Rattle.frames.proofs.Choices.{by_cond}
 use Rattle.protocol.proofs.isolation.Replies.{Names, session-names}
@@ -32,17 +26,17 @@ abbrev pub placed : Table → ℕ → Made → Stepped
 placed t i x = stepped (go x.session) x.told x.reply
   where
     go : Option Session → Table
-    go Option.none = t
-    go (Option.some s) = put_session t i s
+    go None = t
+    go (Some s) = put_session t i s
 
 module _ (t : Table) (s : Session) (n : Number) where
-  pub with-room : (i : ℕ) → first is_absent t.sessions ≡ Found.At i → (k : Kind) → absent_result t s n k ≡ placed t i (makes s n k)
+  pub with-room : (i : ℕ) → first is_absent t.sessions ≡ Some i → (k : Kind) → absent_result t s n k ≡ placed t i (makes s n k)
   with-room i e Kind.Ignore = refl
   with-room i e Kind.Ask = rw e
   with-room i e Kind.Receive = rw e (go (bad_paths n))
     where
-      go : (b : Bool) → let bad = made Option.none (Told.Status Status.Einval) (session_reply Status.Einval s) in
-          let good = made (Option.some (naming_session s n.magnitude)) Told.Naming no_reply in
+      go : (b : Bool) → let bad = made None (Told.Status Status.Einval) (Some (session_reply Status.Einval s)) in
+          let good = made (Some (naming_session s n.magnitude)) Told.Naming None in
           cond b (placed t i bad) (placed t i good) ≡ placed t i (cond b bad good)
       go true = refl
       go false = refl
@@ -56,7 +50,7 @@ module _ (t : Table) (s : Session) (n : Number) where
   with-room i e Kind.Path = refl
   with-room i e Kind.Request = refl
 
-  pub without-room : first is_absent t.sessions ≡ Found.Nowhere → (k : Kind) → (absent_result t s n k).table ≡ t
+  pub without-room : first is_absent t.sessions ≡ None → (k : Kind) → (absent_result t s n k).table ≡ t
   without-room e Kind.Ignore = refl
   without-room e Kind.Ask = rw e
   without-room e Kind.Receive = rw e
@@ -75,14 +69,14 @@ module _ (t : Table) (s : Session) (n : Number) where
   absent-names Kind.Ignore = Names.none
   absent-names Kind.Ask = go (first is_absent t.sessions)
     where
-      go : (f : Found) → Names (id_of s) (send_room t s f).reply
-      go Found.Nowhere = session-names Status.Ebusy s
-      go (Found.At i) = Names.none
+      go : (f : Option ℕ) → Names (id_of s) (send_room t s f).reply
+      go None = session-names Status.Ebusy s
+      go (Some i) = Names.none
   absent-names Kind.Receive = go (first is_absent t.sessions)
     where
-      go : (f : Found) → Names (id_of s) (receive_room t s n f).reply
-      go Found.Nowhere = session-names Status.Ebusy s
-      go (Found.At i) =
+      go : (f : Option ℕ) → Names (id_of s) (receive_room t s n f).reply
+      go None = session-names Status.Ebusy s
+      go (Some i) =
           by_cond (λ (x : Stepped). Names (id_of s) x.reply) (bad_paths n) (λ _. session-names Status.Einval s) (λ _. Names.none)
   absent-names Kind.Invalid = Names.none
   absent-names Kind.Cancel = Names.none
@@ -96,25 +90,25 @@ module _ (t : Table) (s : Session) (n : Number) where
 
 -- nothing, or a session with the id; something plain is told
 pub data Makes (s : Session) : Made → Type 0 where
-  none : (w : Told) (r : Reply) → is_plain w ≡ true → Makes s (made Option.none w r)
+  none : (w : Told) (r : Option Reply) → is_plain w ≡ true → Makes s (made None w r)
   some : (x : Session) (w : Told) → session_used x ≡ true → id_of x ≡ id_of s → is_plain w ≡ true
-      → Makes s (made (Option.some x) w no_reply)
+      → Makes s (made (Some x) w None)
 
 pub makes-is : (s : Session) → session_used s ≡ true → (n : Number) (k : Kind) → Makes s (makes s n k)
-makes-is s u n Kind.Ignore = none Told.Ignored no_reply refl
+makes-is s u n Kind.Ignore = none Told.Ignored None refl
 makes-is s u n Kind.Ask = some s Told.Asked u refl refl
 makes-is s u n Kind.Receive = go (bad_paths n)
   where
-    go : (b : Bool) → Makes s (cond b (made Option.none (Told.Status Status.Einval) (session_reply Status.Einval s))
-        (made (Option.some (naming_session s n.magnitude)) Told.Naming no_reply))
+    go : (b : Bool) → Makes s (cond b (made None (Told.Status Status.Einval) (Some (session_reply Status.Einval s)))
+        (made (Some (naming_session s n.magnitude)) Told.Naming None))
     go true = none (Told.Status Status.Einval) _ refl
     go false = some (naming_session s n.magnitude) Told.Naming refl refl refl
-makes-is s u n Kind.Invalid = none Told.Ignored no_reply refl
-makes-is s u n Kind.Cancel = none Told.Ignored no_reply refl
-makes-is s u n Kind.Withdraw = none Told.Ignored no_reply refl
-makes-is s u n Kind.File = none Told.Ignored no_reply refl
-makes-is s u n Kind.Data = none Told.Ignored no_reply refl
-makes-is s u n Kind.EndData = none Told.Ignored no_reply refl
-makes-is s u n Kind.Finish = none Told.Ignored no_reply refl
-makes-is s u n Kind.Path = none Told.Ignored no_reply refl
-makes-is s u n Kind.Request = none Told.Ignored no_reply refl
+makes-is s u n Kind.Invalid = none Told.Ignored None refl
+makes-is s u n Kind.Cancel = none Told.Ignored None refl
+makes-is s u n Kind.Withdraw = none Told.Ignored None refl
+makes-is s u n Kind.File = none Told.Ignored None refl
+makes-is s u n Kind.Data = none Told.Ignored None refl
+makes-is s u n Kind.EndData = none Told.Ignored None refl
+makes-is s u n Kind.Finish = none Told.Ignored None refl
+makes-is s u n Kind.Path = none Told.Ignored None refl
+makes-is s u n Kind.Request = none Told.Ignored None refl

@@ -2,17 +2,17 @@
 use Prim.Native.Nat.{ℕ, ◌<◌}
 use mathlib.Core.Path.{◌≡◌, refl, sym, ap, ◌∙◌}
 use mathlib.Core.Bool.{Bool, true, false, not, cond, ◌&&◌}
-use mathlib.Core.Option.{Option}
-use mathlib.Core.List.{List, [], ◌∷◌, map}
-use lib.ListN.{length, take}
+use mathlib.Core.List.{List, [], ◌∷◌}
+use lib.ListN.{length}
 use lib.Dec.{ltb}
 use borrow.Author.Tests.{ltb-false, eq-eqb}
+use Rattle.std.specs.Prelude.{Option, Some, None}
 use Rattle.octets.specs.Slices.{equals}
 use Rattle.octets.specs.Outcome.{Outcome, outcome}
 use Rattle.octets.proofs.Compare.{equals_refl, equals-sound}
 use Rattle.command.specs.Slots.{nowhere}
 use Rattle.protocol.specs.Table.{no_session, session_at, id_of, is_present, session_used, find_session}
-use Rattle.protocol.specs.Replies.{no_reply, reply_room, reply_bytes}
+use Rattle.protocol.specs.Replies.{reply_room, reply_bytes}
 use Rattle.protocol.specs.Change.{tells, told_by, telling, step_by}
 use Rattle.protocol.specs.Rule.{is_asked, allowed, denied, not_asked, done_by, failed_by, unlisted_by, decided_by}
 use Rattle.protocol.specs.Sessions.{answered_with, settle_done, settle_failed, unlisted_for, settle_unlisted, decided_at, decided_of}
@@ -24,21 +24,15 @@ use Rattle.protocol.specs.Sound.{SoundSession, due_of, Sound}
 use Rattle.protocol.specs.Isolation.{Act, command_acts, is_asker, unless_refused, Seen, answered, is_asking, Records, records_of}
 use Rattle.protocol.specs.declared.Session.{Session}
 use Rattle.protocol.specs.declared.Due.{Due}
-use Rattle.protocol.specs.declared.Owed.{Owed}
-use Rattle.protocol.specs.declared.Owed.TheVariants as Owed
 use Rattle.protocol.specs.declared.Table.{Table}
 use Rattle.protocol.specs.declared.Receiver.{Receiver}
 use Rattle.protocol.specs.declared.Failure.{Failure}
 use Rattle.protocol.specs.declared.Decision.{Decision}
-use Rattle.protocol.specs.declared.Decision.TheVariants as Decision
 use Rattle.protocol.specs.declared.Told.{Told}
-use Rattle.protocol.specs.declared.Told.TheVariants as Told
 use Rattle.protocol.specs.declared.Reply.{Reply}
 use Rattle.protocol.specs.declared.Change.{Change}
 use Rattle.protocol.specs.declared.Stepped.{Stepped}
 use Rattle.protocol.specs.declared.Answered.{Answered}
-use Rattle.protocol.specs.declared.Found.{Found}
-use Rattle.protocol.specs.declared.Found.TheVariants as Found
 use Rattle.protocol.proofs.Laws.{no_way, both_false, found_at}
 use Rattle.protocol.proofs.Backs.{told-step}
 use Rattle.protocol.proofs.Tellings as Tellings
@@ -70,10 +64,10 @@ abbrev pub counts : Bool → Told → Bool
 counts mine w = mine && not (is_refused w)
 
 -- a reply that does not name it
-abbrev pub Silent : List ℕ → Reply → Type 0
+abbrev pub Silent : List ℕ → Option Reply → Type 0
 Silent A r = command_acts A (commands_in (reply_bytes r)) ≡ []
 
-pub none-silent : (A : List ℕ) → Silent A no_reply
+pub none-silent : (A : List ℕ) → Silent A None
 unfolding reply_bytes
 none-silent A = rw nothing-told
 
@@ -86,7 +80,7 @@ pub data Effect (A : List ℕ) (t : Table) (mine : Bool) (a : Act) (s : Stepped)
 -- a change that refuses tells nothing else
 data Refuses (c : Change) : Type 0 where
   taken : is_plain (told_by nowhere c.news) ≡ true → Refuses c
-  refused : (n : ℕ) → c ≡ tells (Told.Refused n) no_reply → Refuses c
+  refused : (n : ℕ) → c ≡ tells (Told.Refused n) None → Refuses c
 
 answer-refuses : {c : Change} → AnswerTold c → Refuses c
 answer-refuses (Tellings.taken e) = taken e
@@ -133,7 +127,7 @@ module _ (A : List ℕ) {t : Table} (ok : Sound t) where
 
     change-effect : Refuses c → Effect A t mine a (step_by t i nowhere c)
     change-effect (taken e) = taken-effect e
-    change-effect (refused n e) = rw (e, told-step t i nowhere (Told.Refused n) no_reply) (refused-effect mine a n)
+    change-effect (refused n e) = rw (e, told-step t i nowhere (Told.Refused n) None) (refused-effect mine a n)
 
   -- ---- allow, deny and drop
   decided-effect : (d : Decision) (k : List ℕ) (a : Act) → ((v : Records) → alone A v a ≡ turn_by v [] (decided_by d v.session))
@@ -141,9 +135,9 @@ module _ (A : List ℕ) {t : Table} (ok : Sound t) where
   unfolding decided_of
   decided-effect d k a is = go (find_session t k) refl
     where
-      go : (f : Found) → find_session t k ≡ f → Effect A t (equals k A) a (decided_at t d f)
-      go Found.Nowhere e = refused-effect (equals k A) a 12
-      go (Found.At i) e =
+      go : (f : Option ℕ) → find_session t k ≡ f → Effect A t (equals k A) a (decided_at t d f)
+      go None e = refused-effect (equals k A) a 12
+      go (Some i) e =
           let f = found_at session_used id_of no_session t.sessions k i e in
           change-effect i (decided_by d (session_at t i)) f.0 (decided-steps (ok.each i) d) f.1 (decided-names (ok.each i) d)
           (equals k A) (rw f.2) a
@@ -151,16 +145,16 @@ module _ (A : List ℕ) {t : Table} (ok : Sound t) where
 
   -- ---- done, failed and unlisted
   module _ (f : Session → Due → Change) (told : (s : Session) (d : Due) → AnswerTold (f s d))
-      (steps : (s : Session) (d : Due) → SoundSession s (Option.some d) → Steps false s (Option.some d) (f s d))
-      (names : (s : Session) (d : Due) → SoundSession s (Option.some d) → Names (id_of s) (f s d).reply)
+      (steps : (s : Session) (d : Due) → SoundSession s (Some d) → Steps false s (Some d) (f s d))
+      (names : (s : Session) (d : Due) → SoundSession s (Some d) → Names (id_of s) (f s d).reply)
       (q : Question) (a : Act) (is : (v : Records) → alone A v a ≡ answer_turn v f v.due) where
-    answer-effect : (i : ℕ) (d : Due) → t.owed ≡ Owed.For i d → Asking (session_at t i) q d
+    answer-effect : (i : ℕ) (d : Due) → t.owed ≡ Some (i, d) → Asking (session_at t i) q d
         → Effect A t (is_asker A q) a (step_by t i nowhere (f (session_at t i) d))
     answer-effect i d e asking =
         let s = session_at t i in
-        let sound : SoundSession s (Option.some d) = owed-session ok e in
+        let sound : SoundSession s (Some d) = owed-session ok e in
         let used : session_used s ≡ true = ap is_present sound.fits.0 ∙ due-present d in
-        let due : due_of t.owed i ≡ Option.some d = rw (e, eq-eqb i i refl) in
+        let due : due_of t.owed i ≡ Some d = rw (e, eq-eqb i i refl) in
         change-effect i (f s d) (owed-inside ok e) (rw due (steps s d sound)) used (names s d sound) (is_asker A q)
         (rw (asking.asked, asking.id)) a
         (λ z. is (records_of A t) ∙ rw (find-used ok A i used z, due)) (answer-refuses (told s d))
@@ -168,9 +162,9 @@ module _ (A : List ℕ) {t : Table} (ok : Sound t) where
     answered-effect : AskedLast t.sessions q t.owed → Effect A t (is_asker A q) a (answered_with t f t.owed)
     answered-effect = go t.owed refl
       where
-        go : (o : Owed) → t.owed ≡ o → AskedLast t.sessions q o → Effect A t (is_asker A q) a (answered_with t f o)
-        go Owed.Nothing e x = refused-effect (is_asker A q) a 11
-        go (Owed.For i d) e x = answer-effect i d e x
+        go : (o : Option (ℕ × Due)) → t.owed ≡ o → AskedLast t.sessions q o → Effect A t (is_asker A q) a (answered_with t f o)
+        go None e x = refused-effect (is_asker A q) a 11
+        go (Some (i, d)) e x = answer-effect i d e x
 
   module _ (q : Question) (asked : AskedLast t.sessions q t.owed) where
     pub done-effect : Effect A t (is_asker A q) Act.done (settle_done t)
@@ -188,9 +182,9 @@ module _ (A : List ℕ) {t : Table} (ok : Sound t) where
     unfolding settle_unlisted
     unlisted-effect = go t.owed refl asked
       where
-        go : (o : Owed) → t.owed ≡ o → AskedLast t.sessions q o → Effect A t (is_asker A q) Act.unlisted (unlisted_for t o)
-        go Owed.Nothing e x = refused-effect (is_asker A q) Act.unlisted 18
-        go (Owed.For i d) e x = answer-effect unlisted_by unlisted-told (λ s d. unlisted-steps d) (λ s d z. unlisted-names z d) q
+        go : (o : Option (ℕ × Due)) → t.owed ≡ o → AskedLast t.sessions q o → Effect A t (is_asker A q) Act.unlisted (unlisted_for t o)
+        go None e x = refused-effect (is_asker A q) Act.unlisted 18
+        go (Some (i, d)) e x = answer-effect unlisted_by unlisted-told (λ s d. unlisted-steps d) (λ s d z. unlisted-names z d) q
             Act.unlisted (λ v. refl) i d e x
 
   pub allow-effect : (k : List ℕ) → Effect A t (equals k A) Act.allow (decided_of t Decision.Allow k)

@@ -8,16 +8,13 @@ use lib.ListN.{length}
 use lib.Seq.{take-length}
 use borrow.Author.Tests.{le-leb}
 use Rattle.octets.specs.Slices.{part_of}
-use Rattle.command.specs.Meaning.{action_code, data_of}
+use Rattle.command.specs.Meaning.{data_of}
 use Rattle.command.specs.Slots.{action_of, file_type_of, transmission_of, slots_of, values_of}
 use Rattle.command.specs.Slots as Slots
 use Rattle.command.specs.declared.Place.{Place}
 use Rattle.command.specs.declared.Action.{Action}
-use Rattle.command.specs.declared.Action.TheVariants as Action
 use Rattle.command.specs.declared.FileType.{FileType}
-use Rattle.command.specs.declared.FileType.TheVariants as FileType
 use Rattle.command.specs.declared.Transmission.{Transmission}
-use Rattle.command.specs.declared.Transmission.TheVariants as Transmission
 use Rattle.command.specs.declared.Command.{Command as PlacedCommand}
 use Rattle.protocol.specs.Change.{told_by}
 use Rattle.protocol.specs.Files.{Request, is_directory, open_due}

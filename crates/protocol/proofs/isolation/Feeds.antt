@@ -4,21 +4,17 @@ use mathlib.Core.Path.{◌≡◌, refl}
 use mathlib.Core.Bool.{Bool, true, false, cond, ◌&&◌}
 use mathlib.Core.List.{List, [], ◌∷◌}
 use lib.ListN.{length, take}
+use Rattle.std.specs.Prelude.{None}
 use Rattle.command.specs.Meaning.{Meaning}
 use Rattle.protocol.specs.Table.{find_session}
-use Rattle.protocol.specs.Replies.{no_reply, reply_room, replied_of}
+use Rattle.protocol.specs.Replies.{reply_room, replied_of}
 use Rattle.protocol.specs.History.{Command, hearing, Question, Mark, read_mark, told_marks, read_in, commands_in, hearing_mark, last_ask}
 use Rattle.protocol.specs.History.{mode_after, marks_of}
 use Rattle.protocol.specs.Cuts.{saying}
 use Rattle.protocol.specs.Sound.{Sound}
 use Rattle.protocol.specs.Isolation.{Act, command_acts, Seen, any_begins, has_room, is_asker, asked_last, is_asking}
-use Rattle.protocol.specs.declared.Owed.{Owed}
-use Rattle.protocol.specs.declared.Owed.TheVariants as Owed
 use Rattle.protocol.specs.declared.Table.{Table}
 use Rattle.protocol.specs.declared.Told.{Told}
-use Rattle.protocol.specs.declared.Told.TheVariants as Told
-use Rattle.protocol.specs.declared.Found.{Found}
-use Rattle.protocol.specs.declared.Found.TheVariants as Found
 use Rattle.protocol.proofs.Laws.{no_way}
 use Rattle.protocol.proofs.Means.{Read, command, refused, text-read}
 use Rattle.protocol.proofs.isolation.Calls.{Single, other, own, none-silent}
@@ -30,7 +26,6 @@ use Rattle.frames.specs.Stream as Stream
 use Rattle.frames.specs.Calls.{scan_of, text_of}
 use Rattle.frames.specs.Follows.{Follows, told_of}
 use Rattle.frames.specs.declared.Report.{Report}
-use Rattle.frames.specs.declared.Report.TheVariants as Report
 use Rattle.frames.proofs.CallLaws.{call-report}
 use Rattle.frames.proofs.Follows.{call-follows}
 use Rattle.command.specs.Meaning as Meanings
@@ -50,7 +45,7 @@ use Rattle.protocol.proofs.CutsCalls.{Kept, report-taken}
 use Rattle.protocol.proofs.isolation.Obeys.{obey-own, obey-silent, obey-other}
 
 -- ---- a feed
-module _ (A : List ℕ) {t : Table} (ok : Sound t) (sized : Sized t) (free : t.owed ≡ Owed.Nothing) (scratch reply : List ℕ)
+module _ (A : List ℕ) {t : Table} (ok : Sound t) (sized : Sized t) (free : t.owed ≡ None) (scratch reply : List ℕ)
     (enough : scratch_room ≤ length scratch) (long : reply_room ≤ length reply) (marks : List Mark) where
   -- what leaves with the act for a report
   abbrev leaving_by : Acted → Seen
@@ -64,7 +59,7 @@ module _ (A : List ℕ) {t : Table} (ok : Sound t) (sized : Sized t) (free : t.o
 
   -- no command was read
   unread-silent : (w : Told) (left : List ℕ) → command_acts A (commands_in (leaving_by (unread t w left)).reply) ≡ []
-  unread-silent w left = rw ((reply-sent no_reply reply none-sized long).bytes, none-silent A)
+  unread-silent w left = rw ((reply-sent None reply none-sized long).bytes, none-silent A)
 
   -- an ask is for the command that was read
   asked_another : (d : Command) → equals (Meanings.id_of d) A ≡ false → (w : Told) (left : List ℕ)
@@ -84,7 +79,7 @@ module _ (A : List ℕ) {t : Table} (ok : Sound t) (sized : Sized t) (free : t.o
   asked_another d e Told.Committed left = refl
 
   abbrev Room : List Act → Type 0
-  Room as' = any_begins as' ≡ true → find_session t A ≡ Found.Nowhere → has_room t ≡ true
+  Room as' = any_begins as' ≡ true → find_session t A ≡ None → has_room t ≡ true
 
   abbrev SingleAct : List Stream.Told → Acted → Type 0
   SingleAct told a = let bs = command_acts A (read_in told) in Room bs → Single A t a.step.table bs (asked_after told a) (leaving_by a)
@@ -143,13 +138,13 @@ module _ (A : List ℕ) (w : World) (kept : Kept w) (ok : WorldOK w) (piece carr
   leaving_of f = record { said = saying f.fed.told f.scratch; reply = take f.fed.reply_len f.reply }
 
   abbrev SingleFeed : Feeding → Type 0
-  SingleFeed f = (any_begins (acts_of f) ≡ true → find_session t A ≡ Found.Nowhere → has_room t ≡ true)
+  SingleFeed f = (any_begins (acts_of f) ≡ true → find_session t A ≡ None → has_room t ≡ true)
       → Single A t f.fed.receiver.table (acts_of f) (asked_last (after_feed w piece f)) (leaving_of f)
 
   abbrev taken : Feeding
   taken = scanned_feed t piece (scan_of w.receiver.framing piece carry) scratch reply
 
-  taken-single : t.owed ≡ Owed.Nothing → Roomy carry scratch reply → (is_unfed taken.fed.told ≡ false → carry ≡ w.carry)
+  taken-single : t.owed ≡ None → Roomy carry scratch reply → (is_unfed taken.fed.told ≡ false → carry ≡ w.carry)
       → SingleFeed taken
   unfolding scanned_feed marks_of
   taken-single free room lent met =

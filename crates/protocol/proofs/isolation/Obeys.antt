@@ -2,17 +2,16 @@
 use Prim.Native.Nat.{ℕ, ◌<◌}
 use mathlib.Core.Path.{◌≡◌, refl, sym, ap, ◌∙◌}
 use mathlib.Core.Bool.{true}
-use mathlib.Core.Option.{Option}
 use mathlib.Core.List.{List, []}
 use lib.ListN.{length}
+use Rattle.std.specs.Prelude.{Option, Some, None}
 use Rattle.command.specs.Meaning.{action_code, data_of}
 use Rattle.command.specs.Slots.{action_of}
 use Rattle.command.specs.declared.Action.{Action}
-use Rattle.command.specs.declared.Action.TheVariants as Action
 use Rattle.command.specs.declared.Command.{Command as PlacedCommand}
 use Rattle.protocol.specs.Table.{no_session, session_at, id_of, session_used, find_session, first, is_absent}
 use Rattle.protocol.specs.Actions.{result_in, kind_of}
-use Rattle.protocol.specs.Replies.{no_reply, reply_bytes}
+use Rattle.protocol.specs.Replies.{reply_bytes}
 use Rattle.protocol.specs.Change.{told_by, telling}
 use Rattle.protocol.specs.Files.{Request}
 use Rattle.protocol.specs.Rule.{obeyed_by}
@@ -20,28 +19,22 @@ use Rattle.protocol.specs.Sessions.{id_in, request_in, asked_session, absent_res
 use Rattle.protocol.specs.History.{Command}
 use Rattle.protocol.specs.Cuts.{Saying, saying}
 use Rattle.protocol.specs.Sound.{SoundSession, due_of, Sound}
-use Rattle.protocol.specs.Isolation.{Act, begins, is_at, records_of, seen}
+use Rattle.protocol.specs.Isolation.{Act, begins, is_at, records_of}
 use Rattle.protocol.specs.declared.SessionState.TheVariants as SessionState
 use Rattle.protocol.specs.declared.Session.{Session}
 use Rattle.protocol.specs.declared.Kind.{Kind}
-use Rattle.protocol.specs.declared.Kind.TheVariants as Kind
-use Rattle.protocol.specs.declared.Owed.{Owed}
-use Rattle.protocol.specs.declared.Owed.TheVariants as Owed
 use Rattle.protocol.specs.declared.Table.{Table}
 use Rattle.protocol.specs.declared.Told.{Told}
-use Rattle.protocol.specs.declared.Told.TheVariants as Told
 use Rattle.protocol.specs.declared.Stepped.{Stepped}
-use Rattle.protocol.specs.declared.Found.{Found}
-use Rattle.protocol.specs.declared.Found.TheVariants as Found
 use Rattle.protocol.proofs.Laws.{no_way, first-at, found_at, padded-id}
-use Rattle.protocol.proofs.Means.{Means, command}
+use Rattle.protocol.proofs.Means.{Means}
 use Rattle.protocol.proofs.Tellings.{plain}
-use Rattle.protocol.proofs.Ways.{nothing, way}
+use Rattle.protocol.proofs.Ways.{way}
 use Rattle.protocol.proofs.SoundRule.{Steps}
 use Rattle.protocol.proofs.SoundSteps.{obeyed-steps}
 use Rattle.protocol.proofs.SoundTable.{ReadWell, obey-sound}
 use Rattle.protocol.proofs.SoundCalls.{means-well}
-use Rattle.protocol.proofs.isolation.Alone.{whole, request_from, quiet_from, Made, made, passes, makes, makes_for, alone}
+use Rattle.protocol.proofs.isolation.Alone.{whole, request_from, quiet_from, Made, passes, makes, makes_for, alone}
 use Rattle.protocol.proofs.isolation.Calls.{Silent}
 use Rattle.protocol.proofs.isolation.Replies.{names-other, way-names}
 use Rattle.protocol.proofs.isolation.Views.{put-used, put_other, own-step, other_step}
@@ -50,7 +43,7 @@ use Rattle.protocol.proofs.isolation.Commands.{request-from, quiet-from, action-
 use Rattle.protocol.proofs.isolation.Begins.{placed, with-room, without-room, absent-names, Makes, none, some, makes-is}
 
 -- ---- a command that was read, while nothing is owed
-module _ (A : List ℕ) {t : Table} (ok : Sound t) (free : t.owed ≡ Owed.Nothing) {c : PlacedCommand} {text scratch : List ℕ} {d : Command}
+module _ (A : List ℕ) {t : Table} (ok : Sound t) (free : t.owed ≡ None) {c : PlacedCommand} {text scratch : List ℕ} {d : Command}
     (means : Means c text scratch d) where
   abbrev q : Request
   q = request_in c text scratch
@@ -66,11 +59,11 @@ module _ (A : List ℕ) {t : Table} (ok : Sound t) (free : t.owed ≡ Owed.Nothi
       let v = means.values in
       request-from c text scratch (means.long ∙ ap (λ (x : Command). length (data_of x)) v) ∙ ap request_from (sym v)
 
-  none-due : (i : ℕ) → due_of t.owed i ≡ Option.none
+  none-due : (i : ℕ) → due_of t.owed i ≡ None
   none-due i = rw free
 
   -- ---- one that is present
-  module _ (i : ℕ) (e : find_session t (id_in c text) ≡ Found.At i) where
+  module _ (i : ℕ) (e : find_session t (id_in c text) ≡ Some i) where
     abbrev s : Session
     s = session_at t i
 
@@ -79,7 +72,7 @@ module _ (A : List ℕ) {t : Table} (ok : Sound t) (free : t.owed ≡ Owed.Nothi
 
     steps : Steps true s (due_of t.owed i) (obeyed_by s q)
     steps =
-        let sound : SoundSession s Option.none = rw (none-due i) at (ok.each i) in
+        let sound : SoundSession s None = rw (none-due i) at (ok.each i) in
         rw (none-due i) (obeyed-steps sound q well.file found.1)
 
     same-said : saying (told_by c.payload (obeyed_by s q).news) scratch
@@ -106,7 +99,7 @@ module _ (A : List ℕ) {t : Table} (ok : Sound t) (free : t.owed ≡ Owed.Nothi
     pub view : records_of A x.table ≡ (alone A (records_of A t) (Act.command d)).after
 
   -- what is made is put at a free place
-  placed-own : find_session t A ≡ Found.Nowhere → id_of new ≡ A → (i : ℕ) → first is_absent t.sessions ≡ Found.At i
+  placed-own : find_session t A ≡ None → id_of new ≡ A → (i : ℕ) → first is_absent t.sessions ≡ Some i
       → {x : Made} → Makes new x → makes_for d ≡ x → Sound (placed t i x).table → Obeyed (placed t i x)
   placed-own e is i f (none w r p) m sound =
       record {
@@ -116,12 +109,12 @@ module _ (A : List ℕ) {t : Table} (ok : Sound t) (free : t.owed ≡ Owed.Nothi
   placed-own e is i f (some x w u same p) m sound =
       let inside = (first-at is_absent no_session t.sessions i f).0 in
       record {
-        seen = rw (e, m) (ap (λ (y : Saying). record { said = y; reply = reply_bytes no_reply }) ((plain w p).same scratch []));
+        seen = rw (e, m) (ap (λ (y : Saying). record { said = y; reply = reply_bytes None }) ((plain w p).same scratch []));
         view = rw (e, m) (put-used ok A i x t.owed inside sound u (same ∙ is) ∙ rw (none-due i));
       }
 
   -- a command that makes none passes
-  passing : find_session t A ≡ Found.Nowhere → {a : Action} → c.action ≡ a → kind_of SessionState.Absent a ≡ Kind.Ignore
+  passing : find_session t A ≡ None → {a : Action} → c.action ≡ a → kind_of SessionState.Absent a ≡ Kind.Ignore
       → Obeyed (telling t Told.Ignored)
   passing e {a} w k =
       let m : makes_for d ≡ passes = sym makes-same ∙ ap (λ (x : Action). makes new c.size (kind_of SessionState.Absent x)) w
@@ -129,7 +122,7 @@ module _ (A : List ℕ) {t : Table} (ok : Sound t) (free : t.owed ≡ Owed.Nothi
       record { seen = rw (e, m); view = rw (e, m) }
 
   -- there is no place, and it makes none
-  full-own : find_session t A ≡ Found.Nowhere → (a : Action) → c.action ≡ a → first is_absent t.sessions ≡ Found.Nowhere
+  full-own : find_session t A ≡ None → (a : Action) → c.action ≡ a → first is_absent t.sessions ≡ None
       → (begins (Act.command d) ≡ true → ⊥) → Obeyed (absent_result t new c.size (kind_of SessionState.Absent a))
   unfolding kind_of result_in
   full-own e Action.None w f n = passing e w refl
@@ -142,7 +135,7 @@ module _ (A : List ℕ) {t : Table} (ok : Sound t) (free : t.owed ≡ Owed.Nothi
   full-own e Action.Cancel w f n = passing e w refl
   full-own e Action.Status w f n = passing e w refl
 
-  absent-own : find_session t A ≡ Found.Nowhere → id_of new ≡ A
+  absent-own : find_session t A ≡ None → id_of new ≡ A
       → (begins (Act.command d) ≡ true → is_at (first is_absent t.sessions) ≡ true)
       → Sound (absent_result t new c.size (kind_of SessionState.Absent c.action)).table
       → Obeyed (absent_result t new c.size (kind_of SessionState.Absent c.action))
@@ -151,9 +144,9 @@ module _ (A : List ℕ) {t : Table} (ok : Sound t) (free : t.owed ≡ Owed.Nothi
       k : Kind
       k = kind_of SessionState.Absent c.action
 
-      go : (f : Found) → first is_absent t.sessions ≡ f → Obeyed (absent_result t new c.size k)
-      go Found.Nowhere f = full-own e c.action refl f (λ b. no_way (sym (rw f at (met b))))
-      go (Found.At i) f =
+      go : (f : Option ℕ) → first is_absent t.sessions ≡ f → Obeyed (absent_result t new c.size k)
+      go None f = full-own e c.action refl f (λ b. no_way (sym (rw f at (met b))))
+      go (Some i) f =
           let w = with-room t new c.size i f k in
           rw w (placed-own e is i f (makes-is new refl c.size k) (sym makes-same) (rw w at sound))
 
@@ -164,21 +157,21 @@ module _ (A : List ℕ) {t : Table} (ok : Sound t) (free : t.owed ≡ Owed.Nothi
       k : Kind
       k = kind_of SessionState.Absent c.action
 
-      by : (i : ℕ) → first is_absent t.sessions ≡ Found.At i → {x : Made} → Makes new x → Sound (placed t i x).table
+      by : (i : ℕ) → first is_absent t.sessions ≡ Some i → {x : Made} → Makes new x → Sound (placed t i x).table
           → records_of A (placed t i x).table ≡ records_of A t
       by i f (none w r p) z = refl
       by i f (some x w u same p) z =
           let at = first-at is_absent no_session t.sessions i f in
           put_other ok A i x t.owed at.0 z (λ v _. no_way (sym (rw v at at.1))) (λ _ y. n (sym same ∙ y)) (λ j _. refl)
 
-      go : (f : Found) → first is_absent t.sessions ≡ f → records_of A (absent_result t new c.size k).table ≡ records_of A t
-      go Found.Nowhere f = rw (without-room t new c.size f k)
-      go (Found.At i) f =
+      go : (f : Option ℕ) → first is_absent t.sessions ≡ f → records_of A (absent_result t new c.size k).table ≡ records_of A t
+      go None f = rw (without-room t new c.size f k)
+      go (Some i) f =
           let w = with-room t new c.size i f k in rw w (by i f (makes-is new refl c.size k) (rw w at sound))
 
   -- ---- every command
   pub obey-own : Meanings.id_of d ≡ A
-      → (begins (Act.command d) ≡ true → find_session t A ≡ Found.Nowhere → is_at (first is_absent t.sessions) ≡ true)
+      → (begins (Act.command d) ≡ true → find_session t A ≡ None → is_at (first is_absent t.sessions) ≡ true)
       → Obeyed (obey_of t c text scratch)
   unfolding obey_of
   obey-own is met = go (find_session t (id_in c text)) refl (obey-sound t ok free c text scratch well)
@@ -186,14 +179,14 @@ module _ (A : List ℕ) {t : Table} (ok : Sound t) (free : t.owed ≡ Owed.Nothi
       mine : id_in c text ≡ A
       mine = means.id ∙ is
 
-      go : (f : Found) → find_session t (id_in c text) ≡ f → Sound (obey_of t c text scratch).table
+      go : (f : Option ℕ) → find_session t (id_in c text) ≡ f → Sound (obey_of t c text scratch).table
           → Obeyed (found_result t c (id_in c text) q f)
-      go Found.Nowhere e sound =
-          let e' : find_session t A ≡ Found.Nowhere = rw mine at e in
+      go None e sound =
+          let e' : find_session t A ≡ None = rw mine at e in
           absent-own e' (new-id ∙ mine) (λ b. met b e') (rw e at sound)
-      go (Found.At i) e sound =
+      go (Some i) e sound =
           let f = found i e in
-          let here : find_session t A ≡ Found.At i = rw mine at e in
+          let here : find_session t A ≡ Some i = rw mine at e in
           record {
             seen =
                 rw (here, f.1, ← request-is)
@@ -205,11 +198,11 @@ module _ (A : List ℕ) {t : Table} (ok : Sound t) (free : t.owed ≡ Owed.Nothi
   unfolding obey_of
   obey-silent n = go (find_session t (id_in c text)) refl
     where
-      go : (f : Found) → find_session t (id_in c text) ≡ f → Silent A (found_result t c (id_in c text) q f).reply
-      go Found.Nowhere e =
+      go : (f : Option ℕ) → find_session t (id_in c text) ≡ f → Silent A (found_result t c (id_in c text) q f).reply
+      go None e =
           names-other A (rw new-id well.id) (absent-names t new c.size (kind_of SessionState.Absent c.action))
           (λ y. n (sym means.id ∙ sym new-id ∙ y))
-      go (Found.At i) e =
+      go (Some i) e =
           let f = found i e in
           names-other A ((ok.each i).named f.1) (way-names (ok.each i) q well.file (way (s i e) q f.1))
           (λ y. n (sym means.id ∙ sym f.2 ∙ y))
@@ -218,8 +211,8 @@ module _ (A : List ℕ) {t : Table} (ok : Sound t) (free : t.owed ≡ Owed.Nothi
   unfolding obey_of
   obey-other n = go (find_session t (id_in c text)) refl (obey-sound t ok free c text scratch well)
     where
-      go : (f : Found) → find_session t (id_in c text) ≡ f → Sound (obey_of t c text scratch).table
+      go : (f : Option ℕ) → find_session t (id_in c text) ≡ f → Sound (obey_of t c text scratch).table
           → records_of A (found_result t c (id_in c text) q f).table ≡ records_of A t
-      go Found.Nowhere e sound = absent-other (λ y. n (sym means.id ∙ sym new-id ∙ y)) (rw e at sound)
-      go (Found.At i) e sound =
+      go None e sound = absent-other (λ y. n (sym means.id ∙ sym new-id ∙ y)) (rw e at sound)
+      go (Some i) e sound =
           other_step ok A i (obeyed_by (s i e) q) (found i e).0 (λ _. free) (steps i e) (λ y. n (sym means.id ∙ sym (found i e).2 ∙ y))

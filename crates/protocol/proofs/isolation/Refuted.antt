@@ -1,13 +1,13 @@
 -- `Isolated` is false of each leaky machine: two lists of calls, alike for the session m, are computed on it; and the two pairs of ours.
-use Prim.Native.Nat.{ℕ, ◌+◌}
+use Prim.Native.Nat.{ℕ}
 use mathlib.Core.Path.{◌≡◌, refl, sym, ap, ◌∙◌}
 use mathlib.Core.Bool.{Bool, true, false, not, ◌&&◌, ◌||◌}
-use mathlib.Core.Option.{Option}
 use mathlib.Core.List.{List, [], ◌∷◌, ◌++◌}
 use native.Mathlib.Omega.{arith}
 use lib.ListN.{length}
 use lib.Dec.{eqb}
 use borrow.Author.Tests.{eq-eqb}
+use Rattle.std.specs.Prelude.{Option, Some, None}
 use Rattle.octets.specs.Ascii.{ascii}
 use Rattle.octets.proofs.Below.{both_test}
 use Rattle.frames.specs.Stream.{framed}
@@ -98,8 +98,8 @@ abbrev owes : List Seen → Records → ℕ
 owes s r = go r.due
   where
     go : Option Due → ℕ
-    go Option.none = 0
-    go (Option.some d) = 1
+    go None = 0
+    go (Some d) = 1
 
 abbrev count : List Seen → Records → ℕ
 count s r = (file_at r.session 0).count

@@ -1,12 +1,11 @@
 -- What a call that supplies something makes of one session: its turn alone where it is for it, and nothing otherwise.
 use Prim.Native.Nat.{ℕ, ◌≤◌, ◌<◌}
 use mathlib.Core.Path.{◌≡◌, refl, sym, ap, ◌∙◌}
-use mathlib.Core.Bool.{Bool, true, false, cond}
-use mathlib.Core.Option.{Option}
+use mathlib.Core.Bool.{Bool, true, false}
 use mathlib.Core.List.{List, [], ◌∷◌}
 use lib.ListN.{length, take}
-use lib.Dec.{ltb, lit≤}
-use borrow.Author.Tests.{ltb-false, le-ltb}
+use lib.Dec.{lit≤}
+use Rattle.std.specs.Prelude.{Some, None}
 use Rattle.octets.specs.Slices.{equals}
 use Rattle.octets.specs.Outcome.{Outcome}
 use Rattle.octets.proofs.Compare.{equals_refl, equals-sound}
@@ -24,13 +23,10 @@ use Rattle.protocol.specs.Sound.{SoundSession, due_of, Sound}
 use Rattle.protocol.specs.Isolation.{command_acts, unless_refused, is_supplied_to, supply_act, answered, Records, records_of}
 use Rattle.protocol.specs.declared.Session.{Session}
 use Rattle.protocol.specs.declared.Due.TheVariants as Due
-use Rattle.protocol.specs.declared.Owed.{Owed}
-use Rattle.protocol.specs.declared.Owed.TheVariants as Owed
 use Rattle.protocol.specs.declared.Table.{Table}
 use Rattle.protocol.specs.declared.Receiver.{Receiver}
 use Rattle.protocol.specs.declared.Told.{Told}
 use Rattle.protocol.specs.declared.Answered.{Answered}
-use Rattle.protocol.specs.declared.Found.TheVariants as Found
 use Rattle.protocol.proofs.Laws.{no_way, both_false, equals-other}
 use Rattle.protocol.proofs.Invariant.{Asking, AskedLast}
 use Rattle.protocol.proofs.Tellings.{is_plain, plain}
@@ -69,13 +65,13 @@ same-written values out n room e =
 
 module _ (A : List ℕ) {t : Table} (ok : Sound t) (q : Question) (asked : AskedLast t.sessions q t.owed) where
   -- a part is for the session whose ask was told last
-  asking : (i : ℕ) → t.owed ≡ Owed.For i Due.Request → Asking (session_at t i) q Due.Request
+  asking : (i : ℕ) → t.owed ≡ Some (i, Due.Request) → Asking (session_at t i) q Due.Request
   asking i e = rw e at asked
 
-  listed : (u : Supply) (i : ℕ) → part_of u ≡ Option.none → turn_of t u ≡ Found.At i → SupplyWays.id_for u ≡ id_of (session_at t i)
+  listed : (u : Supply) (i : ℕ) → part_of u ≡ None → turn_of t u ≡ Some i → SupplyWays.id_for u ≡ id_of (session_at t i)
   listed u i n e = sym (values-id (session_at t i) u n) ∙ (turn-lists t u i n e).id
 
-  whose : (u : Supply) (i : ℕ) → turn_of t u ≡ Found.At i → is_supplied_to A q u ≡ equals (id_of (session_at t i)) A
+  whose : (u : Supply) (i : ℕ) → turn_of t u ≡ Some i → is_supplied_to A q u ≡ equals (id_of (session_at t i)) A
   whose (Supply.list x text contents) i e = ap (λ (k : List ℕ). equals k A) (listed (Supply.list x text contents) i refl e)
   whose (Supply.list_failed text id path code) i e =
       ap (λ (k : List ℕ). equals k A) (listed (Supply.list_failed text id path code) i refl e)
@@ -87,10 +83,10 @@ module _ (A : List ℕ) {t : Table} (ok : Sound t) (q : Question) (asked : Asked
   turn-used (Supply.list_failed text id path code) i e = ap is_present e
   turn-used (Supply.home id path) i e = ap is_present e
   turn-used (Supply.part last bytes) i e =
-      let s : SoundSession (session_at t i) (Option.some Due.Request) = rw e at (ok.each i) in ap is_present s.fits.0
+      let s : SoundSession (session_at t i) (Some Due.Request) = rw e at (ok.each i) in ap is_present s.fits.0
 
   -- a call that is in turn at a place, and wrote these bytes
-  module _ (u : Supply) (i : ℕ) (e : turn_of t u ≡ Found.At i) where
+  module _ (u : Supply) (i : ℕ) (e : turn_of t u ≡ Some i) where
     abbrev s : Session
     s = session_at t i
 

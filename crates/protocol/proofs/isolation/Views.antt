@@ -2,22 +2,18 @@
 use Prim.Native.Nat.{ℕ, ◌<◌}
 use mathlib.Core.Path.{◌≡◌, refl, sym, ap, ◌∙◌}
 use mathlib.Core.Bool.{Bool, true, false}
-use mathlib.Core.Option.{Option}
 use mathlib.Core.List.{List}
 use native.Mathlib.Decide.{ℕ_discrete}
 use lib.ListN.{length, set}
 use lib.Seq.{get_or-set_same, get_or-set_other}
+use Rattle.std.specs.Prelude.{Option, Some, None}
 use Rattle.protocol.specs.Table.{absent_session, no_session, session_at, id_of, is_present, session_used, find_session}
 use Rattle.protocol.specs.Change.{owed_after, after}
 use Rattle.protocol.specs.Sound.{DueFits, SoundSession, due_of, Sound}
 use Rattle.protocol.specs.declared.Session.{Session}
 use Rattle.protocol.specs.declared.Due.{Due}
-use Rattle.protocol.specs.declared.Owed.{Owed}
-use Rattle.protocol.specs.declared.Owed.TheVariants as Owed
 use Rattle.protocol.specs.declared.Table.{Table}
 use Rattle.protocol.specs.declared.Change.{Change}
-use Rattle.protocol.specs.declared.Found.{Found}
-use Rattle.protocol.specs.declared.Found.TheVariants as Found
 use Rattle.protocol.specs.Isolation.{records, records_at, records_of}
 use Rattle.protocol.proofs.Laws.{no_way, equals-same, found_at, found_nowhere}
 use Rattle.protocol.proofs.SoundRule.{due-present, edited_by, Steps}
@@ -26,36 +22,36 @@ use Rattle.protocol.proofs.isolation.Alone.{records_by}
 
 -- ---- finding
 module _ {t : Table} (ok : Sound t) (A : List ℕ) where
-  pub find-used : (i : ℕ) → session_used (session_at t i) ≡ true → id_of (session_at t i) ≡ A → find_session t A ≡ Found.At i
+  pub find-used : (i : ℕ) → session_used (session_at t i) ≡ true → id_of (session_at t i) ≡ A → find_session t A ≡ Some i
   find-used i u e = go (find_session t A) refl
     where
-      go : (f : Found) → find_session t A ≡ f → f ≡ Found.At i
-      go Found.Nowhere q =
+      go : (f : Option ℕ) → find_session t A ≡ f → f ≡ Some i
+      go None q =
           no_way (sym (equals-same _ _ e) ∙ found_nowhere session_used id_of no_session t.sessions A refl q i u)
-      go (Found.At j) q =
+      go (Some j) q =
           let f = found_at session_used id_of no_session t.sessions A j q in
-          ap (λ (n : ℕ). Found.At n) (ok.alone j i f.1 u (f.2 ∙ sym e))
+          ap (λ (n : ℕ). Some n) (ok.alone j i f.1 u (f.2 ∙ sym e))
 
 find_none : (t : Table) (A : List ℕ) → ((j : ℕ) → session_used (session_at t j) ≡ true → id_of (session_at t j) ≡ A → ⊥)
-    → find_session t A ≡ Found.Nowhere
+    → find_session t A ≡ None
 find_none t A none = go (find_session t A) refl
   where
-    go : (f : Found) → find_session t A ≡ f → f ≡ Found.Nowhere
-    go Found.Nowhere q = refl
-    go (Found.At j) q = let f = found_at session_used id_of no_session t.sessions A j q in absurd (none j f.1 f.2)
+    go : (f : Option ℕ) → find_session t A ≡ f → f ≡ None
+    go None q = refl
+    go (Some j) q = let f = found_at session_used id_of no_session t.sessions A j q in absurd (none j f.1 f.2)
 
 -- nothing is due for an absent session
-absent-due : {s : Session} → s ≡ absent_session → (due : Option Due) → DueFits s due → due ≡ Option.none
-absent-due e Option.none f = refl
-absent-due e (Option.some d) f =
+absent-due : {s : Session} → s ≡ absent_session → (due : Option Due) → DueFits s due → due ≡ None
+absent-due e None f = refl
+absent-due e (Some d) f =
     no_way (sym (due-present d) ∙ sym (ap is_present f.0) ∙ ap (λ (x : Session). is_present x.state) e)
 
-abbrev pub put : Table → ℕ → Session → Owed → Table
+abbrev pub put : Table → ℕ → Session → Option (ℕ × Due) → Table
 put t i s o = record { sessions = set t.sessions i s; owed = o }
 
 module _ {t : Table} (ok : Sound t) (A : List ℕ) where
   -- ---- a session put at the place of the one with the id
-  module _ (i : ℕ) (s : Session) (o : Owed) (inside : i < length t.sessions) (sound : Sound (put t i s o)) where
+  module _ (i : ℕ) (s : Session) (o : Option (ℕ × Due)) (inside : i < length t.sessions) (sound : Sound (put t i s o)) where
     here : session_at (put t i s o) i ≡ s
     here = get_or-set_same t.sessions i s no_session inside
 
@@ -71,8 +67,8 @@ module _ {t : Table} (ok : Sound t) (A : List ℕ) where
     put-absent others u =
         let each : SoundSession s (due_of o i) = rw here at (sound.each i) in
         let blank : s ≡ absent_session = each.blank u in
-        let due : due_of o i ≡ Option.none = absent-due blank (due_of o i) each.fits in
-        let none : find_session (put t i s o) A ≡ Found.Nowhere = find_none (put t i s o) A each-other in
+        let due : due_of o i ≡ None = absent-due blank (due_of o i) each.fits in
+        let none : find_session (put t i s o) A ≡ None = find_none (put t i s o) A each-other in
         rw (none, due, blank)
       where
         each-other : (j : ℕ) → session_used (session_at (put t i s o) j) ≡ true → id_of (session_at (put t i s o) j) ≡ A → ⊥
@@ -87,8 +83,8 @@ module _ {t : Table} (ok : Sound t) (A : List ℕ) where
         → ((j : ℕ) → (j ≡ i → ⊥) → due_of o j ≡ due_of t.owed j) → records_of A (put t i s o) ≡ records_of A t
     put_other before now dues = go (find_session t A) refl
       where
-        go : (f : Found) → find_session t A ≡ f → records_of A (put t i s o) ≡ records_at t f
-        go Found.Nowhere q = rw (find_none (put t i s o) A none)
+        go : (f : Option ℕ) → find_session t A ≡ f → records_of A (put t i s o) ≡ records_at t f
+        go None q = rw (find_none (put t i s o) A none)
           where
             none : (j : ℕ) → session_used (session_at (put t i s o) j) ≡ true → id_of (session_at (put t i s o) j) ≡ A → ⊥
             none j v e = by (ℕ_discrete j i)
@@ -98,18 +94,18 @@ module _ {t : Table} (ok : Sound t) (A : List ℕ) where
                 by (no n) =
                     no_way (sym (equals-same _ _ (rw (there j n) at e))
                     ∙ found_nowhere session_used id_of no_session t.sessions A refl q j (rw (there j n) at v))
-        go (Found.At k) q =
+        go (Some k) q =
             let f = found_at session_used id_of no_session t.sessions A k q in
             let n : k ≡ i → ⊥ = λ e. before (rw e at f.1) (rw e at f.2) in
             rw (find-used sound A k (rw (there k n) f.1) (rw (there k n) f.2), there k n, dues k n)
 
   -- ---- a step of a session
-  module _ (i : ℕ) (c : Change) (inside : i < length t.sessions) {idle : Bool} (free : idle ≡ true → t.owed ≡ Owed.Nothing)
+  module _ (i : ℕ) (c : Change) (inside : i < length t.sessions) {idle : Bool} (free : idle ≡ true → t.owed ≡ None)
       (steps : Steps idle (session_at t i) (due_of t.owed i) c) where
     abbrev s : Session
     s = session_at t i
 
-    abbrev o : Owed
+    abbrev o : Option (ℕ × Due)
     o = owed_after t.owed i c.news
 
     sound : Sound (after t i c)

@@ -13,19 +13,19 @@ returns-then-is_short-clause-reply_after c = rw (c.refused.ensures, ← c.is_sho
 pub returns-then-is_short-clause-every_call : goal.returns-then-is_short-clause-every_call
 returns-then-is_short-clause-every_call c = every_call
 
-pub returns-then-is_owed-clause-reply_after : goal.returns-then-is_owed-clause-reply_after
+pub returns-then-is_some-clause-reply_after : goal.returns-then-is_some-clause-reply_after
 unfolding feed_of
-returns-then-is_owed-clause-reply_after c =
+returns-then-is_some-clause-reply_after c =
     rw (
-      c.refused-then-is_owed.ensures,
+      c.refused-then-is_some.ensures,
       ← c.is_short.ensures,
       c.if-is_short.false,
-      ← c.is_owed.ensures,
-      c.if-is_owed.true,
+      ← c.is_some.ensures,
+      c.if-is_some.true,
     )
 
-pub returns-then-is_owed-clause-every_call : goal.returns-then-is_owed-clause-every_call
-returns-then-is_owed-clause-every_call c = every_call
+pub returns-then-is_some-clause-every_call : goal.returns-then-is_some-clause-every_call
+returns-then-is_some-clause-every_call c = every_call
 
 pub returns-clause-reply_after : goal.returns-clause-reply_after
 unfolding feed_of scanned_feed fed_with
@@ -35,10 +35,10 @@ returns-clause-reply_after c =
     rw (
       ← c.is_short.ensures,
       c.if-is_short.false,
-      ← c.is_owed.ensures,
-      c.if-is_owed.false,
+      ← c.is_some.ensures,
+      c.if-is_some.false,
       ← scan.ensures.carry_after,
-      ← c.text.ensures,
+      ← c.text-text.ensures,
       ← act.ensures,
     )
     (ap (λ (o : Outcome Fed). feeding o.answer scan.new.carry act.new.scratch o.buffer) c.fed.ensures)

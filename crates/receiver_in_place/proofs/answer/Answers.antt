@@ -5,7 +5,8 @@ use Rattle.receiver_in_place.proofs.answer.Goals as goal
 pub returns : goal.returns
 returns c =
     let a = c.args in
-    let heads = c.heads_of-heads in
-    let four : length heads.new.receiver.table.sessions ≡ 4 = search rules in
-    answer-joined a.receiver.now _ _ heads.ensures.1 heads.ensures.0 four _ _ _ _ a.call a.id.now a.reply.now c.aim_of-aim.ensures
-    c.answer_at-left.ensures
+    let at = c.place_of-i.ensures in
+    let four : length a.receiver.now.table.sessions ≡ 4 = search rules in
+    rw (c.put_back.ensures.receiver, c.put_back.ensures.answer)
+    (answer-joined a.receiver.now four _ _ at.place at.inside _ a.call a.id.now a.reply.now _ _ c.concerned-found.ensures
+    c.answer_at-left.ensures)

@@ -3,17 +3,17 @@ use Rattle.receiver_in_place.proofs.Joined.{unread-joined, feed-joined}
 use Rattle.receiver_in_place.proofs.feed.Goals as goal
 
 -- no command was read
-pub returns-then-heard : goal.returns-then-heard
-returns-then-heard c =
+pub returns-in-Err : goal.returns-in-Err
+returns-in-Err c =
     let a = c.args in
-    let heads = c.heads_of-heads in
-    unread-joined a.receiver.now _ _ heads.ensures.1 heads.ensures.0 a.piece.now a.carry.now a.scratch.now a.reply.now _ _ _
-    c.hear-heard.ensures.0 c.if-heard.true
+    let four : length a.receiver.now.table.sessions ≡ 4 = search rules in
+    unread-joined a.receiver.now four a.piece.now a.carry.now a.scratch.now a.reply.now _ _ _ c.hear-heard.ensures _ c.in-Err.is
 
 pub returns : goal.returns
 returns c =
     let a = c.args in
-    let heads = c.heads_of-heads in
-    let four : length heads.new.receiver.table.sessions ≡ 4 = search rules in
-    feed-joined a.receiver.now _ _ heads.ensures.1 heads.ensures.0 a.piece.now a.carry.now a.scratch.now a.reply.now _ _ _
-    c.hear-heard.ensures.0 four _ _ _ _ _ c.hear-heard.ensures.1 c.if-heard.false c.act-left.ensures
+    let at = c.place_of-i.ensures in
+    let four : length a.receiver.now.table.sessions ≡ 4 = search rules in
+    rw (c.put_back-answered.ensures.receiver, c.put_back-answered.ensures.answer)
+    (feed-joined a.receiver.now four a.piece.now a.carry.now a.scratch.now a.reply.now _ _ _ c.hear-heard.ensures _ at.place at.inside _
+    c.in-Ok.is _ _ _ _ c.text-text.ensures c.act-left.ensures)

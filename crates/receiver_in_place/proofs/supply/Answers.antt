@@ -5,7 +5,7 @@ use Rattle.receiver_in_place.proofs.supply.Goals as goal
 pub returns : goal.returns
 returns c =
     let a = c.args in
-    let heads = c.heads_of-heads in
-    let four : length heads.new.receiver.table.sessions ≡ 4 = search rules in
-    supply-joined a.receiver.now _ _ heads.ensures.1 heads.ensures.0 four _ _ _ _ a.supplying a.text.now a.contents.now a.out.now
-    c.aim_supply-aim.ensures c.supply_in-left.ensures
+    let at = c.place_of-i.ensures in
+    let four : length a.receiver.now.table.sessions ≡ 4 = search rules in
+    rw (c.put_back.ensures.receiver, c.put_back.ensures.answer)
+    (supply-joined a.receiver.now four _ _ at.place at.inside _ _ a.out.now _ _ c.concerned-found.ensures c.supply_in-left.ensures)

@@ -4,21 +4,21 @@ use mathlib.Core.List.{List}
 use Rattle.protocol.specs.Replies.{replied_of}
 use Rattle.protocol.proofs.StatusText.{every-status}
 use Rattle.reply.specs.Parts.{written}
-use Rattle.reply.proofs.Joined.{sent, not-due, held}
+use Rattle.reply.proofs.Joined.{sent, none-due, held}
 use Rattle.reply.proofs.Putting.{written_none}
 use Rattle.reply.proofs.send.Goals as goal
 
-pub returns-then-not-reply-clause-buffer_after : goal.returns-then-not-reply-clause-buffer_after
+pub returns-in_default-clause-buffer_after : goal.returns-in_default-clause-buffer_after
 unfolding replied_of
-returns-then-not-reply-clause-buffer_after c = rw (not-due c.args.reply c.if-not-reply.true) (written_none _)
+returns-in_default-clause-buffer_after c = rw (c.in_default.is, none-due) (written_none _)
 
-pub returns-then-not-reply-clause-every_status : goal.returns-then-not-reply-clause-every_status
-returns-then-not-reply-clause-every_status c = every-status
+pub returns-in_default-clause-every_status : goal.returns-in_default-clause-every_status
+returns-in_default-clause-every_status c = every-status
 
 pub returns-then-is_held-clause-buffer_after : goal.returns-then-is_held-clause-buffer_after
 unfolding replied_of
 returns-then-is_held-clause-buffer_after c =
-    rw (held c.args.reply (sym c.is_held.ensures ∙ c.if-is_held.true)) (written_none _)
+    rw (c.in-Some.is, held _ (sym c.is_held.ensures ∙ c.if-is_held.true)) (written_none _)
 
 pub returns-then-is_held-clause-every_status : goal.returns-then-is_held-clause-every_status
 returns-then-is_held-clause-every_status c = every-status
@@ -26,17 +26,17 @@ returns-then-is_held-clause-every_status c = every-status
 pub returns-clause-buffer_after : goal.returns-clause-buffer_after
 unfolding replied_of
 returns-clause-buffer_after c =
-    let a = c.args in
     c.put_fields.ensures
     ∙ rw (
-      c.first.ensures,
-      c.first-2.ensures,
-      c.first-3.ensures,
+      c.in-Some.is,
+      c.as_slice.ensures,
+      c.as_slice-2.ensures,
+      c.as_slice-3.ensures,
       c.size_text-size.ensures,
-      c.first-4.ensures,
+      c.as_slice-4.ensures,
       c.status_text-word.ensures,
     )
-    (ap (λ (bs : List ℕ). written bs a.buffer.now) (sym (sent a.reply c.if-not-reply.false (sym c.is_held.ensures ∙ c.if-is_held.false))))
+    (ap (λ (bs : List ℕ). written bs c.args.buffer.now) (sym (sent _ (sym c.is_held.ensures ∙ c.if-is_held.false))))
 
 pub returns-clause-every_status : goal.returns-clause-every_status
 returns-clause-every_status c = every-status

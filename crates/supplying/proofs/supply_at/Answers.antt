@@ -13,28 +13,28 @@ returns-then-is_over c =
     rw (
       c.unsupplied-then-is_over.ensures,
       le-ltb _ frame_room c.if-out-lt-FRAME_ROOM.false,
-      ← c.is_over.ensures _,
+      ← c.is_over.ensures,
       c.if-is_over.true,
     )
 
-pub returns-in-Nowhere : goal.returns-in-Nowhere
+pub returns-in_default : goal.returns-in_default
 unfolding supplied_in
-returns-in-Nowhere c =
+returns-in_default c =
     rw (
-      c.unsupplied-in-Nowhere.ensures,
+      c.unsupplied-in_default.ensures,
       le-ltb _ frame_room c.if-out-lt-FRAME_ROOM.false,
-      ← c.is_over.ensures _,
+      ← c.is_over.ensures,
       c.if-is_over.false,
-      c.in-Nowhere.is,
+      c.in_default.is,
     )
 
-pub returns-in-At : goal.returns-in-At
+pub returns : goal.returns
 unfolding supplied_in
-returns-in-At c =
+returns c =
     rw (
       le-ltb _ frame_room c.if-out-lt-FRAME_ROOM.false,
-      ← c.is_over.ensures _,
+      ← c.is_over.ensures,
       c.if-is_over.false,
-      c.in-At.is,
+      c.in-Some.is,
     )
     c.take.ensures

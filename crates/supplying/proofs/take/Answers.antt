@@ -1,27 +1,29 @@
-use mathlib.Core.Path.{refl}
 use Rattle.supplying.specs.Supplied.{taken_in}
 use Rattle.supplying.proofs.take.Goals as goal
-
-pub returns-then-is_held_back : goal.returns-then-is_held_back
-unfolding taken_in
-returns-then-is_held_back c =
-    let a = c.args in
-    rw (
-      c.settle.ensures,
-      c.write_nowhere-written.ensures a.out.now c.requires,
-      c.change_for-change.ensures a.text.now a.contents.now,
-      ← c.is_held_back.ensures a.session a.text.now a.contents.now refl,
-      c.if-is_held_back.true,
-    )
+use Rattle.supplying.proofs.take.Goals.{then-is_held_back, else-is_held_back}
 
 pub returns : goal.returns
 unfolding taken_in
 returns c =
-    let a = c.args in
-    rw (
-      c.settle-2.ensures,
-      c.change_for-change.ensures a.text.now a.contents.now,
-      ← c.is_held_back.ensures a.session a.text.now a.contents.now refl,
-      c.if-is_held_back.false,
-      ← c.write-written.ensures,
-    )
+    elim c.if-is_held_back.branch [
+      | then-is_held_back w ↦
+          rw (
+            c.settle.ensures,
+            c.change.ensures,
+            ← c.is_held_back.ensures,
+            w.if-is_held_back.true,
+            w.written-is,
+            w.out-is,
+            w.write_nowhere-written.ensures c.args.out.now c.requires,
+          )
+      | else-is_held_back w ↦
+          rw (
+            c.settle.ensures,
+            c.change.ensures,
+            ← c.is_held_back.ensures,
+            w.if-is_held_back.false,
+            w.written-is,
+            w.out-is,
+            ← w.write-written.ensures,
+          )
+    ]

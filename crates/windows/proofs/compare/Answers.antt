@@ -1,5 +1,6 @@
 use mathlib.Core.Path.{◌∙◌}
 use native.Mathlib.Omega.{arith}
+use Rattle.std.proofs.lemmas.Result.{err_from_is_err_and}
 use Rattle.hearing.specs.Hearing.{heard_in}
 use Rattle.windows.specs.Compare.{starts_of, first_diff, compared}
 use Rattle.windows.specs.Laws.{CompareLaws}
@@ -17,24 +18,25 @@ use Rattle.windows.proofs.compare.Goals as goal
 claims : CompareLaws compared first_diff heard_in starts_of × CompareTeeth × HearerTeeth × CompareExamples
 claims = (compare-laws, teeth, hearer-teeth, examples_hold)
 
-pub returns-in-Numbers-clause-list_after : goal.returns-in-Numbers-clause-list_after
-returns-in-Numbers-clause-list_after c =
+pub returns-clause-list_after : goal.returns-clause-list_after
+returns-clause-list_after c =
     let s = c.args in
     let h = c.hear in
-    let n = was-noted s.first.now c.in-Numbers.n h.new.events h.new.bytes (omega arith) (omega arith) h.result
-    h.ensures.bytes_after h.ensures.within.0 c.in-Numbers.is in
+    let n = was-noted s.first.now h.new.events h.new.bytes (omega arith) (omega arith) h.result h.ensures.bytes_after c.in_ok-n.n
+    h.ensures.within.0 c.in_ok-n.was in
     c.beside.ensures ∙ first-noted s.first.now s.second.now s.list.now _ _ _ n
 
-pub returns-in-Numbers-clause-compare_laws : goal.returns-in-Numbers-clause-compare_laws
-returns-in-Numbers-clause-compare_laws c = claims
+pub returns-clause-compare_laws : goal.returns-clause-compare_laws
+returns-clause-compare_laws c = claims
 
-pub returns-in-Refused-clause-list_after : goal.returns-in-Refused-clause-list_after
-returns-in-Refused-clause-list_after c =
+pub returns-in_err-n-clause-list_after : goal.returns-in_err-n-clause-list_after
+returns-in_err-n-clause-list_after c =
     let s = c.args in
     let h = c.hear in
-    let o = was-refused s.first.now c.in-Refused.why h.new.events h.new.bytes (omega arith) (omega arith) h.result
-    h.ensures.bytes_after c.in-Refused.is in
-    first-over s.first.now s.second.now s.list.now _ o
+    let p = err_from_is_err_and c.from_residual.result c.from_residual.ensures.1 in
+    let o = was-refused s.first.now h.new.events h.new.bytes (omega arith) (omega arith) h.result h.ensures.bytes_after _
+    c.in_err-n.was in
+    rw (p.1, p.2) (first-over s.first.now s.second.now s.list.now _ o)
 
-pub returns-in-Refused-clause-compare_laws : goal.returns-in-Refused-clause-compare_laws
-returns-in-Refused-clause-compare_laws c = claims
+pub returns-in_err-n-clause-compare_laws : goal.returns-in_err-n-clause-compare_laws
+returns-in_err-n-clause-compare_laws c = claims

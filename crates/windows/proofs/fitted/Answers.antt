@@ -4,7 +4,7 @@ use native.Mathlib.Omega.{arith}
 use lib.ListN.{length}
 use borrow.Author.Tests.{lt-ltb, le-ltb}
 use Rattle.windows.specs.Compare.{listed}
-use Rattle.windows.specs.Steps.{side, lines_between, listed_in}
+use Rattle.windows.specs.Steps.{heard, lines_between, listed_in}
 use Rattle.windows.proofs.LineLaws.{listed-length}
 use Rattle.windows.proofs.fitted.Goals as goal
 
@@ -12,8 +12,8 @@ pub returns-then-needed-list : goal.returns-then-needed-list
 unfolding listed_in
 returns-then-needed-list c =
     let s = c.args in
-    let first = side s.first.now s.first_bytes.now s.first_events.now in
-    let second = side s.second.now s.second_bytes.now s.second_events.now in
+    let first = heard s.first in
+    let second = heard s.second in
     let lines = lines_between first second in
     let more : length s.list.now < length (listed lines) =
     omega (arith, listed-length lines, c.list-needed.ensures.1.rows, c.if-needed-list.true) in
@@ -23,8 +23,8 @@ pub returns : goal.returns
 unfolding listed_in
 returns c =
     let s = c.args in
-    let first = side s.first.now s.first_bytes.now s.first_events.now in
-    let second = side s.second.now s.second_bytes.now s.second_events.now in
+    let first = heard s.first in
+    let second = heard s.second in
     let lines = lines_between first second in
     let needed = c.list-needed.ensures.1 in
     let done = c.list.ensures.1 in

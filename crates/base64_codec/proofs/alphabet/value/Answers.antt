@@ -3,4 +3,4 @@ use Rattle.base64_codec.proofs.Tabled.{table-value}
 use Rattle.base64_codec.proofs.alphabet.value.Goals as goal
 
 pub returns : goal.returns
-returns c = rw c.requires (table-value c.args.c (omega arith))
+returns c = rw (c.requires, c.from.ensures) (table-value c.args.c (omega arith))

@@ -6,7 +6,7 @@ use lib.Bits.{bit_or, or_lt, or_add_and, and_le_l, and_le_r}
 use lib.Dec.{eqb, ltb}
 use borrow.Author.Tests.{lt-ltb, le-ltb, eqb-true, eqb-false}
 use Rattle.octets.specs.Members.{every}
-use Rattle.base64_codec.proofs.Turns.{drop-at-4}
+use Rattle.base64_codec.proofs.Turns.{four-list}
 use Rattle.base64_codec.proofs.decoder.four.Goals as goal
 
 -- neither of two is more than both joined
@@ -51,10 +51,9 @@ module _ (a b c d : ℕ) (ha : a ≤ 64) (hb : b ≤ 64) (hc : c ≤ 64) (hd : d
 pub returns : goal.returns
 unfolding every
 returns c =
-    let a = c.args in
-    let e4 = c.value-d.ensures in
-    let e3 = c.value-c.ensures in
-    let e2 = c.value-b.ensures in
-    let e1 = c.value-a.ensures in
-    rw (drop-at-4 a.text.now a.i (omega arith), ← e1.0, ← e2.0, ← e3.0, ← e4.0)
+    let e1 = c.value.ensures in
+    let e2 = c.value-2.ensures in
+    let e3 = c.value-3.ensures in
+    let e4 = c.value-4.ensures in
+    rw (four-list c.args.group.now c.told-group, ← e1.0, ← e2.0, ← e3.0, ← e4.0)
     (tested _ _ _ _ e1.1 e2.1 e3.1 e4.1)

@@ -1,16 +1,9 @@
-use Prim.Native.Nat.{◌+◌, ◌-◌, ◌≤◌}
-use mathlib.Core.Path.{◌≡◌}
-use lib.ListN.{length, drop}
-use lib.Seq.{sets}
+use Rattle.std.proofs.Common.{◌≡◌, ◌+◌, ◌*◌, ◌≤◌, length, drop}
+use Rattle.std.proofs.lemmas.List.Edits.{sets}
 use Rattle.base64_codec.specs.Encode.{text_of}
 use Rattle.base64_codec.proofs.encoder.fill.Given as goal
 
-abbrev pub invariant-loop-i : goal.invariant-loop-i
-invariant-loop-i l =
-    (l.i ≤ length l.«data»)
-    × (length l.out ≡ length l.initial.out)
-    × (l.o + length (text_of (drop l.i l.«data»)) ≤ length l.out)
-    × (sets l.out l.o (text_of (drop l.i l.«data»)) ≡ sets l.initial.out l.at (text_of l.«data»))
-
-abbrev pub decreases-loop-i : goal.decreases-loop-i
-decreases-loop-i l = length l.«data» - l.i
+abbrev pub invariant-loop-a : goal.invariant-loop-a
+invariant-loop-a l =
+    (l.o + length (text_of (drop (l.a-index * 3) l.«data»)) ≤ length l.out)
+    × (sets l.out l.o (text_of (drop (l.a-index * 3) l.«data»)) ≡ sets l.initial.out l.at (text_of l.«data»))

@@ -8,21 +8,22 @@ use Rattle.base64_codec.specs.Alphabet.{value_of}
 use Rattle.base64_codec.specs.Decode.{verdict_of, bytes_of, decode_of}
 use Rattle.base64_codec.specs.Padding.{joined_verdict}
 use Rattle.base64_codec.specs.Values.{values_from}
-use Rattle.base64_codec.specs.declared.Verdict.TheVariants.{Valid}
+use Rattle.std.specs.Prelude.{Ok}
+use Rattle.std.proofs.lemmas.Result.{err_from_is_err_and}
 use Rattle.base64_codec.proofs.Halves.{verdict-joined, both_valid, size-first, size-last, size-both, sets-both}
 use Rattle.base64_codec.proofs.lacking.in_two.Goals as goal
 
 -- ---- where the two are valid together
 module _
     (groups last : List ℕ) (whole : length groups % 4 ≡ 0) (four : length last ≡ 4) (padding : ℕ)
-    (joint : joined_verdict (verdict_of groups) (verdict_of last) ≡ Valid padding) where
-  first : verdict_of groups ≡ Valid 0
+    (joint : joined_verdict (verdict_of groups) (verdict_of last) ≡ Ok padding) where
+  first : verdict_of groups ≡ Ok 0
   first = (both_valid (verdict_of groups) (verdict_of last) padding joint).0
 
-  second : verdict_of last ≡ Valid padding
+  second : verdict_of last ≡ Ok padding
   second = (both_valid (verdict_of groups) (verdict_of last) padding joint).1
 
-  together : verdict_of (groups ++ last) ≡ Valid padding
+  together : verdict_of (groups ++ last) ≡ Ok padding
   together = verdict-joined groups last whole four ∙ joint
 
   count-first : length (bytes_of groups) ≡ length groups / 4 * 3
@@ -44,58 +45,53 @@ check-requires-2 c = refl
 
 pub overflow_sub-n : goal.overflow_sub-n
 overflow_sub-n c =
-    let joint = rw (c.check.ensures, c.check-2.ensures) at (sym c.in-Valid.ensures) in
-    omega (arith, count-last _ _ c.requires.0 c.requires.1 _ joint)
+    let joint = rw (c.check.ensures, c.check-2.ensures) at (sym c.in_ok-padding.ensures) in
+    omega (arith, count-last _ _ c.requires c.told-last _ joint)
 
 pub returns-then-not-fits : goal.returns-then-not-fits
 unfolding decode_of
 returns-then-not-fits c =
-    let joint = rw (c.check.ensures, c.check-2.ensures) at (sym c.in-Valid.ensures) in
-    let q = c.requires in
-    rw (together _ _ q.0 q.1 _ joint, count _ _ q.0 q.1 _ joint, ← c.fits.ensures, c.if-not-fits.true)
+    let joint = rw (c.check.ensures, c.check-2.ensures) at (sym c.in_ok-padding.ensures) in
+    rw (together _ _ c.requires c.told-last _ joint, count _ _ c.requires c.told-last _ joint, ← c.fits.ensures, c.if-not-fits.true)
 
 pub fill-requires-clause-table_value : goal.fill-requires-clause-table_value
 unfolding values_from value_of
 fill-requires-clause-table_value c = refl
 
 -- past the test there is room for both
-pub fill-requires-clause-text_value : goal.fill-requires-clause-text_value
-fill-requires-clause-text_value c =
-    let joint = rw (c.check.ensures, c.check-2.ensures) at (sym c.in-Valid.ensures) in
-    let q = c.requires in
-    let room = leb-true _ _ (sym c.fits.ensures ∙ c.if-not-fits.false) in (
-      first _ _ q.0 q.1 _ joint,
-      omega (arith, count-first _ _ q.0 q.1 _ joint, count-last _ _ q.0 q.1 _ joint, room),
-    )
-
-pub fill-requires-in-Valid-clause-table_value : goal.fill-requires-in-Valid-clause-table_value
-unfolding values_from value_of
-fill-requires-in-Valid-clause-table_value c = refl
-
-pub fill-requires-in-Valid-clause-text_value : goal.fill-requires-in-Valid-clause-text_value
-fill-requires-in-Valid-clause-text_value c =
-    let joint = rw (c.check.ensures, c.check-2.ensures) at (sym c.in-Valid.ensures) in
-    let q = c.requires in
+pub fill-requires-clause-room : goal.fill-requires-clause-room
+fill-requires-clause-room c =
+    let joint = rw (c.check.ensures, c.check-2.ensures) at (sym c.in_ok-padding.ensures) in
     let room = leb-true _ _ (sym c.fits.ensures ∙ c.if-not-fits.false) in
-    (second _ _ q.0 q.1 _ joint, omega (arith, count-last _ _ q.0 q.1 _ joint, room))
+    omega (arith, count-first _ _ c.requires c.told-last _ joint, count-last _ _ c.requires c.told-last _ joint, room)
 
-pub returns-else-not-fits : goal.returns-else-not-fits
+pub fill-requires-2-clause-table_value : goal.fill-requires-2-clause-table_value
+unfolding values_from value_of
+fill-requires-2-clause-table_value c = refl
+
+pub fill-requires-2-clause-room : goal.fill-requires-2-clause-room
+fill-requires-2-clause-room c =
+    let joint = rw (c.check.ensures, c.check-2.ensures) at (sym c.in_ok-padding.ensures) in
+    let room = leb-true _ _ (sym c.fits.ensures ∙ c.if-not-fits.false) in
+    omega (arith, count-last _ _ c.requires c.told-last _ joint, room)
+
+pub returns : goal.returns
 unfolding decode_of
-returns-else-not-fits c =
-    let joint = rw (c.check.ensures, c.check-2.ensures) at (sym c.in-Valid.ensures) in
-    let q = c.requires in
+returns c =
+    let joint = rw (c.check.ensures, c.check-2.ensures) at (sym c.in_ok-padding.ensures) in
     rw (
-      together _ _ q.0 q.1 _ joint,
-      count _ _ q.0 q.1 _ joint,
+      together _ _ c.requires c.told-last _ joint,
+      count _ _ c.requires c.told-last _ joint,
       ← c.fits.ensures,
       c.if-not-fits.false,
-      c.fill-in-Valid.ensures,
+      c.fill-2.ensures,
       c.fill.ensures,
-      sets-both _ _ q.0 q.1 _ (first _ _ q.0 q.1 _ joint) (second _ _ q.0 q.1 _ joint),
+      sets-both _ _ c.requires c.told-last _ (first _ _ c.requires c.told-last _ joint) (second _ _ c.requires c.told-last _ joint),
     )
 
-pub returns-in-Invalid : goal.returns-in-Invalid
+pub returns-in_err-padding : goal.returns-in_err-padding
 unfolding decode_of
-returns-in-Invalid c =
-    let fault = rw (c.check.ensures, c.check-2.ensures) at (sym c.in-Invalid.ensures) in
-    rw (verdict-joined _ _ c.requires.0 c.requires.1, fault)
+returns-in_err-padding c =
+    let told = err_from_is_err_and c.from_residual.result c.from_residual.ensures.1 in
+    let fault = rw (c.check.ensures, c.check-2.ensures) at (sym c.in_err-padding.ensures) in
+    rw (told.1, told.2, verdict-joined _ _ c.requires c.told-last, fault)

@@ -8,16 +8,17 @@ pub returns-then-not-is : goal.returns-then-not-is
 returns-then-not-is c =
     let l = c.loop-i in
     let a = c.args in
-    omega (arith, l.invariant, run-off (byte_of a.class) a.s.now l.i (omega arith) (sym c.is.ensures ∙ c.if-not-is.true))
+    omega (arith, l.invariant.1, run-off (byte_of a.class) a.s.now l.i (omega arith) (sym c.is.ensures ∙ c.if-not-is.true))
 
 pub loop-i-preserved : goal.loop-i-preserved
 loop-i-preserved c =
     let l = c.loop-i in
     let a = c.args in
-    omega (arith, l.invariant, run_on (byte_of a.class) a.s.now l.i (omega arith) (sym c.is.ensures ∙ c.if-not-is.false))
+    let on = run_on (byte_of a.class) a.s.now l.i (omega arith) (sym c.is.ensures ∙ c.if-not-is.false) in
+    (omega arith, omega (arith, l.invariant.1, on))
 
 pub returns : goal.returns
 returns c =
     let l = c.loop-i in
     let a = c.args in
-    omega (arith, l.invariant, run_end (byte_of a.class) a.s.now l.i (omega arith))
+    omega (arith, c.max.ensures, l.invariant.0, l.invariant.1, run_end (byte_of a.class) a.s.now l.i (omega arith))

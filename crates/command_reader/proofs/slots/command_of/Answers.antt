@@ -1,23 +1,24 @@
 use mathlib.Core.Path.{◌∙◌, ap}
 use Rattle.command.specs.Slots.{action_of, file_type_of, transmission_of, command_of}
+use Rattle.command.specs.declared.Slot.{Slot}
 use Rattle.command_reader.proofs.slots.command_of.Goals as goal
 
 pub returns : goal.returns
 unfolding command_of
 returns c =
     λ i. record {
-      action = (c.action_of.ensures ∙ ap action_of c.code.ensures) i;
-      file_type = (c.file_type_of.ensures ∙ ap file_type_of c.code-2.ensures) i;
-      transmission = (c.transmission_of.ensures ∙ ap transmission_of c.code-3.ensures) i;
-      id = c.place.ensures i;
-      file_id = c.place-2.ensures i;
-      bypass = c.place-3.ensures i;
-      quiet = c.code-4.ensures i;
-      modified = c.number.ensures i;
-      permissions = c.number-2.ensures i;
-      size = c.number-3.ensures i;
-      name = c.place-4.ensures i;
-      status = c.place-5.ensures i;
-      parent = c.place-6.ensures i;
-      payload = c.place-7.ensures i;
+      action = (c.from.ensures ∙ ap (λ (s : Slot). action_of s.number.magnitude) c.held.ensures) i;
+      file_type = (c.from-2.ensures ∙ ap (λ (s : Slot). file_type_of s.number.magnitude) c.held-2.ensures) i;
+      transmission = (c.from-3.ensures ∙ ap (λ (s : Slot). transmission_of s.number.magnitude) c.held-3.ensures) i;
+      id = (c.held-4.ensures i).place;
+      file_id = (c.held-5.ensures i).place;
+      bypass = (c.held-6.ensures i).place;
+      quiet = (c.held-7.ensures i).number.magnitude;
+      modified = (c.held-8.ensures i).number;
+      permissions = (c.held-9.ensures i).number;
+      size = (c.held-10.ensures i).number;
+      name = (c.held-11.ensures i).place;
+      status = (c.held-12.ensures i).place;
+      parent = (c.held-13.ensures i).place;
+      payload = (c.held-14.ensures i).place;
     }

@@ -1,19 +1,17 @@
+use Rattle.std.proofs.lemmas.Result.{err_from_is_err_and}
 use Rattle.command_reader.proofs.Answers.{decoded-kept}
 use Rattle.command_reader.proofs.values.base64.Goals as goal
 
 -- whatever `decode` answered, the code keeps what is to be kept
-pub returns-in-Length : goal.returns-in-Length
-returns-in-Length c =
+pub returns-in_err-stored : goal.returns-in_err-stored
+returns-in_err-stored c =
     let a = c.args in
-    λ at n slots. rw c.placed.ensures
-    (decoded-kept a.v.now a.scratch.now a.used _ c.requires c.in-Length.ensures.out_after at n slots)
+    let p = err_from_is_err_and c.from_residual.result c.from_residual.ensures.1 in
+    λ at n slots. rw (p.1, p.2)
+    (decoded-kept a.v.now a.scratch.now a.used _ c.requires c.in_err-stored.ensures.out_after at n slots)
 
-pub returns-in-Invalid : goal.returns-in-Invalid
-returns-in-Invalid c =
+pub returns : goal.returns
+returns c =
     let a = c.args in
-    λ at n slots. rw c.base64_refusal.ensures
-    (decoded-kept a.v.now a.scratch.now a.used _ c.requires c.in-Invalid.ensures.out_after at n slots)
-
-pub returns-in-NoRoom : goal.returns-in-NoRoom
-returns-in-NoRoom c =
-    let a = c.args in decoded-kept a.v.now a.scratch.now a.used _ c.requires c.in-NoRoom.ensures.out_after
+    λ at n slots. rw c.placed-slot.ensures
+    (decoded-kept a.v.now a.scratch.now a.used _ c.requires c.in_ok-stored.ensures.out_after at n slots)

@@ -1,14 +1,13 @@
+use Rattle.std.proofs.lemmas.Result.{err_from_is_err_and}
 use Rattle.command.specs.Values.{value_read}
 use Rattle.command_reader.proofs.values.integer.Goals as goal
 
-pub returns-in-Integer : goal.returns-in-Integer
+pub returns-in_err-number : goal.returns-in_err-number
 unfolding value_read
-returns-in-Integer c = λ at scratch used n slots. rw (c.numbered.ensures, ← c.in-Integer.ensures.value)
+returns-in_err-number c =
+    let p = err_from_is_err_and c.from_residual.result c.from_residual.ensures.1 in
+    λ at scratch used n slots. rw (p.1, p.2, ← c.in_err-number.ensures.value)
 
-pub returns-in-Malformed : goal.returns-in-Malformed
+pub returns : goal.returns
 unfolding value_read
-returns-in-Malformed c = λ at scratch used n slots. rw (← c.in-Malformed.ensures.value)
-
-pub returns-in-OutOfRange : goal.returns-in-OutOfRange
-unfolding value_read
-returns-in-OutOfRange c = λ at scratch used n slots. rw (← c.in-OutOfRange.ensures.value)
+returns c = λ at scratch used n slots. rw (c.plain.ensures, c.numbered.ensures, ← c.in_ok-number.ensures.value)

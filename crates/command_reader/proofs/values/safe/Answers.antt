@@ -13,4 +13,4 @@ returns-then-over c =
 pub returns : goal.returns
 unfolding value_read safe_read
 returns c =
-    λ scratch used n slots. rw (c.placed.ensures, ← c.all.ensures, c.if-not-all.false, ← c.over.ensures, c.if-over.false)
+    λ scratch used n slots. rw (c.plain.ensures, c.placed.ensures, ← c.all.ensures, c.if-not-all.false, ← c.over.ensures, c.if-over.false)

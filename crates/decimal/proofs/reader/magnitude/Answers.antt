@@ -1,28 +1,39 @@
-use native.Mathlib.Omega.{arith}
-use lib.ListN.{length}
-use borrow.Author.Tests.{lt-ltb, le-ltb, eq-eqb, ne_eqb}
+use Rattle.std.proofs.Common.{ℕ, ◌≡◌, ◌<◌, ◌≤◌, Bool, true, false, List, Err, length, sym, ◌∙◌}
+use borrow.Author.Tests.{lt-ltb, le-ltb}
+use lib.Dec.{eqb}
 use Rattle.decimal.specs.Limits.{most_digits}
-use Rattle.decimal.specs.Read.{magnitude_of}
+use Rattle.decimal.specs.Read.{digits_of, digits_ranged, magnitude_of}
+use Rattle.decimal.specs.declared.ParseError.TheVariants.{Malformed}
 use Rattle.decimal.proofs.reader.magnitude.Goals as goal
+use Rattle.decimal.proofs.reader.magnitude.Goals.{then-is_empty-via-then-is_empty, then-is_empty-via-else-is_empty+then-text-gt-DIGITS}
 
-pub returns-then-text-eq0 : goal.returns-then-text-eq0
-unfolding magnitude_of
-returns-then-text-eq0 c = rw (eq-eqb _ _ c.if-text-eq0.true)
+module _ (s : Bool) (t : List ℕ) where
+  none-is : eqb (length t) 0 ≡ true → magnitude_of s t ≡ Err Malformed
+  unfolding magnitude_of
+  none-is e = rw e
 
-pub returns-then-text-gt-DIGITS : goal.returns-then-text-gt-DIGITS
-unfolding magnitude_of
-returns-then-text-gt-DIGITS c = rw (ne_eqb _ _ c.if-text-eq0.false, lt-ltb most_digits (length c.args.text.now) (omega arith))
+  many-are : eqb (length t) 0 ≡ false → most_digits < length t → magnitude_of s t ≡ Err Malformed
+  unfolding magnitude_of
+  many-are e h = rw (e, lt-ltb _ _ h)
 
-pub returns-in-Value : goal.returns-in-Value
-unfolding magnitude_of
-returns-in-Value c =
-    let some = ne_eqb _ _ c.if-text-eq0.false in
-    let short = le-ltb most_digits (length c.args.text.now) (omega arith) in
-    rw (c.ranged.ensures, some, short, ← c.digits.ensures, c.in-Value.is)
+  few-are : eqb (length t) 0 ≡ false → length t ≤ most_digits → magnitude_of s t ≡ digits_ranged s (digits_of 0 t)
+  unfolding magnitude_of
+  few-are e h = rw (e, le-ltb _ _ h)
 
-pub returns-in-NotDigits : goal.returns-in-NotDigits
-unfolding magnitude_of
-returns-in-NotDigits c =
-    let some = ne_eqb _ _ c.if-text-eq0.false in
-    let short = le-ltb most_digits (length c.args.text.now) (omega arith) in
-    rw (some, short, ← c.digits.ensures, c.in-NotDigits.is)
+pub returns-then-is_empty : goal.returns-then-is_empty
+returns-then-is_empty c =
+    elim c.then-is_empty.branch [
+      | then-is_empty-via-then-is_empty w ↦ sym (none-is _ _ (sym c.is_empty.ensures ∙ w.if-is_empty.true))
+      | then-is_empty-via-else-is_empty+then-text-gt-DIGITS w ↦
+          sym (many-are _ _ (sym c.is_empty.ensures ∙ w.if-is_empty.false) w.if-text-gt-DIGITS.true)
+    ]
+
+pub returns-in-Some : goal.returns-in-Some
+returns-in-Some c =
+    let e = few-are c.args.negative c.args.text.now (sym c.is_empty.ensures ∙ c.if-is_empty.false) c.if-text-gt-DIGITS.false in
+    rw (c.ranged.ensures, e, ← c.digits.ensures, c.in-Some.is)
+
+pub returns-in-None : goal.returns-in-None
+returns-in-None c =
+    let e = few-are c.args.negative c.args.text.now (sym c.is_empty.ensures ∙ c.if-is_empty.false) c.if-text-gt-DIGITS.false in
+    rw (e, ← c.digits.ensures, c.in-None.is)

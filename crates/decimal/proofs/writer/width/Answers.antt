@@ -1,27 +1,16 @@
-use Prim.Native.Nat.{◌-◌, ◌^◌, ◌≤◌, ◌<◌}
-use mathlib.Core.Path.{sym, ◌∙◌}
-use native.Mathlib.Omega.{arith}
-use native.Mathlib.Nat.{div-div-eq-div-mul, pow-suc}
-use native.Mathlib.Numerals.{add-one}
-use Rattle.decimal.proofs.Powers.{ten_lt, above-some, above-none}
-use Rattle.decimal.proofs.Widths.{width_is, width-more}
+use Rattle.std.proofs.Common.{refl, add-one, arith}
+use Rattle.std.proofs.Math.Nat.{pow-succ'}
+use Rattle.decimal.specs.Write.{width_from}
+use Rattle.decimal.proofs.Widths.{width-unique}
 use Rattle.decimal.proofs.writer.width.Goals as goal
 
-pub loop-rest-preserved : goal.loop-rest-preserved
-loop-rest-preserved c =
-    let l = c.loop-rest in
-    let n = c.args.n in
-    -- where something is left the width does not hold n, and 20 digits hold every n
-    let past : 10 ^ l.w ≤ n = above-some l.w n (omega arith) in
-    let more : l.w < 20 = ten_lt l.w 20 n past (omega arith) in (
-      rw (l.invariant.0, add-one, pow-suc 10 l.w) (div-div-eq-div-mul n (10 ^ l.w) 10),
-      omega arith,
-      omega arith,
-      sym (width-more l.w n more past) ∙ l.invariant.3,
-    )
+pub returns-then-n-eq0 : goal.returns-then-n-eq0
+unfolding width_from
+returns-then-n-eq0 c = rw c.if-n-eq0.true (refl, omega arith)
 
-pub returns : goal.returns
-returns c =
-    let l = c.loop-rest in
-    let n = c.args.n in
-    (sym (width_is (20 - l.w) l.w n (above-none l.w n (omega arith))) ∙ l.invariant.3, omega arith)
+pub returns-else-n-eq0 : goal.returns-else-n-eq0
+returns-else-n-eq0 c =
+    let k = c.ilog10.result in
+    let e = c.ilog10.ensures in
+    let w = width-unique k c.args.n e.bound e.power_le (rw (pow-succ' 10 k) e.next_power_gt) in
+    (rw (w, add-one), omega (arith, e.bound))

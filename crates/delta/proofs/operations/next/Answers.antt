@@ -1,39 +1,35 @@
-use Prim.Native.Nat.{◌+◌}
-use mathlib.Core.Path.{◌∙◌}
-use lib.ListN.{drop}
-use borrow.Author.Tests.{eq-eqb, ne_eqb}
-use Rattle.delta.specs.Read.{operation_of, placed}
+use Rattle.std.proofs.Common.{◌+◌, drop}
+use Rattle.std.proofs.lemmas.Result.{err_from_is_err_and}
+use Rattle.delta.specs.Read.{operation_of}
 use Rattle.delta.proofs.OperationLaws.{data-placed, hash-placed}
 use Rattle.delta.proofs.operations.next.Goals as goal
 
-pub returns-then-kind-eq0 : goal.returns-then-kind-eq0
+pub returns-in_err-payload-in-1 : goal.returns-in_err-payload-in-1
 unfolding operation_of
-returns-then-kind-eq0 c = rw (eq-eqb _ _ c.if-kind-eq0.true) c.block.ensures
-
-pub returns-then-kind-eq1 : goal.returns-then-kind-eq1
-unfolding operation_of
-returns-then-kind-eq1 c =
+returns-in_err-payload-in-1 c =
     let a = c.args in
-    let r = drop (a.at + 1) a.delta.now in
-    rw (ne_eqb _ _ c.if-kind-eq0.false, eq-eqb _ _ c.if-kind-eq1.true)
-    (c.data_of.ensures ∙ rw c.sized.ensures (data-placed a.at r))
+    let p = data-placed a.at (drop (a.at + 1) a.delta.now) in
+    let q = err_from_is_err_and c.from_residual.result c.from_residual.ensures.1 in
+    rw (c.in-1.is, q.1, q.2) (rw (← c.sized.ensures.value, c.in_err-payload-in-1.was) at p)
 
-pub returns-then-kind-eq2 : goal.returns-then-kind-eq2
+pub returns-in_ok-payload-in-1 : goal.returns-in_ok-payload-in-1
 unfolding operation_of
-returns-then-kind-eq2 c =
+returns-in_ok-payload-in-1 c =
     let a = c.args in
-    let r = drop (a.at + 1) a.delta.now in
-    rw (ne_eqb _ _ c.if-kind-eq0.false, ne_eqb _ _ c.if-kind-eq1.false, eq-eqb _ _ c.if-kind-eq2.true)
-    (c.hash_of.ensures ∙ rw c.sized-then-kind-eq2.ensures (hash-placed a.at r))
+    let p = data-placed a.at (drop (a.at + 1) a.delta.now) in
+    rw c.in-1.is (rw (← c.sized.ensures.value, c.in_ok-payload-in-1.was) at p)
 
-pub returns-then-kind-eq3 : goal.returns-then-kind-eq3
+pub returns-in_err-payload-in-2 : goal.returns-in_err-payload-in-2
 unfolding operation_of
-returns-then-kind-eq3 c =
-    rw (ne_eqb _ _ c.if-kind-eq0.false, ne_eqb _ _ c.if-kind-eq1.false, ne_eqb _ _ c.if-kind-eq2.false, eq-eqb _ _ c.if-kind-eq3.true)
-    c.blocks-then-kind-eq3.ensures
+returns-in_err-payload-in-2 c =
+    let a = c.args in
+    let p = hash-placed a.at (drop (a.at + 1) a.delta.now) in
+    let q = err_from_is_err_and c.from_residual-in_err-payload-in-2.result c.from_residual-in_err-payload-in-2.ensures.1 in
+    rw (c.in-2.is, q.1, q.2) (rw (← c.sized-in-2.ensures.value, c.in_err-payload-in-2.was) at p)
 
-pub returns : goal.returns
-unfolding operation_of placed
-returns c =
-    rw (ne_eqb _ _ c.if-kind-eq0.false, ne_eqb _ _ c.if-kind-eq1.false, ne_eqb _ _ c.if-kind-eq2.false, ne_eqb _ _ c.if-kind-eq3.false)
-    c.stay.ensures
+pub returns-in_ok-payload-in-2 : goal.returns-in_ok-payload-in-2
+unfolding operation_of
+returns-in_ok-payload-in-2 c =
+    let a = c.args in
+    let p = hash-placed a.at (drop (a.at + 1) a.delta.now) in
+    rw c.in-2.is (rw (← c.sized-in-2.ensures.value, c.in_ok-payload-in-2.was) at p)

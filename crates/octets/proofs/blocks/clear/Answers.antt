@@ -1,20 +1,15 @@
-use Prim.Native.Nat.{◌-◌}
-use mathlib.Core.Bool.{false, cond}
-use mathlib.Core.Path.{◌≡◌, refl, sym, ◌∙◌}
-use lib.ListN.{length, drop}
-use borrow.Author.Rules.{rules}
-use Rattle.octets.specs.Slices.{lacks}
+use Rattle.std.proofs.Common.{sym, ◌∙◌}
 use Rattle.octets.proofs.Passes.{clear-turn, clear-end}
 use Rattle.octets.proofs.blocks.clear.Goals as goal
 
-pub loop-k-preserved : goal.loop-k-preserved
-loop-k-preserved c =
-    let l = c.loop-k in
+pub loop-x-preserved : goal.loop-x-preserved
+loop-x-preserved c =
+    let l = c.loop-x in
     let a = c.args in
-    l.invariant ∙ clear-turn a.b a.s.now l.k l.hit c.loop-k-test.true
+    l.invariant ∙ clear-turn a.b a.s.now l.x-index l.hit c.loop-x-test.true
 
 pub returns : goal.returns
 returns c =
-    let l = c.loop-k in
+    let l = c.loop-x in
     let a = c.args in
-    sym (l.invariant ∙ clear-end a.b a.s.now l.k l.hit c.loop-k-test.false)
+    sym (l.invariant ∙ clear-end a.b a.s.now l.x-index l.hit c.loop-x-test.false)

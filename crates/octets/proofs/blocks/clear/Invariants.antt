@@ -1,14 +1,6 @@
-use Prim.Native.Nat.{◌-◌}
-use mathlib.Core.Bool.{false, cond}
-use mathlib.Core.Path.{◌≡◌, refl, sym, ◌∙◌}
-use lib.ListN.{length, drop}
-use borrow.Author.Rules.{rules}
+use Rattle.std.specs.Prelude.{◌≡◌, false, cond, drop}
 use Rattle.octets.specs.Slices.{lacks}
-use Rattle.octets.proofs.Passes.{clear-turn, clear-end}
 use Rattle.octets.proofs.blocks.clear.Given as goal
 
-abbrev pub invariant-loop-k : goal.invariant-loop-k
-invariant-loop-k l = lacks l.b l.s ≡ cond l.hit false (lacks l.b (drop l.k l.s))
-
-abbrev pub decreases-loop-k : goal.decreases-loop-k
-decreases-loop-k l = length l.s - l.k
+abbrev pub invariant-loop-x : goal.invariant-loop-x
+invariant-loop-x l = lacks l.b l.s ≡ cond l.hit false (lacks l.b (drop l.x-index l.s))

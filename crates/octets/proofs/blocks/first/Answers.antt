@@ -1,20 +1,17 @@
-use mathlib.Core.Path.{◌≡◌, sym, ◌∙◌}
-use native.Mathlib.Omega.{arith}
-use Rattle.octets.proofs.Passes.{other-past, found_here, found_end}
+use Rattle.std.proofs.Common.{arith, sym, ◌∙◌, ap, length-drop, length, ◌≡◌, ◌+◌, drop}
+use Rattle.octets.specs.Search.{index_of}
+use Rattle.octets.proofs.Lists.{part-rest}
+use Rattle.octets.proofs.Passes.{place_some, place_none}
 use Rattle.octets.proofs.blocks.first.Goals as goal
 
-pub loop-i-preserved : goal.loop-i-preserved
-loop-i-preserved c =
-    let l = c.loop-i in
-    let a = c.args in (
-      omega arith,
-      other-past a.b a.s.now l.i c.loop-i-test.true c.if-s-i.false ∙ l.invariant.1,
-    )
+pub returns-in-Some : goal.returns-in-Some
+returns-in-Some c =
+    let a = c.args in
+    ap (◌+◌ a.from) (place_some a.b _ c.in-Some.passed (sym c.in-Some.ensures) ∙ ap (index_of a.b) (part-rest a.s.now a.from))
 
-pub returns-after-loop-i : goal.returns-after-loop-i
-returns-after-loop-i c =
-    sym (found_end c.args.b c.args.s.now c.loop-i.i c.loop-i-test.false) ∙ c.loop-i.invariant.1
-
-pub returns-then-s-i : goal.returns-then-s-i
-returns-then-s-i c =
-    sym (found_here c.args.b c.args.s.now c.loop-i.i c.loop-i-test.true c.if-s-i.true) ∙ c.loop-i.invariant.1
+pub returns-in-None : goal.returns-in-None
+returns-in-None c =
+    let a = c.args in
+    let e : index_of a.b (drop a.from a.s.now) ≡ _ =
+    sym (ap (index_of a.b) (part-rest a.s.now a.from)) ∙ place_none a.b _ (sym c.in-None.ensures) ∙ ap length (part-rest a.s.now a.from) in
+    omega (arith, e, length-drop a.from a.s.now)

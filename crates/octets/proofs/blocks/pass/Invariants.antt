@@ -1,15 +1,12 @@
-use Prim.Native.Nat.{◌+◌, ◌-◌, ◌≤◌}
-use mathlib.Core.Path.{◌≡◌, refl, sym, ◌∙◌}
-use native.Mathlib.Omega.{arith}
-use lib.ListN.{length, drop}
-use borrow.Author.Tests.{not-false}
-use borrow.Author.Rules.{rules}
+use Rattle.std.specs.Prelude.{◌≡◌, drop, ◌+◌, ◌≤◌, length}
 use Rattle.octets.specs.Search.{index_of}
-use Rattle.octets.proofs.Passes.{block-past}
 use Rattle.octets.proofs.blocks.pass.Given as goal
 
-abbrev pub invariant-loop-i : goal.invariant-loop-i
-invariant-loop-i l = (l.i ≤ length l.s) × (l.i + index_of l.b (drop l.i l.s) ≡ l.from + index_of l.b (drop l.from l.s))
-
-abbrev pub decreases-loop-i : goal.decreases-loop-i
-decreases-loop-i l = length l.s - l.i
+-- the blocks that are left begin at the place
+abbrev pub invariant-loop-block : goal.invariant-loop-block
+invariant-loop-block l = record {
+  within : l.at ≤ length l.s;
+  left : drop l.at l.s ≡ l.block-iterator.rest.now;
+  size : l.block-iterator.size ≡ l.n;
+  found : l.at + index_of l.b (drop l.at l.s) ≡ l.from + index_of l.b (drop l.from l.s);
+}

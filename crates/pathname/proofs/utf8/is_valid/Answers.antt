@@ -1,67 +1,57 @@
-use Prim.Native.Nat.{ℕ, ◌+◌, ◌-◌, ◌<◌}
-use mathlib.Core.Path.{◌≡◌, refl, sym, ◌∙◌}
-use mathlib.Core.List.{List}
-use native.Mathlib.Omega.{arith}
-use mathlib.Core.Bool.{◌&&◌}
-use lib.ListN.{length, get_or, drop}
-use lib.Dec.{leb}
-use borrow.Author.Tests.{le-leb, lt-leb, eq-eqb, ne_eqb}
+use Rattle.std.proofs.Common.{◌≡◌, ℕ, List, ◌&&◌, refl, sym, ◌∙◌, ◌+◌, ◌-◌, ◌<◌, arith, length, get_or, drop, leb}
+use borrow.Author.Tests.{le-leb, lt-leb}
+use Rattle.std.specs.Prelude.{Option, Some, None}
 use Rattle.pathname.specs.declared.utf8.Due.{Due}
 use Rattle.pathname.specs.Utf8.{rows, followers_in, begun, sequences, utf8}
 use Rattle.pathname.specs.DueBytes.{ranges_of, due_of, lead_of}
 use Rattle.pathname.proofs.Sequences.{first-at, next-at, none-at}
 use Rattle.pathname.proofs.utf8.is_valid.Goals as goal
-use Rattle.pathname.proofs.utf8.is_valid.Goals.{then-due-eq0+else-due-eq4, else-due-eq0+else-b-due+else-b-due-2}
+use Rattle.pathname.proofs.utf8.is_valid.Goals.{then-due-eq0+in-Some, else-due-eq0+then-due-b+then-b-due}
+use Rattle.pathname.proofs.utf8.is_valid.Goals.{else-due-b-via-then-due-b+else-b-due, else-due-b-via-else-due-b}
 
 -- what a first byte leaves
-at_first : (s : List ℕ) (i : ℕ) (d f : Due) → i < length s → d.0 ≡ 0 → lead_of f ≡ followers_in rows (get_or s i 0)
+at_first : (s : List ℕ) (i : ℕ) (d : Due) (f : Option Due) → i < length s → d.count ≡ 0 → lead_of f ≡ followers_in rows (get_or s i 0)
     → sequences (due_of d) (drop i s) ≡ utf8 s → utf8 s ≡ begun (lead_of f) (λ rs. sequences rs (drop (i + 1) s))
-at_first s i d f h z q v = sym v ∙ rw z (first-at d.1 d.2 s i h ∙ rw (← q))
+at_first s i d f h z q v = sym v ∙ rw z (first-at d.low d.high s i h ∙ rw (← q))
 
 -- what a byte that is due leaves
-at_next : (s : List ℕ) (i : ℕ) (d : Due) → i < length s → 0 < d.0 → sequences (due_of d) (drop i s) ≡ utf8 s
+at_next : (s : List ℕ) (i : ℕ) (d : Due) → i < length s → 0 < d.count → sequences (due_of d) (drop i s) ≡ utf8 s
     → let b = get_or s i 0 in
-    utf8 s ≡ ((leb d.1 b && leb b d.2) && sequences (ranges_of (d.0 - 1) 0x80 0xBF) (drop (i + 1) s))
-at_next s i d h p v = sym v ∙ next-at d.0 d.1 d.2 s i p h
+    utf8 s ≡ ((leb d.low b && leb b d.high) && sequences (ranges_of (d.count - 1) 0x80 0xBF) (drop (i + 1) s))
+at_next s i d h p v = sym v ∙ next-at d.count d.low d.high s i p h
 
-pub loop-i-init : goal.loop-i-init
+pub loop-b-init : goal.loop-b-init
 unfolding ranges_of
-loop-i-init c = (omega arith, refl)
+loop-b-init c = refl
 
-pub returns-then-due-eq4 : goal.returns-then-due-eq4
-returns-then-due-eq4 c =
-    let l = c.loop-i in
-    sym (at_first c.args.s.now l.i l.due _ (omega arith) c.if-due-eq0.true c.due_after-due.ensures l.invariant.1
-    ∙ rw (eq-eqb _ _ c.if-due-eq4.true))
+pub returns-in_default : goal.returns-in_default
+returns-in_default c =
+    let l = c.loop-b in
+    sym (at_first c.args.s.now l.b-index l.due None (omega arith) c.if-due-eq0.true c.in_default.ensures l.invariant)
 
-pub returns-then-b-due : goal.returns-then-b-due
-returns-then-b-due c =
-    let l = c.loop-i in
-    sym (at_next c.args.s.now l.i l.due (omega arith) (omega arith) l.invariant.1 ∙ rw (lt-leb _ _ c.if-b-due.true))
+pub returns-else-due-b : goal.returns-else-due-b
+returns-else-due-b c =
+    let l = c.loop-b in
+    let next = at_next c.args.s.now l.b-index l.due (omega arith) (omega arith) l.invariant in
+    elim c.else-due-b.branch [
+      | else-due-b-via-then-due-b+else-b-due w ↦ sym (next ∙ rw (le-leb _ _ w.if-due-b.true, lt-leb _ _ w.if-b-due.false))
+      | else-due-b-via-else-due-b w ↦ sym (next ∙ rw (lt-leb _ _ w.if-due-b.false))
+    ]
 
-pub returns-then-b-due-2 : goal.returns-then-b-due-2
-returns-then-b-due-2 c =
-    let l = c.loop-i in
-    sym (at_next c.args.s.now l.i l.due (omega arith) (omega arith) l.invariant.1
-    ∙ rw (le-leb _ _ c.if-b-due.false, lt-leb _ _ c.if-b-due-2.true))
-
-pub loop-i-preserved : goal.loop-i-preserved
-loop-i-preserved c =
-    let l = c.loop-i in
-    let s = c.args.s.now in (
-      omega arith,
-      elim c.if-due-eq0.branch [
-        | then-due-eq0+else-due-eq4 w ↦ rw w.due-is
-            (sym (at_first s l.i l.due _ (omega arith) w.if-due-eq0.true w.due_after-due.ensures l.invariant.1
-            ∙ rw (ne_eqb _ _ w.if-due-eq4.false)))
-        | else-due-eq0+else-b-due+else-b-due-2 w ↦ rw w.due-is
-            (sym (at_next s l.i l.due (omega arith) (omega arith) l.invariant.1
-            ∙ rw (le-leb _ _ w.if-b-due.false, le-leb _ _ w.if-b-due-2.false)))
-      ],
-    )
+pub loop-b-preserved : goal.loop-b-preserved
+loop-b-preserved c =
+    let l = c.loop-b in
+    let s = c.args.s.now in
+    elim c.if-due-eq0.branch [
+      | then-due-eq0+in-Some w ↦ rw w.due-is
+          (sym (at_first s l.b-index l.due (Some w.in-Some.first) (omega arith) w.if-due-eq0.true w.in-Some.ensures l.invariant))
+      | else-due-eq0+then-due-b+then-b-due w ↦ rw w.due-is
+          (sym (at_next s l.b-index l.due (omega arith) (omega arith) l.invariant
+          ∙ rw (le-leb _ _ w.if-due-b.true, le-leb _ _ w.if-b-due.true)))
+    ]
 
 pub returns : goal.returns
 returns c =
-    let l = c.loop-i in
+    let l = c.loop-b in
     let d = l.due in
-    sym (none-at d.0 d.1 d.2 c.args.s.now l.i (omega arith)) ∙ l.invariant.1
+    sym (none-at d.count d.low d.high c.args.s.now l.b-index (omega arith)) ∙ l.invariant

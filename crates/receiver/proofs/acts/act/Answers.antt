@@ -1,8 +1,8 @@
 use Rattle.receiver.proofs.SaidLaws.{said-acts}
 use Rattle.receiver.proofs.acts.act.Goals as goal
 
-pub returns-then-said : goal.returns-then-said
-returns-then-said c = rw (← said-acts _ _ _ _, ← c.hear-said.ensures, c.if-said.true, c.obey.ensures)
+pub returns-in-Ok : goal.returns-in-Ok
+returns-in-Ok c = rw (← said-acts _ _ _ _, ← c.in-Ok.ensures, c.obey.ensures)
 
-pub returns : goal.returns
-returns c = rw (← said-acts _ _ _ _, ← c.hear-said.ensures, c.if-said.false, c.tell.ensures)
+pub returns-in-Err : goal.returns-in-Err
+returns-in-Err c = rw (← said-acts _ _ _ _, ← c.in-Err.ensures, c.tell.ensures)

@@ -8,9 +8,9 @@ returns c =
       c.answered.ensures,
       c.next_of.ensures,
       ← supplied-back a.supplying a.text.now a.contents.now a.receiver a.out.now,
-      ← c.concern-found.ensures,
-      ← c.seat-place.ensures,
+      ← c.concerned-found.ensures,
+      ← c.unwrap_or-place.ensures,
       ← c.session_at-session.ensures,
       ← c.in_turn-turn.ensures,
-      ← c.supply_at-supplied.ensures,
+      ← c.supply_at-left.ensures,
     )

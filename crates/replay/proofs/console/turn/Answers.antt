@@ -1,7 +1,22 @@
-use Rattle.std.proofs.Common.{length, drop, arith, sym, ◌∙◌}
+use Rattle.std.proofs.Common.{length, arith, sym, ◌∙◌}
 use Rattle.replay.proofs.Onwards.{fed-after, answered-after}
-use Rattle.replay.proofs.ReplayLaws.{turned_on}
+use Rattle.replay.proofs.ReplayLaws.{turned_on, turned_over}
 use Rattle.replay.proofs.console.turn.Goals as goal
+
+pub returns-in_default : goal.returns-in_default
+returns-in_default c =
+    let a = c.args in
+    let f = c.feed-fed in
+    let p = c.planned-plan in
+    let fed = rw c.rest-left.ensures at f.ensures in (
+      p.ensures.0,
+      (
+        turned_over a.receiver.now f.new.receiver f.result a.carry.now a.scratch.now a.reply.now f.new.carry f.new.scratch f.new.reply
+            _ fed (sym p.ensures.1 ∙ c.in_default.is),
+        fed-after a.receiver.now f.new.receiver f.result a.carry.now a.scratch.now a.reply.now f.new.carry f.new.scratch f.new.reply
+            _ (length a.piece.now) a.onward p.result.onward fed p.ensures.2,
+      ),
+    )
 
 pub returns : goal.returns
 returns c =
@@ -9,16 +24,17 @@ returns c =
     let f = c.feed-fed in
     let p = c.planned-plan in
     let x = c.answer_for-answered in
-    let left = drop a.onward.at a.piece.now in
-    let len = length a.piece.now in (
+    let len = length a.piece.now in
+    let fed = rw c.rest-left.ensures at f.ensures in
+    let called = rw c.rest-left.ensures at x.ensures in (
       omega (arith, p.ensures.0, c.finish.ensures.0),
       (
-        turned_on a.receiver.now f.new.receiver x.new.receiver f.result x.result p.result.call a.carry.now a.scratch.now a.reply.now
-            f.new.carry x.new.carry f.new.scratch f.new.reply p.new.reply x.new.reply c.rest-left.result.now left c.rest-left.ensures
-            f.ensures (sym p.ensures.1 ∙ c.if-plan.false) p.ensures.2 p.auto.reply x.ensures.0 x.ensures.1,
+        turned_on a.receiver.now f.new.receiver x.new.receiver f.result x.result _ a.carry.now a.scratch.now a.reply.now f.new.carry
+            x.new.carry f.new.scratch f.new.reply p.new.reply x.new.reply _ fed (sym p.ensures.1 ∙ c.in-Some.is) p.auto.reply called.0
+            called.1,
         answered-after len _ a.onward p.result.onward c.finish.result
             (fed-after a.receiver.now f.new.receiver f.result a.carry.now a.scratch.now a.reply.now f.new.carry f.new.scratch
-            f.new.reply c.rest-left.result.now left len a.onward p.result.onward c.rest-left.ensures f.ensures p.ensures.3)
+            f.new.reply _ len a.onward p.result.onward fed p.ensures.2)
             c.finish.ensures.1,
       ),
     )

@@ -7,5 +7,5 @@ use Rattle.reply.proofs.texts.size_text.Goals as goal
 pub returns : goal.returns
 returns c =
     let size = c.args.size in
-    rw c.end_of-len.ensures
+    rw c.unwrap_or-len.ensures
     (ap to_end c.write.ensures.out_after ∙ digits (count size) _ (digits-fit size) ∙ rw (ne_eqb size 0 c.if-size-eq0.false))

@@ -7,9 +7,9 @@ use Rattle.sender.proofs.commands.write_file.Goals as goal
 pub returns : goal.returns
 returns c =
     let a = c.args in
-    let h : length a.own ≡ 32 = search rules in
+    let h : length a.transfer.id.bytes ≡ 32 = search rules in
     rw (
-      ← file-values a.own a.id.now a.n h c.requires a.name.now a.size,
+      ← file-values a.transfer.id.bytes a.id.now a.transfer.id.len h c.requires a.name.now a.size,
       ← c.id_len.ensures,
       ← c.ids-ids.ensures,
       ← c.file-command.ensures,

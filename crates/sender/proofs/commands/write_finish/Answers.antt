@@ -7,5 +7,5 @@ use Rattle.sender.proofs.commands.write_finish.Goals as goal
 pub returns : goal.returns
 returns c =
     let a = c.args in
-    let h : length a.own ≡ 32 = search rules in
-    rw (← finish-values a.own a.n h, ← c.id_len.ensures, ← c.lone-command.ensures) c.write_framed.ensures.out_after
+    let h : length a.transfer.id.bytes ≡ 32 = search rules in
+    rw (← finish-values a.transfer.id.bytes a.transfer.id.len h, ← c.id_len.ensures, ← c.lone-command.ensures) c.write_framed.ensures.out_after

@@ -9,10 +9,10 @@ pub returns : goal.returns
 returns c =
     let a = c.args in
     -- both ids have 32 bytes
-    let h : length a.own ≡ 32 = search rules in
-    let k : length a.file_id ≡ 32 = search rules in
+    let h : length a.transfer.id.bytes ≡ 32 = search rules in
+    let k : length a.current.id.bytes ≡ 32 = search rules in
     rw (
-      ← piece-values a.own a.file_id a.n h (omega arith) a.bytes.now a.last a.m k,
+      ← piece-values a.transfer.id.bytes a.current.id.bytes a.transfer.id.len h (omega arith) a.bytes.now a.last a.current.id.len k,
       ← c.id_len.ensures,
       ← c.id_len-2.ensures,
       ← c.ids-ids.ensures,

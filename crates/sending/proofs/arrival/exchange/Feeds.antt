@@ -3,10 +3,10 @@
 use Prim.Native.Nat.{ℕ, ◌≤◌}
 use mathlib.Core.Path.{◌≡◌, refl, sym, ap, ◌∙◌}
 use mathlib.Core.Bool.{true, false}
-use mathlib.Core.Option.{Option}
 use mathlib.Core.List.{List, [], ◌∷◌, ◌++◌, append-nil, head-eq_of_cons-eq, tail-eq_of_cons-eq, cons≢nil}
 use native.Mathlib.Omega.{arith}
 use lib.ListN.{length, take, drop}
+use Rattle.std.specs.Prelude.{Option, Some, None}
 use Rattle.frames.specs.Stream as Stream
 use Rattle.protocol.specs.Replies.{reply_bytes}
 use Rattle.protocol.specs.Calls.{is_owed, Feeding, feed_of}
@@ -51,19 +51,19 @@ pub record Receives (id : List ℕ) (done owed unread : List Order) (w : World) 
 -- ---- a feed
 -- what a saying asks
 abbrev asks_in : Saying → Option Heard
-asks_in Saying.nothing = Option.none
-asks_in (Saying.refused n) = Option.none
-asks_in Saying.ignored = Option.none
-asks_in Saying.drag_drop = Option.none
-asks_in Saying.asked = Option.none
-asks_in Saying.naming = Option.none
-asks_in Saying.path = Option.none
-asks_in Saying.last_path = Option.none
-asks_in (Saying.asks h) = Option.some h
-asks_in (Saying.status w) = Option.none
-asks_in Saying.withdrawn = Option.none
-asks_in Saying.discarded = Option.none
-asks_in Saying.committed = Option.none
+asks_in Saying.nothing = None
+asks_in (Saying.refused n) = None
+asks_in Saying.ignored = None
+asks_in Saying.drag_drop = None
+asks_in Saying.asked = None
+asks_in Saying.naming = None
+asks_in Saying.path = None
+asks_in Saying.last_path = None
+asks_in (Saying.asks h) = Some h
+asks_in (Saying.status w) = None
+asks_in Saying.withdrawn = None
+asks_in Saying.discarded = None
+asks_in Saying.committed = None
 
 hearing-said : (w : Told) (scratch : List ℕ) → hearing w scratch ≡ asks_in (saying w scratch)
 hearing-said Told.Nothing scratch = refl

@@ -1,16 +1,14 @@
 -- A carry that has room keeps it.
+use Rattle.std.specs.Prelude.{Result, Ok, Err}
 use Prim.Native.Nat.{ℕ, ◌≤◌}
 use mathlib.Core.Bool.{Bool, true, false, cond, ◌||◌}
-use mathlib.Core.List.{List, [], ◌∷◌, ◌++◌}
-use native.Mathlib.Omega.{arith}
-use lib.ListN.{length, take, drop, length-append, length-drop}
+use mathlib.Core.List.{List, [], ◌∷◌}
+use lib.ListN.{length, take}
 use lib.Dec.{ltb}
 use Rattle.octets.specs.Outcome.{Outcome, outcome}
 use Rattle.frames.specs.Stream.{text_limit}
-use Rattle.frames.specs.Carry.{text_at, carry_of}
 use Rattle.frames.specs.Calls.{scan_of}
-use Rattle.frames.specs.declared.Framing.{Framing}
-use Rattle.frames.proofs.CallLaws.{call-taken}
+use Rattle.frames.proofs.CallLaws.{scan-room}
 use Rattle.command.specs.Read.{scratch_room}
 use Rattle.protocol.specs.Calls.{is_owed, Feeding, feed_refused, feeding, scanned_feed, is_short, feed_of}
 use Rattle.protocol.specs.Machine.{Call, World, is_unfed}
@@ -21,18 +19,6 @@ use Rattle.sending.specs.Plans.{Order}
 use Rattle.sending.specs.Exchange.{Exchange, Turn, turn, after, write_turn, after_write, order_of}
 use Rattle.sending.specs.declared.Sender.{Sender}
 use Rattle.sending.specs.declared.Wrote.{Wrote}
-use Rattle.sending.specs.declared.Writing.{Writing}
-
--- a scan replaces bytes of it
-replaced-room : (t c : List ℕ) → text_limit ≤ length c → text_limit ≤ length (t ++ drop (length t) c)
-replaced-room t c h = omega (arith, length-append t (drop (length t) c), length-drop (length t) c)
-
-carry-room : (c xs : List ℕ) (e n : ℕ) → text_limit ≤ length c → text_limit ≤ length (carry_of c xs e n)
-unfolding carry_of
-carry-room c xs e n h = replaced-room (take text_limit (text_at c xs e n)) c h
-
-scan-room : (f : Framing) (xs c : List ℕ) → text_limit ≤ length c → text_limit ≤ length (scan_of f xs c).buffer
-scan-room f xs c h = rw (call-taken f xs c h) (carry-room c xs _ _ h)
 
 hear-room : (s : Sender) (piece carry scratch : List ℕ) → text_limit ≤ length carry
     → text_limit ≤ length (hear_of s piece carry scratch).carry
@@ -71,9 +57,9 @@ pub record Roomy (e : Exchange) : Type 0 where
 write-room : (e : Exchange) (os : List Order) (o : Outcome Wrote) → Roomy e → Roomy (after_write e os o)
 write-room e os o r = go o.answer.writing
   where
-    go : (x : Writing) → Roomy (after_write e os (outcome (record { sender = o.answer.sender; writing = x }) o.buffer))
-    go (Writing.Refused n) = record { office = r.office; console = r.console }
-    go (Writing.Written n) = record { office = r.office; console = r.console }
+    go : (x : Result ℕ ℕ) → Roomy (after_write e os (outcome (record { sender = o.answer.sender; writing = x }) o.buffer))
+    go (Err n) = record { office = r.office; console = r.console }
+    go (Ok n) = record { office = r.office; console = r.console }
 
 -- every turn leaves both carries their room
 pub room-kept : (e : Exchange) (t : Turn) → Roomy e → Roomy (turn ours e t)

@@ -4,13 +4,13 @@ use mathlib.Core.Path.{◌≡◌, refl, ◌∙◌}
 use mathlib.Core.Bool.{true, false, not}
 use mathlib.Core.List.{List, [], ◌∷◌, ◌++◌, map, append-nil}
 use lib.ListN.{length, get_or, replicate}
+use Rattle.std.specs.Prelude.{Some}
 use Rattle.octets.specs.Members.{every}
 use Rattle.octets.specs.Slices.{equals}
 use Rattle.octets.proofs.Below.{both_test}
 use Rattle.octets.proofs.Compare.{equals_refl}
 use Rattle.protocol.specs.Table.{file_room, fresh_receiver, first}
 use Rattle.protocol.specs.History.{Mark, marks_of}
-use Rattle.protocol.specs.declared.Found.TheVariants as Found
 use Rattle.sending.specs.Transfers.{free_file, has_file_id}
 use Rattle.sending.specs.Commands.{file_values}
 use Rattle.sending.specs.Plans.{File, Plan, contents_of, FitFile, AllFitFiles, AllDiffer, Fit}
@@ -38,7 +38,7 @@ rows (f ∷ fs) more = closed_record f ∷ rows fs more
 -- the file found among the records
 record Placed (l : List SentFile) (f : File) : Type 0 where
   place : ℕ
-  found : first (has_file_id f.id) l ≡ Found.At place
+  found : first (has_file_id f.id) l ≡ Some place
   there : get_or l place free_file ≡ closed_record f
 
 abbrev AllPlaced : List SentFile → List File → Type 0

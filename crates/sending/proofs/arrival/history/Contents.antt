@@ -2,8 +2,8 @@
 use Prim.Native.Nat.{ℕ}
 use mathlib.Core.Path.{◌≡◌, refl}
 use mathlib.Core.Bool.{Bool, true, false, not, ◌||◌}
-use mathlib.Core.Option.{Option}
 use mathlib.Core.List.{List, [], ◌∷◌, ◌++◌, map, append_assoc, append-nil}
+use Rattle.std.specs.Prelude.{Some, None}
 use Rattle.octets.specs.Members.{every}
 use Rattle.octets.specs.Slices.{equals}
 use Rattle.octets.proofs.Below.{both_test}
@@ -22,7 +22,7 @@ use Rattle.sending.proofs.arrival.history.Marks.{done_by, piece_marks, start_mar
 -- ---- what the history has since the start of a file by the command c: parts, and whether the last one is among them
 pub record Since (k : Key) (c : Command) (got : List ℕ) (closed : Bool) (m : List Mark) : Type 0 where
   pub marks : List Mark
-  pub started : since k m ≡ Option.some (record { command = c; marks = marks })
+  pub started : since k m ≡ Some (record { command = c; marks = marks })
   pub whole : parts k marks ≡ got
   pub shut : closed_in k marks ≡ closed
 
@@ -35,7 +35,7 @@ closes-other k d Heard.requests e = refl
 
 module _ {k : Key} {c : Command} {got : List ℕ} {closed : Bool} {m : List Mark} where
   -- what is read, asked and answered done after the start
-  further : (d : Command) (a : Heard) (p : List ℕ) (b : Bool) → start_at k (Mark.answer true (Question.asks d a)) ≡ Option.none
+  further : (d : Command) (a : Heard) (p : List ℕ) (b : Bool) → start_at k (Mark.answer true (Question.asks d a)) ≡ None
       → parts k (Mark.answer true (Question.asks d a) ∷ []) ≡ p → closes_by k (Mark.answer true (Question.asks d a)) ≡ b
       → Since k c got closed m → Since k c (got ++ p) (b || closed) (done_by d a m)
   further d a p b none part last s =

@@ -1,10 +1,10 @@
 -- What a feed does to the console's world: nothing, or what the one text that its bytes tell does to the table.
+use Rattle.std.specs.Prelude.{None}
 use Rattle.frames.specs.Stream.{is_drag_drop, text_tells}
 use Rattle.protocol.specs.Calls.{text_act}
 use Prim.Native.Nat.{ℕ}
 use mathlib.Core.Path.{◌≡◌, refl, ◌∙◌}
 use mathlib.Core.Bool.{Bool, true, false, cond}
-use mathlib.Core.Option.{Option}
 use mathlib.Core.List.{List, [], ◌∷◌}
 use lib.ListN.{take}
 use lib.Dec.{lit≤}
@@ -15,7 +15,7 @@ use Rattle.frames.specs.declared.Report.{Report}
 use Rattle.frames.proofs.CallLaws.{call-report}
 use Rattle.frames.proofs.Follows.{call-follows}
 use Rattle.command.specs.Read.{read_of}
-use Rattle.protocol.specs.Replies.{no_reply, reply_bytes}
+use Rattle.protocol.specs.Replies.{reply_bytes}
 use Rattle.protocol.specs.Calls.{is_owed, Feeding, feeding, read_act, report_act, feed_refused, scanned_feed, is_short, feed_of}
 use Rattle.protocol.specs.History.{hearing}
 use Rattle.protocol.specs.Machine.{World}
@@ -41,7 +41,7 @@ reply_of f = take f.fed.reply_len f.reply
 pub record Quiet (w : World) (piece : List ℕ) (f : Feeding) : Type 0 where
   pub told : told_after w (consumed_of piece f) ≡ []
   pub table : f.fed.receiver.table ≡ w.receiver.table
-  pub hears : hearing f.fed.told f.scratch ≡ Option.none
+  pub hears : hearing f.fed.told f.scratch ≡ None
   pub reply : reply_of f ≡ []
 
 -- a text is told, while nothing is owed
@@ -101,7 +101,7 @@ module _ (w : World) (ok : Kept w) (piece scratch reply : List ℕ) where
 
       go : (e : Report) → k.answer.report ≡ e → (k.answer.report ≡ Report.ShortCarry → ⊥) → FedBy w piece taken
       go Report.Nothing q n =
-          nothing (record { told = told ∙ rw q; table = rw q; hears = rw q; reply = rw (q, not-due no_reply reply refl) })
+          nothing (record { told = told ∙ rw q; table = rw q; hears = rw q; reply = rw (q, not-due reply) })
       go (Report.InPiece start len) q n = any (text_of piece k.buffer k.answer.report) (rw q) (rw q) (is_drag_drop _) refl
       go (Report.InCarry len) q n = any (text_of piece k.buffer k.answer.report) (rw q) (rw q) (is_drag_drop _) refl
       go Report.TooLong q n = long (told ∙ rw q)

@@ -7,10 +7,10 @@ use mathlib.Core.List.{List, [], ◌∷◌, ◌++◌, append-nil}
 use native.Mathlib.Omega.{arith}
 use lib.ListN.{length, get_or, set, replicate}
 use lib.Seq.{append_snoc, get_or_at, set_at}
+use Rattle.std.specs.Prelude.{Some, None}
 use Rattle.octets.specs.Members.{every}
 use Rattle.command.proofs.Every.{every_cons}
 use Rattle.protocol.specs.Table.{first, total}
-use Rattle.protocol.specs.declared.Found.TheVariants as Found
 use Rattle.sending.proofs.arrival.lists.Members.{not-true}
 
 -- ---- what stands and is stored at the seam, the place i
@@ -40,13 +40,13 @@ module _ {A : Type 0} (xs : List A) (i : ℕ) (l : length xs ≡ i) where
 
 -- ---- the first of which a test holds, which holds of none of the used ones
 module _ {A : Type 0} (p : A → Bool) where
-  none_free : (n : ℕ) (z : A) → p z ≡ false → first p (replicate n z) ≡ Found.Nowhere
+  none_free : (n : ℕ) (z : A) → p z ≡ false → first p (replicate n z) ≡ None
   unfolding first
   none_free zero z e = refl
   none_free (suc n) z e = rw (e, none_free n z e)
 
-  none-past : (xs ys : List A) → every (λ (x : A). not (p x)) xs ≡ true → first p ys ≡ Found.Nowhere
-      → first p (xs ++ ys) ≡ Found.Nowhere
+  none-past : (xs ys : List A) → every (λ (x : A). not (p x)) xs ≡ true → first p ys ≡ None
+      → first p (xs ++ ys) ≡ None
   unfolding first
   none-past [] ys h e = e
   none-past (x ∷ xs) ys h e =
@@ -54,7 +54,7 @@ module _ {A : Type 0} (p : A → Bool) where
       rw (not-true (p x) c.0, none-past xs ys c.1 e)
 
   pub first_past : (xs : List A) (y : A) (ys : List A) → every (λ (x : A). not (p x)) xs ≡ true → p y ≡ true
-      → first p (xs ++ y ∷ ys) ≡ Found.At (length xs)
+      → first p (xs ++ y ∷ ys) ≡ Some (length xs)
   unfolding first
   first_past [] y ys h e = rw e
   first_past (x ∷ xs) y ys h e =
@@ -63,14 +63,14 @@ module _ {A : Type 0} (p : A → Bool) where
 
   module _ (xs : List A) (none : every (λ (x : A). not (p x)) xs ≡ true) where
     -- the new record; none, where it holds of no free one; and the first free one
-    pub seam-first : (y : A) (zs : List A) → p y ≡ true → first p ((xs ++ y ∷ []) ++ zs) ≡ Found.At (length xs)
+    pub seam-first : (y : A) (zs : List A) → p y ≡ true → first p ((xs ++ y ∷ []) ++ zs) ≡ Some (length xs)
     seam-first y zs e = rw (append_snoc xs y zs) (first_past xs y zs none e)
 
-    pub seam-none : (n : ℕ) (z : A) → p z ≡ false → first p ((xs ++ []) ++ replicate n z) ≡ Found.Nowhere
+    pub seam-none : (n : ℕ) (z : A) → p z ≡ false → first p ((xs ++ []) ++ replicate n z) ≡ None
     seam-none n z e = rw (append-nil xs) (none-past xs (replicate n z) none (none_free n z e))
 
     pub free-first : (m i : ℕ) (z : A) → suc i ≤ m → p z ≡ true
-        → first p ((xs ++ []) ++ replicate (m - (i + 0)) z) ≡ Found.At (length xs)
+        → first p ((xs ++ []) ++ replicate (m - (i + 0)) z) ≡ Some (length xs)
     free-first m i z h e = rw (append-nil xs, room-left m i z h) (first_past xs z (replicate (m - (i + 1)) z) none e)
 
 -- ---- a sum with one member more

@@ -2,12 +2,13 @@
 use Prim.Native.Nat.{ℕ, ◌≤◌}
 use mathlib.Core.Path.{◌≡◌, refl, sym}
 use mathlib.Core.Bool.{Bool, true, false, cond, ◌&&◌}
-use mathlib.Core.Option.{Option, some-injective}
 use mathlib.Core.List.{List, [], ◌∷◌}
 use native.Mathlib.Omega.{arith}
 use lib.ListN.{length}
 use lib.Dec.{leb}
 use borrow.Author.Tests.{leb-true, lt-ltb}
+use Rattle.std.specs.Prelude.{Option, Some, None}
+use Rattle.std.proofs.lemmas.Option.{same_Some}
 use Rattle.octets.specs.Members.{every}
 use Rattle.octets.proofs.Below.{both_test}
 use Rattle.pathname.specs.Utf8.{Range, Row, rows, inside, followers_in, begun, sequences, utf8}
@@ -30,7 +31,7 @@ low_byte r b l e =
     lt-ltb b 256 (omega arith)
 
 -- a first byte, and what must follow it
-first_byte : (rs : List Row) → every is_low_row rs ≡ true → (b : ℕ) (x : List Range) → followers_in rs b ≡ Option.some x
+first_byte : (rs : List Row) → every is_low_row rs ≡ true → (b : ℕ) (x : List Range) → followers_in rs b ≡ Some x
     → (is_byte b ≡ true) × (every is_low x ≡ true)
 unfolding followers_in
 first_byte [] l b x e = let z : ◌≡◌ {A = ℕ} 0 1 = cc in absurd (omega arith)
@@ -39,11 +40,11 @@ first_byte (r ∷ rs) l b x e = go (inside r.first b) refl e (first_byte rs (eve
     low : (is_low_row r ≡ true) × (every is_low_row rs ≡ true)
     low = every_cons is_low_row r rs l
 
-    go : (t : Bool) → inside r.first b ≡ t → cond t (Option.some r.rest) (followers_in rs b) ≡ Option.some x
-        → (followers_in rs b ≡ Option.some x → (is_byte b ≡ true) × (every is_low x ≡ true)) → (is_byte b ≡ true) × (every is_low x ≡ true)
+    go : (t : Bool) → inside r.first b ≡ t → cond t (Some r.rest) (followers_in rs b) ≡ Some x
+        → (followers_in rs b ≡ Some x → (is_byte b ≡ true) × (every is_low x ≡ true)) → (is_byte b ≡ true) × (every is_low x ≡ true)
     go true q f more =
         let h = both_test (is_low r.first) _ low.0 in
-        (low_byte r.first b h.0 q, rw (← some-injective _ _ f) h.1)
+        (low_byte r.first b h.0 q, rw (← same_Some _ _ f) h.1)
     go false q f more = more f
 
 sequences-bytes : (rs : List Range) (s : List ℕ) → every is_low rs ≡ true → sequences rs s ≡ true → every is_byte s ≡ true
@@ -57,8 +58,8 @@ sequences-bytes [] (b ∷ s) l e = go (followers_in rows b) refl e (λ rs h f. s
 
     go : (o : Option (List Range)) → followers_in rows b ≡ o → begun o (λ rs. sequences rs s) ≡ true
         → ((rs : List Range) → every is_low rs ≡ true → sequences rs s ≡ true → every is_byte s ≡ true) → every is_byte (b ∷ s) ≡ true
-    go Option.none q f more = no_way (sym f)
-    go (Option.some rs) q f more = let h = first_byte rows low b rs q in rw h.0 (more rs h.1 f)
+    go None q f more = no_way (sym f)
+    go (Some rs) q f more = let h = first_byte rows low b rs q in rw h.0 (more rs h.1 f)
 sequences-bytes (r ∷ rs) (b ∷ s) l e =
     let c = every_cons is_low r rs l in
     let h = both_test (inside r b) _ e in

@@ -3,8 +3,9 @@ use Prim.Native.Nat.{ℕ, ◌+◌, ◌-◌}
 use mathlib.Core.Bool.{true, false}
 use mathlib.Core.List.{List, [], ◌∷◌, ◌++◌, map}
 use lib.ListN.{length, replicate}
+use Rattle.std.specs.Prelude.{Option, Some, None}
 use Rattle.command.specs.Values.{Value}
-use Rattle.protocol.specs.Table.{file_room, padded, absent_session, total, free_file}
+use Rattle.protocol.specs.Table.{file_room, absent_session, total, free_file, kept_id}
 use Rattle.protocol.specs.Files.{opening, write_due}
 use Rattle.protocol.specs.Sessions.{asked_session}
 use Rattle.protocol.specs.History.{Heard, Mark, Question}
@@ -13,7 +14,6 @@ use Rattle.protocol.specs.declared.FileRecord.{FileRecord}
 use Rattle.protocol.specs.declared.SessionState.TheVariants as SessionState
 use Rattle.protocol.specs.declared.Session.{Session}
 use Rattle.protocol.specs.declared.Due.{Due}
-use Rattle.protocol.specs.declared.Owed.{Owed}
 use Rattle.protocol.specs.declared.Table.{Table}
 use Rattle.sending.specs.Transfers as Transfers
 use Rattle.sending.specs.Plans.{Order}
@@ -25,7 +25,7 @@ use Rattle.sending.proofs.arrival.path.Points.{Sent, Point, next, command_at}
 
 -- ---- the receiver's table at a point, with all orders so far answered
 abbrev pub record_of : FileState → Sent → FileRecord
-record_of g f = record { state = g; id = padded f.id; id_len = length f.id; count = f.total; declared = f.size }
+record_of g f = record { state = g; id = kept_id f.id; count = f.total; declared = f.size }
 
 -- the records: the past files, and the one that is being sent, if one is
 abbrev pub records_of : List Sent → List FileRecord → List FileRecord
@@ -42,8 +42,7 @@ keeping id started bytes files =
     record {
       state = SessionState.Open;
       quiet = 0;
-      id = padded id;
-      id_len = length id;
+      id = kept_id id;
       wanted = 0;
       started = started;
       done_bytes = bytes;
@@ -54,7 +53,7 @@ abbrev pub open_session : (id : List ℕ) (started : ℕ) → List Sent → List
 open_session id started past now = keeping id started (bytes_of past) (records_of past now)
 
 -- one session, in the first place
-abbrev pub alone_in : Session → Owed → Table
+abbrev pub alone_in : Session → Option (ℕ × Due) → Table
 alone_in s o = record { sessions = s ∷ absent_session ∷ absent_session ∷ absent_session ∷ []; owed = o }
 
 abbrev pub session_of : (id : List ℕ) → Point → Session
@@ -64,7 +63,7 @@ session_of id (Point.busy past f) = open_session id 1 past (record_of FileState.
 session_of id (Point.over past) = absent_session
 
 abbrev pub table_of : (id : List ℕ) → Point → Table
-table_of id p = alone_in (session_of id p) Owed.Nothing
+table_of id p = alone_in (session_of id p) None
 
 -- ---- the table once an order is read and before it is answered
 -- the place of the file that is being sent, or of the next one
@@ -81,11 +80,11 @@ past_of (Point.busy past f) = past
 past_of (Point.over past) = past
 
 abbrev pub owing_of : (id : List ℕ) → Point → Order → Table
-owing_of id p (Order.send k) = alone_in (asked_session 0 k) Owed.Nothing
+owing_of id p (Order.send k) = alone_in (asked_session 0 k) None
 owing_of id p (Order.file k name size) =
-    alone_in (open_session id 0 (past_of p) (opening k size ∷ [])) (Owed.For 0 (Due.OpenFile (place_of p)))
-owing_of id p (Order.piece c last) = alone_in (session_of id p) (Owed.For 0 (write_due last (place_of p) (length c)))
-owing_of id p Order.finish = alone_in (session_of id p) (Owed.For 0 Due.Commit)
+    alone_in (open_session id 0 (past_of p) (opening k size ∷ [])) (Some (0, Due.OpenFile (place_of p)))
+owing_of id p (Order.piece c last) = alone_in (session_of id p) (Some (0, write_due last (place_of p) (length c)))
+owing_of id p Order.finish = alone_in (session_of id p) (Some (0, Due.Commit))
 
 -- ---- the history's marks, newest first
 -- what is asked when an order is read; nothing for send, which the user is asked
@@ -117,7 +116,7 @@ marks_at id p (o ∷ os) m = marks_at id (next p o) os (done_marks id p o m)
 
 -- ---- the sender's session: what is written so far ends at the point w, what is heard of its replies at the point h
 abbrev pub sent_record : FileStage → Sent → SentFile
-sent_record g f = record { stage = g; id = padded f.id; id_len = length f.id; sent = f.total }
+sent_record g f = record { stage = g; id = kept_id f.id; sent = f.total }
 
 abbrev pub sending_now : Point → List SentFile
 sending_now Point.fresh = []
@@ -159,8 +158,7 @@ abbrev pub shaped : Stage → (id : List ℕ) (closed others : List Sent) → Li
 shaped g id closed others now =
     record {
       stage = g;
-      id = padded id;
-      id_len = length id;
+      id = kept_id id;
       files = sent_files closed others now;
       count = length closed + length others + length now;
     }

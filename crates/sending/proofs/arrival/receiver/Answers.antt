@@ -5,6 +5,7 @@ use mathlib.Core.Bool.{Bool, true, false}
 use mathlib.Core.List.{List, [], ◌∷◌, ◌++◌, map, append-nil}
 use native.Mathlib.Omega.{arith}
 use lib.ListN.{length}
+use Rattle.std.specs.Prelude.{Option, Some, None}
 use Rattle.octets.specs.Ascii.{ascii}
 use Rattle.octets.specs.Slices.{equals}
 use Rattle.octets.proofs.Compare.{equals_refl}
@@ -23,7 +24,6 @@ use Rattle.protocol.specs.declared.FileState.{FileState}
 use Rattle.protocol.specs.declared.FileRecord.{FileRecord}
 use Rattle.protocol.specs.declared.Session.{Session}
 use Rattle.protocol.specs.declared.Due.{Due}
-use Rattle.protocol.specs.declared.Owed.{Owed}
 use Rattle.protocol.specs.declared.Table.{Table}
 use Rattle.protocol.specs.declared.Status.{Status}
 use Rattle.protocol.specs.declared.Decision.TheVariants as Decision
@@ -31,7 +31,6 @@ use Rattle.protocol.specs.declared.Told.TheVariants as Told
 use Rattle.protocol.specs.declared.Reply.{Reply}
 use Rattle.protocol.specs.declared.Change.{Change}
 use Rattle.protocol.specs.declared.Stepped.{Stepped}
-use Rattle.protocol.specs.declared.Found.TheVariants as Found
 use Rattle.protocol.proofs.Laws.{no_way, padded-id}
 use Rattle.sending.specs.Plans.{Order}
 use Rattle.sending.proofs.arrival.path.Points.{Sent, sent, longer, Point, next, Goes, Now, reply_at, said_text, frames}
@@ -66,14 +65,15 @@ allow-order id i =
 -- the others: done
 file-bytes : (w : Status) (id : List ℕ) (n : ℕ) (past : List Sent) (now : List FileRecord) (g : FileState) (f : Sent) (size : ℕ)
     → IsId id → IsId f.id
-    → reply_bytes (file_reply w (open_session id n past now) (record_of g f) size) ≡ framed (status_text id f.id size (status_word w))
+    → reply_bytes (Some (file_reply w (open_session id n past now) (record_of g f) size))
+    ≡ framed (status_text id f.id size (status_word w))
 unfolding reply_bytes
 file-bytes w id n past now g f size i k = rw (padded-id id i.short, padded-id f.id k.short)
 
-settles-as : (s : Session) (d : Due) (j : ℕ) (a : FileRecord) (w : Status) (r : Reply) → done_by s d ≡ files j a w r
-    → settle_done (alone_in s (Owed.For 0 d)) ≡ stepped (alone_in (put_file s j a) Owed.Nothing) (Told.Status w) r
+settles-as : (s : Session) (d : Due) (j : ℕ) (a : FileRecord) (w : Status) (r : Option Reply) → done_by s d ≡ files j a w r
+    → settle_done (alone_in s (Some (0, d))) ≡ stepped (alone_in (put_file s j a) None) (Told.Status w) r
 unfolding settle_done
-settles-as s d j a w r e = ap (λ (c : Change). step_by (alone_in s (Owed.For 0 d)) 0 nowhere c) e
+settles-as s d j a w r e = ap (λ (c : Change). step_by (alone_in s (Some (0, d))) 0 nowhere c) e
 
 module _ {id : List ℕ} (past : List Sent) (f : Sent) (i : IsId id) (now : Now past f) where
   -- the session while the file is open, and the file's record that is put back with a count
@@ -89,16 +89,17 @@ module _ {id : List ℕ} (past : List Sent) (f : Sent) (i : IsId id) (now : Now 
   settles-now : (m : ℕ) (g g' : FileState) (d : Due) (w : Status) (n : ℕ) (s : Session)
       → done_by (busy m g) d ≡ settled (busy m g) (length past) g' n w n
       → put_file (busy m g) (length past) (record_of g' (sent f.id f.size n)) ≡ s
-      → AnsweredAs (settle_done (alone_in (busy m g) (Owed.For 0 d))) (alone_in s Owed.Nothing)
+      → AnsweredAs (settle_done (alone_in (busy m g) (Some (0, d)))) (alone_in s None)
       (framed (status_text id f.id n (status_word w)) ++ [])
   settles-now m g g' d w n s e p =
-      let r : Reply = file_reply w (busy m g) (record_of g f) n in
+      let r : Option Reply = Some (file_reply w (busy m g) (record_of g f) n) in
       let a : FileRecord = record_of g' (sent f.id f.size n) in
       let moves : done_by (busy m g) d ≡ files (length past) a w r =
       e
-      ∙ ap (λ (x : FileRecord). files (length past) (moved x g' n) w (file_reply w (busy m g) x n)) (now-at id m past (record_of g f)) in
-      let told : settle_done (alone_in (busy m g) (Owed.For 0 d)) ≡ stepped (alone_in s Owed.Nothing) (Told.Status w) r =
-      settles-as (busy m g) d (length past) a w r moves ∙ ap (λ (x : Session). stepped (alone_in x Owed.Nothing) (Told.Status w) r) p in
+      ∙ ap (λ (x : FileRecord). files (length past) (moved x g' n) w (Some (file_reply w (busy m g) x n)))
+      (now-at id m past (record_of g f)) in
+      let told : settle_done (alone_in (busy m g) (Some (0, d))) ≡ stepped (alone_in s None) (Told.Status w) r =
+      settles-as (busy m g) d (length past) a w r moves ∙ ap (λ (x : Session). stepped (alone_in x None) (Told.Status w) r) p in
       record {
         table = ap (λ (x : Stepped). x.table) told;
         taken = ap (λ (x : Stepped). is_refused x.told) told;
@@ -109,7 +110,7 @@ module _ {id : List ℕ} (past : List Sent) (f : Sent) (i : IsId id) (now : Now 
       }
 
   -- its open, a piece of it, and its last piece
-  opened : f.total ≡ 0 → AnsweredAs (settle_done (alone_in (busy 0 FileState.Opening) (Owed.For 0 (Due.OpenFile (length past)))))
+  opened : f.total ≡ 0 → AnsweredAs (settle_done (alone_in (busy 0 FileState.Opening) (Some (0, Due.OpenFile (length past)))))
       (table_of id (Point.busy past f)) (framed (status_text id f.id 0 (ascii "STARTED")) ++ [])
   unfolding done_by
   opened e =
@@ -118,7 +119,7 @@ module _ {id : List ℕ} (past : List Sent) (f : Sent) (i : IsId id) (now : Now 
       (put-started id past f now (sent f.id f.size 0) ∙ rw e)
 
   module _ (n : ℕ) (small : f.total + n ≤ count_limit) where
-    written : AnsweredAs (settle_done (alone_in (busy 1 FileState.Started) (Owed.For 0 (Due.Write (length past) n))))
+    written : AnsweredAs (settle_done (alone_in (busy 1 FileState.Started) (Some (0, Due.Write (length past) n))))
         (table_of id (Point.busy past (longer f n))) (framed (status_text id f.id (f.total + n) (ascii "PROGRESS")) ++ [])
     unfolding done_by
     written =
@@ -128,7 +129,7 @@ module _ {id : List ℕ} (past : List Sent) (f : Sent) (i : IsId id) (now : Now 
         (grown-now n 1 FileState.Started small))
         (put-grown id past f now (longer f n))
 
-    closed : AnsweredAs (settle_done (alone_in (busy 1 FileState.Started) (Owed.For 0 (Due.WriteLast (length past) n))))
+    closed : AnsweredAs (settle_done (alone_in (busy 1 FileState.Started) (Some (0, Due.WriteLast (length past) n))))
         (table_of id (Point.idle (past ++ longer f n ∷ []))) (framed (status_text id f.id (f.total + n) (ascii "OK")) ++ [])
     unfolding done_by
     closed =
@@ -138,7 +139,7 @@ module _ {id : List ℕ} (past : List Sent) (f : Sent) (i : IsId id) (now : Now 
         (grown-now n 1 FileState.Started small))
         (put-closed id past f now (longer f n) small)
 
-committed : (id : List ℕ) (past : List Sent) → AnsweredAs (settle_done (alone_in (open_session id 0 past []) (Owed.For 0 Due.Commit)))
+committed : (id : List ℕ) (past : List Sent) → AnsweredAs (settle_done (alone_in (open_session id 0 past []) (Some (0, Due.Commit))))
     (table_of id (Point.over past)) []
 unfolding settle_done done_by
 committed id past = record { table = refl; taken = refl; bytes = no_bytes }
@@ -164,12 +165,12 @@ unfolding settle_done
 done-asked id p k = refl
 
 -- allow, where no session is asked
-none-asked : (s : Session) (o : Owed) (k : List ℕ) → is_asked s.state ≡ false
+none-asked : (s : Session) (o : Option (ℕ × Due)) (k : List ℕ) → is_asked s.state ≡ false
     → decided_of (alone_in s o) Decision.Allow k ≡ telling (alone_in s o) (Told.Refused 12)
 unfolding decided_of decided_by first
 none-asked s o k e = go (has_id k s)
   where
-    go : (b : Bool) → decided_at (alone_in s o) Decision.Allow (here_or b Found.Nowhere) ≡ telling (alone_in s o) (Told.Refused 12)
+    go : (b : Bool) → decided_at (alone_in s o) Decision.Allow (here_or b None) ≡ telling (alone_in s o) (Told.Refused 12)
     go true = rw e
     go false = refl
 
@@ -181,7 +182,7 @@ not-asked id (Point.over past) = refl
 
 pub allow-at : (id : List ℕ) (p : Point) (k : List ℕ)
     → decided_of (table_of id p) Decision.Allow k ≡ telling (table_of id p) (Told.Refused 12)
-allow-at id p k = none-asked (session_of id p) Owed.Nothing k (not-asked id p)
+allow-at id p k = none-asked (session_of id p) None k (not-asked id p)
 
 pub allow-owing : (id : List ℕ) (p : Point) (o : Order) (k : List ℕ) → is_answered o ≡ true
     → decided_of (owing_of id p o) Decision.Allow k ≡ telling (owing_of id p o) (Told.Refused 12)

@@ -8,6 +8,7 @@ use native.Mathlib.Omega.{arith}
 use lib.ListN.{length}
 use lib.Dec.{ltb}
 use borrow.Author.Tests.{le-ltb, ne_eqb}
+use Rattle.std.specs.Prelude.{Some, None}
 use Rattle.octets.proofs.Compare.{equals_refl}
 use Rattle.frames.specs.Stream as Stream
 use Rattle.pathname.specs.Name.{valid_name}
@@ -18,7 +19,7 @@ use Rattle.command.specs.declared.Command.{Command as PlacedCommand}
 use Rattle.protocol.specs.Table.{no_file, first, has_id, find_session, find_file}
 use Rattle.protocol.specs.Actions.{kind_of, result_in}
 use Rattle.protocol.specs.Written.{values_with, piece_action, piece_values}
-use Rattle.protocol.specs.Replies.{no_reply, reply_bytes}
+use Rattle.protocol.specs.Replies.{reply_bytes}
 use Rattle.protocol.specs.Change.{change, edited, opens, asks, ask_of, telling, step_by}
 use Rattle.protocol.specs.Files.{Request, opening, write_due, part_limit, count_limit, passes, ends_short}
 use Rattle.protocol.specs.Files.{file_of, file_checked, data_of, part_asked, finish_of}
@@ -33,13 +34,11 @@ use Rattle.protocol.specs.declared.FileRecord.{FileRecord}
 use Rattle.protocol.specs.declared.SessionState.TheVariants as SessionState
 use Rattle.protocol.specs.declared.Session.{Session}
 use Rattle.protocol.specs.declared.Due.{Due}
-use Rattle.protocol.specs.declared.Owed.TheVariants as Owed
 use Rattle.protocol.specs.declared.Table.{Table}
 use Rattle.protocol.specs.declared.Edit.{Edit}
 use Rattle.protocol.specs.declared.Change.{Change}
 use Rattle.protocol.specs.declared.News.TheVariants as News
 use Rattle.protocol.specs.declared.Told.TheVariants as Told
-use Rattle.protocol.specs.declared.Found.TheVariants as Found
 use Rattle.protocol.proofs.Laws.{both_false, padded-id}
 use Rattle.protocol.proofs.CutsRun.{zeros, act_on, reported}
 use Rattle.sending.specs.Commands.{send_values}
@@ -69,7 +68,7 @@ lands : {t t' t'' : Table} {text : List ℕ} {w : Saying} → t' ≡ t'' → Rea
 lands e r = record { table = r.table ∙ e; says = r.says; silent = r.silent }
 
 -- where no reply is due
-pub no_bytes : reply_bytes no_reply ≡ []
+pub no_bytes : reply_bytes None ≡ []
 unfolding reply_bytes
 no_bytes = refl
 
@@ -92,12 +91,12 @@ module _ (s : Session) {text : List ℕ} (a : Action) (id file : List ℕ) (size
   after = (read_of text zeros).buffer
 
   abbrev t : Table
-  t = alone_in s Owed.Nothing
+  t = alone_in s None
 
   abbrev q : Request
   q = wanted a size (length contents) file name
 
-  found : find_session t id ≡ Found.At 0
+  found : find_session t id ≡ Some 0
   unfolding first
   found = rw there
 
@@ -111,10 +110,10 @@ module _ (s : Session) {text : List ℕ} (a : Action) (id file : List ℕ) (size
       ∙ ap (λ f. acted (found_result t c id q f) c after) found)
 
   -- something is asked of the console
-  asks_as : (e : Edit) (f : FileRecord) (d : Due) → obeyed_by s q ≡ change e f (News.Asks d) no_reply
-      → ReadAs t text (alone_in (edited s f e) (Owed.For 0 d)) (Saying.asks (heard_for d contents))
+  asks_as : (e : Edit) (f : FileRecord) (d : Due) → obeyed_by s q ≡ change e f (News.Asks d) None
+      → ReadAs t text (alone_in (edited s f e) (Some (0, d))) (Saying.asks (heard_for d contents))
   asks_as e f d h =
-      let x : Acted = acted (step_by t 0 c.payload (change e f (News.Asks d) no_reply)) c after in
+      let x : Acted = acted (step_by t 0 c.payload (change e f (News.Asks d) None)) c after in
       rw (← hears d) (acts_as x (obeys ∙ ap (λ (y : Change). acted (step_by t 0 c.payload y) c after) h) no_bytes)
     where
       hears : (d : Due) → heard_ask (ask_of c.payload d) after ≡ heard_for d contents
@@ -145,7 +144,7 @@ module _ (id : List ℕ) (past : List Sent) where
       s : Session
       s = open_session id 1 past (record_of FileState.Started f ∷ [])
 
-      found : find_file s f.id ≡ Found.At (length past)
+      found : find_file s f.id ≡ Some (length past)
       found = find-now past now.before.ids FileState.Started f refl now.id now.new
 
       part : (l : Bool) → ends_short l f.size (f.total + n) ≡ false → data_of s l f.id n ≡ asks (write_due l (length past) n)
@@ -182,7 +181,7 @@ open-has id n past now k = rw (padded-id id k.short) (equals_refl id)
 
 -- "else asked, console told"
 sends-as : (id : List ℕ) {text : List ℕ} → Reading text (send_values id)
-    → ReadAs (table_of id Point.fresh) text (alone_in (asked_session 0 id) Owed.Nothing) Saying.asked
+    → ReadAs (table_of id Point.fresh) text (alone_in (asked_session 0 id) None) Saying.asked
 unfolding obey_of first kind_of result_in
 sends-as id {text} r = acts_as _ acts no_bytes
   where
@@ -198,7 +197,7 @@ sends-as id {text} r = acts_as _ acts no_bytes
     asked : Action → ℕ → List ℕ → Acted
     asked a quiet k = acted (absent_result t (asked_session quiet k) c.size (kind_of SessionState.Absent a)) c after
 
-    acts : act_on t (Stream.Told.command text) ≡ acted (telling (alone_in (asked_session 0 id) Owed.Nothing) Told.Asked) c after
+    acts : act_on t (Stream.Told.command text) ≡ acted (telling (alone_in (asked_session 0 id) None) Told.Asked) c after
     acts =
         rw r.answer
         (ap (λ (a : Action). asked a c.quiet (id_in c text)) (read-action Action.Send id [] 0 [] [] r)
@@ -235,7 +234,7 @@ pub read-order : {id : List ℕ} {p : Point} {o : Order} → Goes id p o → mea
     → ReadAs (table_of id p) (text_at id p o) (owing_of id p o) (saying_for o)
 read-order {id} (Goes.sends i) means = sends-as id (meant-reading _ (send_values id) means)
 read-order {id} (Goes.files past k name size i now valid bytes) means =
-    lands (ap (λ (s : Session). alone_in s (Owed.For 0 (Due.OpenFile (length past)))) (put-opening id past (sent k size 0) now))
+    lands (ap (λ (s : Session). alone_in s (Some (0, Due.OpenFile (length past)))) (put-opening id past (sent k size 0) now))
     (asks_as (open_session id 0 past []) Action.File id k size name [] (meant-reading _ _ means) (open-has id 0 past [] i)
     (Edit.Filed (length past)) (opening k size) (Due.OpenFile (length past)) (file-rule id past k name size now valid))
 read-order {id} (Goes.pieces past f c i now fit small within) means =

@@ -5,6 +5,7 @@ use mathlib.Core.Bool.{true, not}
 use mathlib.Core.List.{List, [], ◌∷◌, ◌++◌, map, map-append, append-nil}
 use native.Mathlib.Omega.{arith}
 use lib.ListN.{length, length-map, length-append}
+use Rattle.std.specs.Prelude.{Some, None}
 use Rattle.octets.specs.Members.{every}
 use Rattle.octets.specs.Slices.{equals}
 use Rattle.octets.proofs.Compare.{equals_refl}
@@ -16,7 +17,6 @@ use Rattle.protocol.specs.Sound.{IsId}
 use Rattle.protocol.specs.declared.FileState.{FileState}
 use Rattle.protocol.specs.declared.FileRecord.{FileRecord}
 use Rattle.protocol.specs.declared.Session.{Session}
-use Rattle.protocol.specs.declared.Found.TheVariants as Found
 use Rattle.protocol.proofs.Laws.{padded-id}
 use Rattle.sending.proofs.arrival.lists.Members.{every-over, every-same}
 use Rattle.sending.proofs.arrival.lists.Seams.{seam_getD, seam_set, free_getD, free_set, seam-first, seam-none, free-first}
@@ -52,21 +52,21 @@ past_bytes (f ∷ past) ids = omega (arith, ids.1, past_bytes past ids.2)
 
 -- ---- finding
 module _ (past : List Sent) (ids : AllIds past) where
-  pub find_none : (k : List ℕ) → NotIn k past → first (has_file_id k) (records_of past []) ≡ Found.Nowhere
+  pub find_none : (k : List ℕ) → NotIn k past → first (has_file_id k) (records_of past []) ≡ None
   find_none k new =
       seam-none (has_file_id k) (past_records past) (none_has k past ids new) (file_room - (length past + 0)) free_file refl
 
   pub find-now : (g : FileState) (f : Sent) → is_used g ≡ true → IsId f.id → NotIn f.id past
-      → first (has_file_id f.id) (records_of past (record_of g f ∷ [])) ≡ Found.At (length past)
+      → first (has_file_id f.id) (records_of past (record_of g f ∷ [])) ≡ Some (length past)
   find-now g f used id new =
       seam-first (has_file_id f.id) (past_records past) (none_has f.id past ids new) (record_of g f) _
       (rw (used, padded-id f.id id.short) (equals_refl f.id))
-      ∙ ap Found.At (places past)
+      ∙ ap Some (places past)
 
-pub find-free : (past : List Sent) → suc (length past) ≤ file_room → first is_free (records_of past []) ≡ Found.At (length past)
+pub find-free : (past : List Sent) → suc (length past) ≤ file_room → first is_free (records_of past []) ≡ Some (length past)
 find-free past room =
     free-first is_free (past_records past) (none-is-free past) file_room (length past) free_file room refl
-    ∙ ap Found.At (places past)
+    ∙ ap Some (places past)
 
 -- ---- a record put back
 module _ (id : List ℕ) (n : ℕ) (past : List Sent) where

@@ -7,6 +7,7 @@ use native.Mathlib.Omega.{arith}
 use lib.ListN.{length}
 use lib.Dec.{eqb}
 use borrow.Author.Tests.{eq-eqb, ne_eqb}
+use Rattle.std.specs.Prelude.{Some}
 use Rattle.octets.specs.Outcome.{outcome}
 use Rattle.octets.specs.Ascii.{ascii}
 use Rattle.octets.specs.Slices.{equals}
@@ -20,7 +21,6 @@ use Rattle.command.specs.declared.Command.{Command}
 use Rattle.command.proofs.Simulation.{read-means}
 use Rattle.protocol.specs.Sound.{IsId}
 use Rattle.protocol.specs.Replies.{status_values}
-use Rattle.protocol.specs.declared.Found.TheVariants as Found
 use Rattle.protocol.proofs.Laws.{no_way, padded-id}
 use Rattle.sending.specs.Transfers.{id_of, find_file, is_fresh}
 use Rattle.sending.specs.Heeding.{heeded, word_of, is_ours, session_heed, ok_heed, file_heed, found_heed, status_heed, heed_of}
@@ -105,7 +105,7 @@ idle-stage (Point.over p) past = refl
 -- ---- the file that is being sent at h is found behind the closed ones
 found-stands : (g : Stage) (id k : List ℕ) (closed : List Sent) (w : Point) (others : List Sent) → AllIds closed → NotIn k closed
     → length k ≤ 32 → Stands k w others
-    → find_file (shaped g id closed others (sending_now w)) k ≡ Found.At (length closed)
+    → find_file (shaped g id closed others (sending_now w)) k ≡ Some (length closed)
 found-stands g id k closed w others a n l (Stands.sending past f e q) = rw e (found-sending closed f k a n l q)
 found-stands g id k closed w others a n l (Stands.written f more q) = found-written closed f k a n l q more (sending_now w)
 
@@ -147,7 +147,7 @@ module _ (id : List ℕ) (i : IsId id) (text scratch : List ℕ) (enough : scrat
     own = rw (id-known id w written) (padded-id id i.short)
 
     module _ (k : List ℕ) (n : ℕ) (word : List ℕ) (is_id : IsId k) (m : meaning_of text ≡ Meaning.command (status_values id k n word))
-        (j : ℕ) (f : find_file t k ≡ Found.At j) where
+        (j : ℕ) (f : find_file t k ≡ Some j) where
       -- a status for a file of the session
       file-heed : (p : Place) × (heard t ≡ file_heed t j (count n) p (word_of word))
       unfolding status_heed found_heed

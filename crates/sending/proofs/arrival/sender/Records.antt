@@ -6,28 +6,29 @@ use mathlib.Core.List.{List, [], ◌∷◌, ◌++◌, map, append-nil, append_as
 use native.Mathlib.Omega.{arith}
 use lib.ListN.{length, get_or, set, replicate, length-append, length-map}
 use lib.Seq.{set_at, get_or_at, append_snoc}
+use Rattle.std.specs.Prelude.{Some, None}
 use Rattle.octets.specs.Members.{every}
 use Rattle.octets.specs.Slices.{equals}
 use Rattle.octets.proofs.Compare.{equals_refl}
 use Rattle.command.proofs.Every.{every_cons}
-use Rattle.protocol.specs.Table.{file_room, padded, first}
+use Rattle.protocol.specs.Table.{file_room, kept_id, first}
 use Rattle.protocol.specs.Files.{count_limit}
-use Rattle.protocol.specs.declared.Found.TheVariants as Found
 use Rattle.protocol.proofs.Laws.{padded-id}
 use Rattle.sending.specs.Transfers.{free_file, current_file, is_known, has_file_id, is_sending, put_file, begun, grown, added}
 use Rattle.sending.specs.declared.Stage.{Stage}
 use Rattle.sending.specs.declared.FileStage.{FileStage}
 use Rattle.sending.specs.declared.SentFile.{SentFile}
+use Rattle.protocol.specs.declared.id.Id.{Id}
 use Rattle.sending.specs.declared.Transfer.{Transfer}
 use Rattle.sending.proofs.arrival.lists.Members.{not-true, every_append, every_replicate, every-at}
 use Rattle.sending.proofs.arrival.lists.Seams.{seam_getD, seam_set, free_set, first_past, seam-none}
 use Rattle.sending.proofs.arrival.path.Points.{Sent, sent, longer, NotIn, AllIds}
 use Rattle.sending.proofs.arrival.path.States.{sent_record, sent_files, shaped}
 
-alike : (g : Stage) (a : List ℕ) (l : ℕ) {fs fs' : List SentFile} {n n' : ℕ} → fs ≡ fs' → n ≡ n'
-    → ◌≡◌ {A = Transfer} (record { stage = g; id = a; id_len = l; files = fs; count = n })
-    (record { stage = g; id = a; id_len = l; files = fs'; count = n' })
-alike g a l e q = rw (e, q)
+alike : (g : Stage) (i : Id) {fs fs' : List SentFile} {n n' : ℕ} → fs ≡ fs' → n ≡ n'
+    → ◌≡◌ {A = Transfer} (record { stage = g; id = i; files = fs; count = n })
+    (record { stage = g; id = i; files = fs'; count = n' })
+alike g i e q = rw (e, q)
 
 -- ---- records in one stage
 abbrev closed_records : List Sent → List SentFile
@@ -81,7 +82,7 @@ module _ (closed others : List Sent) where
 
   -- an id that no file has
   pub none-there : (k : List ℕ) → AllIds closed → AllIds others → NotIn k closed → NotIn k others
-      → first (has_file_id k) (sent_files closed others []) ≡ Found.Nowhere
+      → first (has_file_id k) (sent_files closed others []) ≡ None
   none-there k ac ao nc ns =
       let e = every_append (λ (x : SentFile). not (has_file_id k x)) (closed_records closed) (written_records others)
       (apart FileStage.Closed k closed ac nc) (apart FileStage.Sent k others ao ns) in
@@ -113,7 +114,7 @@ module _ (closed others : List Sent) where
     begun-shaped k size l =
         let x : SentFile = sent_record FileStage.Sending (sent k size 0) in
         let e : many + 0 ≡ many = omega arith in
-        alike g (padded id) (length id)
+        alike g (kept_id id)
         (ap (λ (n : ℕ). set (sent_files closed others []) n x) e ∙ free_set ended many ended-length file_room free_file x l) (omega arith)
 
     module _ (f : Sent) where
@@ -140,14 +141,14 @@ module _ (closed others : List Sent) where
         -- a piece
         pub added-piece : added busy n false ≡ shaped g id closed others (sent_record FileStage.Sending (longer f n) ∷ [])
         added-piece =
-            rw (current-is, grown-is) (alike g (padded id) (length id)
+            rw (current-is, grown-is) (alike g (kept_id id)
             (seam_set ended (many + 1 - 1) here now room (sent_record FileStage.Sending (longer f n))) refl)
 
         -- a last piece
         pub added-last : added busy n true ≡ shaped g id closed (others ++ longer f n ∷ []) []
         added-last =
             let e : length (others ++ longer f n ∷ []) ≡ length others + 1 = length-append others (longer f n ∷ []) in
-            rw (current-is, grown-is) (alike g (padded id) (length id)
+            rw (current-is, grown-is) (alike g (kept_id id)
             (seam_set ended (many + 1 - 1) here now room (sent_record FileStage.Sent (longer f n)) ∙ sym (one_more (longer f n)))
             (omega (arith, e)))
 
@@ -190,20 +191,20 @@ module _ (closed : List Sent) (f : Sent) where
         let q : length (closed ++ f ∷ []) ≡ length closed + 1 = length-append closed (f ∷ []) in
         let m : length closed + length (f ∷ others) + length now ≡ length (closed ++ f ∷ []) + length others + length now =
         omega (arith, q) in
-        alike g (padded id) (length id)
+        alike g (kept_id id)
         (rw (written_behind _, closed-behind _, ← m) (set_at shut (sent_record FileStage.Sent f) _ x (length closed) shut-length)) m
 
   -- it is found there by its id, which no closed file has
   module _ (k : List ℕ) (a : AllIds closed) (n : NotIn k closed) (l : length k ≤ 32) (e : f.id ≡ k) where
     found-behind : (g : FileStage) → is_known g ≡ true → (ys : List SentFile)
-        → first (has_file_id k) (shut ++ sent_record g f ∷ ys) ≡ Found.At (length closed)
+        → first (has_file_id k) (shut ++ sent_record g f ∷ ys) ≡ Some (length closed)
     found-behind g u ys =
         rw (← shut-length) (first_past (has_file_id k) shut (sent_record g f) ys (apart FileStage.Closed k closed a n)
         (has-id g f k u (rw e l) ∙ rw e (equals_refl k)))
 
-    pub found-sending : first (has_file_id k) (sent_files closed [] (sent_record FileStage.Sending f ∷ [])) ≡ Found.At (length closed)
+    pub found-sending : first (has_file_id k) (sent_files closed [] (sent_record FileStage.Sending f ∷ [])) ≡ Some (length closed)
     found-sending = rw (append-nil shut, append_snoc shut) (found-behind FileStage.Sending refl _)
 
     pub found-written : (others : List Sent) (now : List SentFile)
-        → first (has_file_id k) (sent_files closed (f ∷ others) now) ≡ Found.At (length closed)
+        → first (has_file_id k) (sent_files closed (f ∷ others) now) ≡ Some (length closed)
     found-written others now = rw (written_behind others now _) (found-behind FileStage.Sent refl _)

@@ -1,4 +1,5 @@
 -- An order that is written: what becomes of the sender, and its frame. One that is not: it is refused with 9 or 18.
+use Rattle.std.specs.Prelude.{Ok}
 use Prim.Native.Nat.{ℕ, suc, ◌+◌, ◌≤◌, ◌<◌}
 use mathlib.Core.Path.{◌≡◌, refl, sym, ◌∙◌}
 use mathlib.Core.Bool.{Bool, true, false, not}
@@ -31,7 +32,6 @@ use Rattle.sending.specs.declared.Stage.{Stage}
 use Rattle.sending.specs.declared.FileStage.TheVariants as FileStage
 use Rattle.sending.specs.declared.Transfer.{Transfer}
 use Rattle.sending.specs.declared.Sender.{Sender}
-use Rattle.sending.specs.declared.Writing.TheVariants as Writing
 use Rattle.sending.specs.declared.Wrote.{Wrote}
 use Rattle.sending.proofs.arrival.lists.Members.{every-parts}
 use Rattle.sending.proofs.arrival.path.Points.{Sent, sent, longer, Point, next, Now, Goes, command_at, text_at}
@@ -64,7 +64,7 @@ module _ (s : Sender) (out : List ℕ) (enough : frame_room ≤ length out) wher
 -- what the writer writes
 writes_as : (s : Sender) (t : Transfer) (vs : List Value) (out : List ℕ) (n : ℕ) (b : List ℕ)
     → framed_of vs out ≡ outcome (Answer.written n) b
-    → writes s t vs out ≡ outcome (record { sender = with_transfer s t; writing = Writing.Written n }) b
+    → writes s t vs out ≡ outcome (record { sender = with_transfer s t; writing = Ok n }) b
 unfolding writes
 writes_as s t vs out n b e = rw e
 
@@ -108,7 +108,7 @@ sender_of f t = record { framing = f; transfer = t }
 abbrev pub wrote_as : Framing → (id : List ℕ) → Point → Order → Transfer → List ℕ → Outcome Wrote
 wrote_as f id w o t out =
     let bytes = framed (text_at id w o) in
-    outcome (record { sender = sender_of f t; writing = Writing.Written (length bytes) }) (sets out 0 bytes)
+    outcome (record { sender = sender_of f t; writing = Ok (length bytes) }) (sets out 0 bytes)
 
 -- the writer writes it
 abbrev pub Frames : (id : List ℕ) → Point → Order → List ℕ → Type 0
@@ -143,7 +143,7 @@ module _ (id : List ℕ) (i : IsId id) (f : Framing) (out : List ℕ) (enough : 
     idle_sender = sender_of f (shaped Stage.Open id closed others [])
 
     abbrev told : Transfer → Outcome Wrote
-    told t = outcome (record { sender = sender_of f t; writing = Writing.Written n }) after
+    told t = outcome (record { sender = sender_of f t; writing = Ok n }) after
 
     file-told : (past : List Sent) (k name : List ℕ) (size : ℕ) → past ≡ closed ++ others → Now past (sent k size 0)
         → framed_of (file_values id k name size) out ≡ outcome (Answer.written n) after

@@ -3,10 +3,10 @@ use mathlib.Core.Path.{◌≡◌, refl, sym, ap, ◌∙◌}
 use mathlib.Core.Bool.{Bool, true, false}
 use mathlib.Core.Logic.{inl}
 use mathlib.Core.List.{List, [], ◌∷◌, ◌++◌}
+use Rattle.std.specs.Prelude.{Some}
 use Rattle.octets.specs.Ascii.{ascii}
 use Rattle.octets.specs.Members.{every}
 use Rattle.protocol.specs.History.{Mark, marks_of}
-use Rattle.protocol.specs.declared.Found.TheVariants as Found
 use Rattle.protocol.proofs.Laws.{no_way}
 use Rattle.protocol.proofs.Refuting.{carry₀}
 use Rattle.sending.specs.Transfers.{file_at, find_file}
@@ -55,7 +55,7 @@ is_closed FileStage.Stopped = false
 
 record Computed : Type 0 where
   unclosing-rests : AtRest (tried unclosing (one (given 0)) ended)
-  unclosing_finds : find_file (tried unclosing (one (given 0)) ended).sender.transfer (ascii "a") ≡ Found.At 0
+  unclosing_finds : find_file (tried unclosing (one (given 0)) ended).sender.transfer (ascii "a") ≡ Some 0
   unclosing-stays : is_closed (file_at (tried unclosing (one (given 0)) ended).sender.transfer 0).stage ≡ false
   impatient-rests : AtRest (tried impatient none (write ∷ write ∷ feed ∷ feed ∷ []))
   impatient_withdraws : is_answer (marks_of (tried impatient none (write ∷ write ∷ feed ∷ feed ∷ [])).world.history) ≡ false

@@ -1,4 +1,5 @@
 -- Our calls on other orders than those given: the exchange is ours with those other orders, so both plans would arrive whole by it.
+use Rattle.std.specs.Prelude.{Result, Ok, Err}
 use Prim.Native.Nat.{ℕ, ◌≤◌}
 use mathlib.Core.Path.{◌≡◌, refl}
 use mathlib.Core.List.{List, [], ◌∷◌, map}
@@ -13,7 +14,6 @@ use Rattle.sending.specs.Exchange.{Exchange, Turn, order_of, after_write, write_
 use Rattle.sending.specs.Arrives.{Arrives, Whole}
 use Rattle.sending.specs.WrongArrivals.{mistaking}
 use Rattle.sending.specs.declared.Sender.{Sender}
-use Rattle.sending.specs.declared.Writing.{Writing}
 use Rattle.sending.specs.declared.Wrote.{Wrote}
 use Rattle.sending.proofs.arrival.lists.Empty.{empty_under}
 
@@ -43,11 +43,11 @@ module _ (f : Order → Order) where
   order-mistaken s (Order.piece contents last) out = refl
   order-mistaken s Order.finish out = refl
 
-  wrote-mistaken : (e : Exchange) (os : List Order) (s : Sender) (w : Writing) (out : List ℕ)
+  wrote-mistaken : (e : Exchange) (os : List Order) (s : Sender) (w : Result ℕ ℕ) (out : List ℕ)
       → let a : Outcome Wrote = outcome (record { sender = s; writing = w }) out in
       after_write (mistaken e) (map f os) a ≡ mistaken (after_write e os a)
-  wrote-mistaken e os s (Writing.Refused n) out = refl
-  wrote-mistaken e os s (Writing.Written n) out = refl
+  wrote-mistaken e os s (Err n) out = refl
+  wrote-mistaken e os s (Ok n) out = refl
 
   write-mistaken : (e : Exchange) (os : List Order) (out : List ℕ)
       → write_turn ours (mistaken e) (map f os) out ≡ mistaken (write_turn (mistaking f) e os out)

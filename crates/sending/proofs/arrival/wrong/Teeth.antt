@@ -4,10 +4,11 @@ use Prim.Native.Nat.{ℕ}
 use mathlib.Core.Path.{◌≡◌, refl, sym, ap, subst, ◌∙◌}
 use mathlib.Core.Bool.{false}
 use mathlib.Core.Logic.{inl, inr}
-use mathlib.Core.Option.{Option, some-injective}
 use mathlib.Core.List.{List, [], ◌∷◌, map, cons≢nil}
 use native.Mathlib.Omega.{arith}
 use lib.ListN.{length, get_or}
+use Rattle.std.proofs.lemmas.Option.{same_Some}
+use Rattle.std.specs.Prelude.{Some}
 use Rattle.octets.specs.Ascii.{ascii}
 use Rattle.octets.specs.Members.{every}
 use Rattle.octets.specs.Outcome.{outcome}
@@ -159,8 +160,8 @@ same-file : (id : List ℕ) (f f' : File) (m : List Mark) (t t' : Transfer) → 
     → Same f f'
 same-file id f f' m t t' e x y =
     let k = key id f'.id in
-    let from : since k m ≡ Option.some x.stretch = rw e at x.started in
-    let same : x.stretch ≡ y.stretch = some-injective _ _ (sym from ∙ y.started) in
+    let from : since k m ≡ Some x.stretch = rw e at x.started in
+    let same : x.stretch ≡ y.stretch = same_Some _ _ (sym from ∙ y.started) in
     record {
       contents = sym (rw e at x.whole) ∙ ap (λ (s : Stretch). parts k s.marks) same ∙ y.whole;
       name = sym x.name ∙ ap (λ (s : Stretch). name_in s.command) same ∙ y.name;

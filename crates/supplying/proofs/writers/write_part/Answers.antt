@@ -1,7 +1,7 @@
 use mathlib.Core.Path.{◌≡◌}
 use lib.ListN.{length}
 use Rattle.supplying.proofs.ArrayLaws.{length_mapped}
-use Rattle.supplying.proofs.ValueLaws.{part-framed}
+use Rattle.supplying.proofs.ValueLaws.{part-written}
 use borrow.Author.Rules.{rules}
 use Rattle.supplying.proofs.writers.write_part.Goals as goal
 
@@ -9,5 +9,8 @@ use Rattle.supplying.proofs.writers.write_part.Goals as goal
 pub returns : goal.returns
 returns c =
     let a = c.args in
-    let h : length a.session.files ≡ 32 = search (rules, length_mapped) in
-    part-framed a.session _ a.bytes.now a.last a.out.now _ h c.write_piece.ensures
+    let s = a.session.now in
+    let i = c.ids-ids.ensures in
+    let files : length s.files ≡ 32 = search (rules, length_mapped) in
+    part-written s _ a.last a.bytes.now a.out.now _ _ _ files i.lengths.0 i.ids i.lengths.1 c.piece-command.ensures
+    c.write_framed.ensures.out_after

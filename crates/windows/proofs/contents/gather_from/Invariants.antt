@@ -1,12 +1,7 @@
-use Prim.Native.Nat.{◌-◌}
-use lib.ListN.{length}
-use Rattle.windows.specs.Steps.{side, key_with}
+use Prim.Native.Nat.{◌*◌}
+use Rattle.windows.specs.Steps.{heard, key_of}
 use Rattle.windows.proofs.ContentLaws.{Gathering}
 use Rattle.windows.proofs.contents.gather_from.Given as goal
 
-abbrev pub invariant-loop-at : goal.invariant-loop-at
-invariant-loop-at l =
-    Gathering (side l.recording l.bytes l.events) (key_with l.id l.file) l.from l.initial.into l.at l.n l.into
-
-abbrev pub decreases-loop-at : goal.decreases-loop-at
-decreases-loop-at l = length l.events - l.at
+abbrev pub invariant-loop-row : goal.invariant-loop-row
+invariant-loop-row l = Gathering (heard l.side) (key_of l.pair) (l.from * 7) l.initial.into (l.row * 7) l.n l.into

@@ -1,51 +1,33 @@
-use Prim.Native.Nat.{ℕ, suc, ◌+◌, ◌≤◌}
+use Prim.Native.Nat.{◌+◌, ◌*◌, ◌≤◌}
 use mathlib.Core.Path.{sym, ◌∙◌}
-use mathlib.Core.List.{List}
 use native.Mathlib.Omega.{arith}
 use lib.ListN.{length}
-use Rattle.windows.specs.Steps.{Side, side, key_with}
+use Rattle.windows.specs.Steps.{heard, key_of}
 use Rattle.windows.proofs.SearchLaws.{nth_past, nth-later, nth-found, nth_end}
 use Rattle.windows.proofs.matching.nth_start.Goals as goal
-
-pub loop-at-preserved-then-not-starts_pair : goal.loop-at-preserved-then-not-starts_pair
-loop-at-preserved-then-not-starts_pair c =
-    let l = c.loop-at in
-    let a = c.args in
-    let s : List ℕ → Side = λ parts. side a.recording.now parts a.events.now in
-    let k = key_with a.id.now a.file.now in
-    let e = sym c.starts_pair.ensures ∙ c.if-not-starts_pair.true in
-    let h : l.at + 7 ≤ length a.events.now = omega arith in (
-      omega arith,
-      (suc l.invariant.1.0, omega (arith, l.invariant.1.1)),
-      λ parts. nth_past (s parts) l.at k l.left h e (l.invariant.2 parts),
-    )
+use Rattle.windows.proofs.matching.nth_start.Goals.{then-starts_pair+else-left-eq0, else-starts_pair}
 
 pub returns-then-left-eq0 : goal.returns-then-left-eq0
 returns-then-left-eq0 c =
-    let l = c.loop-at in
-    let a = c.args in
-    let s : List ℕ → Side = λ parts. side a.recording.now parts a.events.now in
-    let k = key_with a.id.now a.file.now in
-    let e = sym c.starts_pair.ensures ∙ c.if-not-starts_pair.false in
-    let h : l.at + 7 ≤ length a.events.now = omega arith in
-    (l.invariant.1, λ parts. nth-found (s parts) l.at k l.left h e c.if-left-eq0.true (l.invariant.2 parts))
+    let l = c.loop-row in
+    let h : l.row * 7 + 7 ≤ length c.args.side.events.now = omega arith in
+    let e = sym c.starts_pair.ensures ∙ c.if-starts_pair.true in
+    (h, nth-found (heard c.args.side) l.row (key_of c.args.pair) l.left h e c.if-left-eq0.true l.invariant)
 
-pub loop-at-preserved : goal.loop-at-preserved
-loop-at-preserved c =
-    let l = c.loop-at in
-    let a = c.args in
-    let s : List ℕ → Side = λ parts. side a.recording.now parts a.events.now in
-    let k = key_with a.id.now a.file.now in
-    let e = sym c.starts_pair.ensures ∙ c.if-not-starts_pair.false in
-    let h : l.at + 7 ≤ length a.events.now = omega arith in (
-      omega arith,
-      (suc l.invariant.1.0, omega (arith, l.invariant.1.1)),
-      λ parts. nth-later (s parts) l.at k l.left h e c.if-left-eq0.false (l.invariant.2 parts),
-    )
+pub loop-row-preserved : goal.loop-row-preserved
+loop-row-preserved c =
+    let l = c.loop-row in
+    let s = heard c.args.side in
+    let k = key_of c.args.pair in
+    let h : l.row * 7 + 7 ≤ length c.args.side.events.now = omega arith in
+    elim c.if-starts_pair.branch [
+      | then-starts_pair+else-left-eq0 w ↦ rw w.left-is
+          (nth-later s l.row k l.left h (sym c.starts_pair.ensures ∙ w.if-starts_pair.true) w.if-left-eq0.false l.invariant)
+      | else-starts_pair w ↦ rw w.left-is
+          (nth_past s l.row k l.left h (sym c.starts_pair.ensures ∙ w.if-starts_pair.false) l.invariant)
+    ]
 
 pub returns : goal.returns
 returns c =
-    let l = c.loop-at in
-    let a = c.args in
-    let s : List ℕ → Side = λ parts. side a.recording.now parts a.events.now in
-    (l.invariant.1, λ parts. nth_end (s parts) l.at (key_with a.id.now a.file.now) l.left (omega arith) (l.invariant.2 parts))
+    let l = c.loop-row in
+    (tt, nth_end (heard c.args.side) l.row (key_of c.args.pair) l.left (omega arith) l.invariant)

@@ -1,16 +1,9 @@
-use Prim.Native.Nat.{ℕ, ◌-◌, ◌≤◌}
+use Prim.Native.Nat.{◌*◌}
 use mathlib.Core.Path.{◌≡◌}
-use mathlib.Core.List.{List}
-use lib.ListN.{length}
 use Rattle.windows.specs.Ranks.{nth}
-use Rattle.windows.specs.Steps.{side, key_with, starts_from, starts_in, RowPlace}
+use Rattle.windows.specs.Steps.{heard, key_of, starts_from, starts_in}
 use Rattle.windows.proofs.matching.nth_start.Given as goal
 
-abbrev pub invariant-loop-at : goal.invariant-loop-at
-invariant-loop-at l =
-    (l.at ≤ length l.events) × RowPlace l.at
-    × ((parts : List ℕ) → nth (key_with l.id l.file) l.left (starts_from (side l.recording parts l.events) l.at)
-    ≡ nth (key_with l.id l.file) l.rank (starts_in (side l.recording parts l.events)))
-
-abbrev pub decreases-loop-at : goal.decreases-loop-at
-decreases-loop-at l = length l.events - l.at
+abbrev pub invariant-loop-row : goal.invariant-loop-row
+invariant-loop-row l =
+    nth (key_of l.pair) l.left (starts_from (heard l.side) (l.row * 7)) ≡ nth (key_of l.pair) l.rank (starts_in (heard l.side))

@@ -1,31 +1,14 @@
-use mathlib.Core.Path.{sym, ◌∙◌, ap}
-use native.Mathlib.Omega.{arith}
+use mathlib.Core.Path.{sym, ap}
 use Rattle.windows.specs.Steps.{judged}
-use Rattle.windows.proofs.DiffLaws.{diff-past, diff-here, diff-short, diff-none}
+use Rattle.windows.proofs.DiffLaws.{diff-at, diff-none, diff-short}
 use Rattle.windows.proofs.verdicts.first_difference.Goals as goal
 
-pub returns-then-a-i : goal.returns-then-a-i
-returns-then-a-i c =
-    let l = c.loop-i in
-    let a = c.args in
-    c.different.ensures
-    ∙ ap judged (sym (diff-here a.a.now a.b.now l.i l.invariant.2 (omega arith) (omega arith) c.if-a-i.true))
+pub returns-in-Some : goal.returns-in-Some
+returns-in-Some c = sym (ap judged (diff-at c.args.a.now c.args.b.now c.in-Some.offset c.in-Some.ensures))
 
-pub loop-i-preserved : goal.loop-i-preserved
-loop-i-preserved c =
-    let l = c.loop-i in
-    let a = c.args in
-    (omega arith, l.invariant.1, diff-past a.a.now a.b.now l.i l.invariant.2 (omega arith) (omega arith) c.if-a-i.false)
+pub returns-in-None : goal.returns-in-None
+returns-in-None c = sym (ap judged (diff-none c.args.a.now c.args.b.now c.in-None.ensures c.if-a-b.true))
 
-pub returns-then-a-b : goal.returns-then-a-b
-returns-then-a-b c =
-    let l = c.loop-i in
-    let a = c.args in
-    c.different-then-a-b.ensures
-    ∙ ap judged (sym (diff-short a.a.now a.b.now l.i l.invariant.2 _ (omega arith) l.invariant.1 c.if-a-b.true))
-
-pub returns : goal.returns
-returns c =
-    let l = c.loop-i in
-    let a = c.args in
-    ap judged (sym (diff-none a.a.now a.b.now l.i l.invariant.2 (omega arith) (omega arith)))
+pub returns-in-None-2 : goal.returns-in-None-2
+returns-in-None-2 c =
+    rw c.min.ensures (sym (ap judged (diff-short c.args.a.now c.args.b.now c.in-None.ensures c.if-a-b.false)))
