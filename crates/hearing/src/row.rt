@@ -1,4 +1,5 @@
-// A row of what was heard, as seven numbers and read from them.
+// A row of what was heard, as seven numbers and read from them: a caller of `hear` lends numbers, and
+// `read_back` in its contract reads them there, the kind and the places.
 ghost use Rattle.std.specs.Prelude.{◌≡◌, ◌+◌, ◌*◌, ◌≤◌, length};
 ghost use Rattle.std.proofs.lemmas.List.Edits.{sets};
 ghost use Rattle.hearing.specs.Rows.{is_start, kind_of, row_at, row_numbers};
