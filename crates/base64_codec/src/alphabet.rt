@@ -1,17 +1,17 @@
 // The alphabet: a value for each character, and a character for each value.
 ghost use Rattle.std.specs.Prelude.{◌≡◌, ◌≤◌};
 ghost use Rattle.base64_codec.specs.Alphabet.{value_of, letter_of};
-ghost use Rattle.base64_codec.specs.Values.{values};
+
+use crate::table::VALUES;
 
 // The padding character.
 pub(crate) const PAD: u8 = b'=';
 
 // The value of a character, and 64 for a byte that is none, by the table.
-pub(crate) fn value(table: &[u8; 256], c: u8) -> u8
-    requires { table.now ≡ values }
+pub(crate) fn value(c: u8) -> u8
     ensures { (result ≡ value_of c) × (result ≤ 64) }
 {
-    table[usize::from(c)]
+    VALUES[usize::from(c)]
 }
 
 // The character of a value below 64.

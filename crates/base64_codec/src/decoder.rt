@@ -5,25 +5,23 @@ ghost use Rattle.octets.specs.Members.{every};
 ghost use Rattle.base64_codec.specs.Decode.{scan, verdict_of, bytes_of};
 ghost use Rattle.base64_codec.specs.Decode as Decode;
 ghost use Rattle.base64_codec.specs.Letters.{is_letter, value_before};
-ghost use Rattle.base64_codec.specs.Values.{values};
 
 use crate::Fault;
 use crate::alphabet::{PAD, value};
 
 // The number of padding characters of the whole text, or its fault. Its characters are taken left to right;
 // p is the value of the last.
-pub(crate) fn check(table: &[u8; 256], text: &[u8]) -> Result<usize, Fault>
-    requires { table.now ≡ values }
+pub(crate) fn check(text: &[u8]) -> Result<usize, Fault>
     ensures { result ≡ verdict_of text.now }
 {
     if text.len() % 4 != 0 {
         return Err(Fault::Length);
     }
-    let start = pass_letters(table, text);
-    let mut p = before(table, text, start);
+    let start = pass_letters(text);
+    let mut p = before(text, start);
     for i in start..text.len() {
         let c = text[i];
-        let v = value(table, c);
+        let v = value(c);
         if v == 64 {
             if c == PAD {
                 return ending(p, &text[i + 1..]);
@@ -36,15 +34,14 @@ pub(crate) fn check(table: &[u8; 256], text: &[u8]) -> Result<usize, Fault>
 }
 
 // Passes letters, four at a time: a place from which on the text is what it is from its start on.
-fn pass_letters(table: &[u8; 256], text: &[u8]) -> usize
-    requires { table.now ≡ values }
+fn pass_letters(text: &[u8]) -> usize
     ensures { (result ≤ length text.now)
         × (scan (value_before text.now result) (drop result text.now) ≡ scan 0 text.now) }
 {
     let start = pass_blocks(text);
     let (groups, _) = text[start..].as_chunks::<4>();
     for (k, group) in groups.iter().enumerate() {
-        if !four(table, group) {
+        if !four(group) {
             return start + 4 * k;
         }
     }
@@ -83,20 +80,19 @@ fn is_letter(c: u8) -> bool
 
 // Whether four characters are letters. A byte that is none has the value 64, a bit that no letter's has, so
 // one test does for the four.
-fn four(table: &[u8; 256], group: &[u8; 4]) -> bool
-    requires { table.now ≡ values }
+fn four(group: &[u8; 4]) -> bool
     ensures { result ≡ every is_letter group.now }
 {
     let [a, b, c, d] = *group;
-    (value(table, a) | value(table, b) | value(table, c) | value(table, d)) < 64
+    (value(a) | value(b) | value(c) | value(d)) < 64
 }
 
 // The value of the character before place i, and 0 at the start.
-fn before(table: &[u8; 256], text: &[u8], i: usize) -> u8
-    requires { (table.now ≡ values) × (i ≤ length text.now) }
+fn before(text: &[u8], i: usize) -> u8
+    requires { i ≤ length text.now }
     ensures { result ≡ value_before text.now i }
 {
-    if i == 0 { 0 } else { value(table, text[i - 1]) }
+    if i == 0 { 0 } else { value(text[i - 1]) }
 }
 
 // What the text is by its end: before `left` stands its first `=`, before that the value p.
@@ -121,22 +117,20 @@ fn unused(bits: u8, padding: usize) -> Result<usize, Fault>
 }
 
 // Stores the bytes of a valid text in `out` from place `at` on. Only its last group has padding.
-pub(crate) fn fill(table: &[u8; 256], text: &[u8], out: &mut [u8], at: usize)
-    requires table_value { table.now ≡ values }
+pub(crate) fn fill(text: &[u8], out: &mut [u8], at: usize)
     requires text_value { (k : ℕ) × (verdict_of text.now ≡ Ok k) }
     requires room { at + length (bytes_of text.now) ≤ length out.old }
     ensures { out.new ≡ sets out.old at (bytes_of text.now) }
 {
     if let Some((letters, end)) = text.split_last_chunk::<4>() {
         let o = at + letters.len() / 4 * 3;
-        full(table, letters, out, at);
-        last(table, end, out, o);
+        full(letters, out, at);
+        last(end, out, o);
     }
 }
 
 // Stores the bytes of whole groups of letters from place `at` on, two groups a turn: their words are made side by side.
-fn full(table: &[u8; 256], text: &[u8], out: &mut [u8], at: usize)
-    requires table_value { table.now ≡ values }
+fn full(text: &[u8], out: &mut [u8], at: usize)
     requires letters { (every is_letter text.now ≡ true) × (length text.now % 4 ≡ 0) }
     requires room { at + length (bytes_of text.now) ≤ length out.old }
     ensures { out.new ≡ sets out.old at (bytes_of text.now) }
@@ -144,47 +138,35 @@ fn full(table: &[u8; 256], text: &[u8], out: &mut [u8], at: usize)
     let (pairs, single) = text.as_chunks::<8>();
     let mut o = at;
     for [a, b, c, d, e, f, g, h] in pairs {
-        put(table, &[*a, *b, *c, *d], out, o);
-        put(table, &[*e, *f, *g, *h], out, o + 3);
+        put(&[*a, *b, *c, *d], out, o);
+        put(&[*e, *f, *g, *h], out, o + 3);
         o += 6;
     }
     if let Some((group, _)) = single.split_first_chunk::<4>() {
-        put(table, group, out, o);
+        put(group, out, o);
     }
 }
 
 // Stores the three bytes of a group of letters from place o on.
-fn put(table: &[u8; 256], group: &[u8; 4], out: &mut [u8], o: usize)
-    requires table_value { table.now ≡ values }
+fn put(group: &[u8; 4], out: &mut [u8], o: usize)
     requires letters { every is_letter group.now ≡ true }
     requires room { o + 3 ≤ length out.old }
     ensures { out.new ≡ sets out.old o (bytes_of group.now) }
 {
     let [a, b, c, d] = *group;
-    let w = word(
-        value(table, a),
-        value(table, b),
-        value(table, c),
-        value(table, d),
-    );
+    let w = word(value(a), value(b), value(c), value(d));
     out[o] = byte1(w);
     out[o + 1] = byte2(w);
     out[o + 2] = byte3(w);
 }
 
 // Stores the bytes of a last group from place o on. The value of a `=`, 64, counts as 0.
-fn last(table: &[u8; 256], group: &[u8; 4], out: &mut [u8], o: usize)
-    requires table_value { table.now ≡ values }
-    requires room { o + length (bytes_of group.now) ≤ length out.old }
+fn last(group: &[u8; 4], out: &mut [u8], o: usize)
+    requires { o + length (bytes_of group.now) ≤ length out.old }
     ensures { out.new ≡ sets out.old o (bytes_of group.now) }
 {
     let [a, b, c, d] = *group;
-    let w = word(
-        value(table, a) % 64,
-        value(table, b) % 64,
-        value(table, c) % 64,
-        value(table, d) % 64,
-    );
+    let w = word(value(a) % 64, value(b) % 64, value(c) % 64, value(d) % 64);
     out[o] = byte1(w);
     if c == PAD {
         return;

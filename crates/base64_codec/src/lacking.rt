@@ -9,7 +9,6 @@ ghost use Rattle.base64_codec.specs.declared.Padding.TheVariants.{Optional};
 
 use crate::alphabet::PAD;
 use crate::decoder::{check, fill};
-use crate::table::VALUES;
 use crate::{DecodeError, Fault};
 
 // A text lacks padding where two or three characters are left over and the last is no `=`.
@@ -30,15 +29,14 @@ fn in_two(groups: &[u8], last: &[u8; 4], out: &mut [u8], at: usize) -> Result<us
     requires { length groups.now % 4 ≡ 0 }
     ensures { outcome result out.new ≡ decode_of (groups.now ++ last.now) out.old at }
 {
-    let table = VALUES;
     let whole = groups.len() / 4 * 3;
-    let padding = joined(check(&table, groups), check(&table, last))?;
+    let padding = joined(check(groups), check(last))?;
     let n = whole + 3 - padding;
     if !octets::fits(at, n, out.len()) {
         return Err(DecodeError::NoRoom);
     }
-    fill(&table, groups, out, at);
-    fill(&table, last, out, at + whole);
+    fill(groups, out, at);
+    fill(last, out, at + whole);
     Ok(n)
 }
 

@@ -20,8 +20,6 @@ ghost use Rattle.base64_codec.specs.Examples.{DecodeExamples};
 ghost use Rattle.base64_codec.specs.Padding.{decode_with};
 ghost use Rattle.base64_codec.specs.declared.DecodeError.TheVariants.{Invalid};
 
-use crate::table::VALUES;
-
 // What is wrong with a text: its length or padding, a character, or bits that no byte uses.
 #[derive(Clone, Copy, Debug, PartialEq, Eq)]
 pub enum Fault {
@@ -59,13 +57,12 @@ pub fn decode(text: &[u8], out: &mut [u8], at: usize) -> Result<usize, DecodeErr
     ensures out_after { outcome result out.new ≡ decode_of text.now out.old at }
     ensures decoded_encodes { DecodedEncodes }
 {
-    let table = VALUES;
-    let padding = decoder::check(&table, text)?;
+    let padding = decoder::check(text)?;
     let n = text.len() / 4 * 3 - padding;
     if !octets::fits(at, n, out.len()) {
         return Err(DecodeError::NoRoom);
     }
-    decoder::fill(&table, text, out, at);
+    decoder::fill(text, out, at);
     Ok(n)
 }
 

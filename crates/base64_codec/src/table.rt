@@ -1,10 +1,7 @@
 // The table by which characters are read.
-//
-// There is no static data: a constant is built where it is named. So `decode` builds the table once
-// and lends it to every function below it.
 
 // The value of each byte as a character, and 64 for a byte that is none.
-pub(crate) const VALUES: [u8; 256] = [
+pub(crate) static VALUES: [u8; 256] = [
     64, // byte 0
     64, // byte 1
     64, // byte 2

@@ -2,18 +2,16 @@
 use Prim.Native.Nat.{ℕ, suc, ◌+◌, ◌<◌, ◌≤◌}
 use mathlib.Core.Path.{◌≡◌, refl, sym, ◌∙◌}
 use mathlib.Core.Bool.{Bool, true, false, cond}
-use mathlib.Core.List.{List, map}
+use mathlib.Core.List.{List, [], ◌∷◌, map}
 use native.Mathlib.Omega.{arith}
-use lib.ListN.{length, get_or, drop, get_or-map}
+use lib.ListN.{length, get_or, get_or-map}
 use lib.Dec.{ltb}
-use lib.Seq.{drop-cons}
 use borrow.Author.Tests.{lt-ltb, le-ltb, ltb-true, ltb-false}
-use native.Mathlib.Numerals.{add-one}
-use Rattle.std.specs.Prelude.{Option, Some, None, Ok, Err}
+use Rattle.std.specs.Prelude.{Option, Some, None, Ok, option_map}
+use Rattle.std.specs.Option.{ok_or}
 use Rattle.std.specs.Borrow.{Bor}
 use Rattle.std.specs.Str.{bytes_eq}
-use Rattle.std.specs.List.{position, position_or_len}
-use Rattle.std.proofs.Common.{drop_of_length-le}
+use Rattle.std.specs.List.{find, position, position_or_len}
 use Rattle.std.proofs.lemmas.List.{length-map}
 use Rattle.std.proofs.lemmas.List.Recursion.{is_position_or_len}
 use Rattle.octets.specs.Slices.{equals}
@@ -21,7 +19,7 @@ use Rattle.octets.proofs.Compare.{equals-pointwise}
 use Rattle.command.specs.Keys.{Key, key, keys, key_at, within, place_in}
 use Rattle.command.specs.Keys as Keys
 use Rattle.command.specs.Rows.{texts_of, alias_of, words_of}
-use Rattle.command.specs.Values.{code_got, alias_read, word_read, value_read}
+use Rattle.command.specs.Values.{Got, Value, count, code_got, alias_read, word_read, value_read}
 use Rattle.command.specs.declared.words.Alias.{Alias}
 use Rattle.command.specs.declared.words.Words.{Words}
 
@@ -71,9 +69,6 @@ module _ (w : Words) (v : List ℕ) where
   abbrev place : ℕ
   place = place_in (texts_of w.texts.now) v
 
-  abbrev pub Left : ℕ → Type 0
-  Left i = value_read (words_of w) v ≡ alias_read w.unknown (map alias_of (drop i w.aliases.now)) v
-
   -- what `position` answers among them
   abbrev found : Option ℕ
   found = position (λ (t : Bor (List ℕ)). bytes_eq v t.now) w.texts.now
@@ -86,26 +81,25 @@ module _ (w : Words) (v : List ℕ) where
       let h : place < length (texts_of w.texts.now) = omega (arith, p.0, length-map w.texts.now (λ (t : Bor (List ℕ)). t.now)) in
       rw (lt-ltb place (length (texts_of w.texts.now)) h, p.1)
 
-  pub no-word : found ≡ None → Left 0
+  -- what `find` answers among the aliases
+  abbrev code_in : List Alias → Option ℕ
+  code_in aliases = option_map (λ (a : Alias). a.code) (find (λ (a : Alias). bytes_eq v a.text.now) aliases)
+
+  alias-code : (xs : List Alias) → alias_read w.unknown (map alias_of xs) v ≡ code_got (ok_or (code_in xs) w.unknown)
+  unfolding alias_read
+  alias-code [] = refl
+  alias-code (a ∷ xs) = rw (equals-pointwise v a.text.now) (by (equals v a.text.now) (alias-code xs))
+    where
+      by : (b : Bool) → alias_read w.unknown (map alias_of xs) v ≡ code_got (ok_or (code_in xs) w.unknown)
+          → cond b (Got.got (Value.number (count a.code))) (alias_read w.unknown (map alias_of xs) v)
+          ≡ code_got (ok_or (option_map (λ (a : Alias). a.code) (cond b (Some a) (find (λ (a : Alias). bytes_eq v a.text.now) xs))) w.unknown)
+      by true e = refl
+      by false e = e
+
+  pub no-word : found ≡ None → code_got (ok_or (code_in w.aliases.now) w.unknown) ≡ value_read (words_of w) v
   unfolding value_read word_read
   no-word e =
       let at = position-place (λ (t : Bor (List ℕ)). t.now) v w.texts.now in
       let h : length (texts_of w.texts.now) ≤ place =
       omega (arith, within-none (length w.texts.now) place (sym at ∙ e), length-map w.texts.now (λ (t : Bor (List ℕ)). t.now)) in
-      rw (le-ltb place (length (texts_of w.texts.now)) h)
-
-  module _ (i : ℕ) (d : Alias) (h : i < length w.aliases.now) (l : Left i) where
-    abbrev alias : Alias
-    alias = get_or w.aliases.now i d
-
-    pub alias-code : equals v alias.text.now ≡ true → code_got (Ok alias.code) ≡ value_read (words_of w) v
-    unfolding alias_read
-    alias-code e = sym (l ∙ rw (drop-cons w.aliases.now i d h, e))
-
-    pub other-alias : equals v alias.text.now ≡ false → Left (i + 1)
-    unfolding alias_read
-    other-alias e = l ∙ rw (drop-cons w.aliases.now i d h, e, add-one)
-
-  pub no-alias : (i : ℕ) → length w.aliases.now ≤ i → Left i → code_got (Err w.unknown) ≡ value_read (words_of w) v
-  unfolding alias_read
-  no-alias i h l = sym (l ∙ rw (drop_of_length-le w.aliases.now h))
+      rw (le-ltb place (length (texts_of w.texts.now)) h) (sym (alias-code w.aliases.now))

@@ -1,5 +1,8 @@
 // The codes of the words, as the table of keys counts them: those of an enum are its variants in order,
 // and code 0 is what absent means.
+//
+// Each enum has its own pair of functions, since each ties one enum to its table in specs/Slots; a cast
+// goes one way only, so that the way back is the table's rows.
 ghost use Rattle.std.specs.Prelude.{◌≡◌};
 ghost use Rattle.command.specs.Slots.{action_code, action_of, file_type_code, file_type_of};
 ghost use Rattle.command.specs.Slots.{transmission_code, transmission_of};

@@ -11,7 +11,8 @@ ghost use Rattle.command.specs.declared.keys.Row.{Row};
 use crate::Refusal;
 use crate::words::{Alias, Words};
 
-// The kinds of values; of a safe string, whether it is at most 32 bytes.
+// The kinds of values; of a safe string, whether it is at most 32 bytes. A flag and no two kinds, as in
+// specs/Keys: one test of a length hangs on it (`letters::over`), and both are else read and written alike.
 #[derive(Clone, Copy)]
 pub enum Kind {
     Integer,

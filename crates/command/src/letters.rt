@@ -1,5 +1,5 @@
 // Which bytes may stand where, and how many.
-ghost use Rattle.std.specs.Prelude.{◌+◌, ◌&&◌, ◌≡◌, drop, ltb};
+ghost use Rattle.std.specs.Prelude.{◌+◌, ◌&&◌, ◌≡◌, drop, ltb, not, position};
 ghost use Rattle.octets.specs.Members.{every};
 ghost use Rattle.command.specs.Classes.{byte_of, run};
 ghost use Rattle.command.specs.Letters.{key_byte, safe_byte, text_byte};
@@ -13,7 +13,7 @@ pub enum Class {
 }
 
 // Whether each byte of s is of the class. No early way out as `all` of an iterator has, so that many are
-// tested at once.
+// tested at once: by the same loop instead of `all` decoding in `base64_codec` is six times as fast.
 pub fn all(class: Class, s: &[u8]) -> bool
     ensures { result ≡ every (byte_of class) s.now }
 {
@@ -29,12 +29,20 @@ pub fn all(class: Class, s: &[u8]) -> bool
 pub fn pass(class: Class, s: &[u8], from: usize) -> usize
     ensures { result ≡ from + run (byte_of class) (drop from s.now) }
 {
-    for i in from..s.len() {
-        if !is(class, s[i]) {
-            return i;
-        }
+    if from > s.len() {
+        return from;
     }
-    from.max(s.len())
+    match lapse(class, &s[from..]) {
+        Some(passed) => from + passed,
+        None => s.len(),
+    }
+}
+
+// The first place where a byte of s is not of the class.
+fn lapse(class: Class, s: &[u8]) -> Option<usize>
+    ensures { result ≡ position (λ c. not (byte_of class c)) s.now }
+{
+    s.iter().position(|c| !is(class, *c))
 }
 
 // Whether a string is not "at most 32 bytes", where that is asked.

@@ -1,6 +1,6 @@
 // The words of a key.
-ghost use Rattle.std.specs.Prelude.{◌≡◌};
-ghost use Rattle.std.specs.List.{position};
+ghost use Rattle.std.specs.Prelude.{◌≡◌, option_map};
+ghost use Rattle.std.specs.List.{find, position};
 ghost use Rattle.std.specs.Str.{bytes_eq};
 ghost use Rattle.command.specs.Rows.{words_of};
 ghost use Rattle.command.specs.Values.{code_got, value_read};
@@ -32,12 +32,7 @@ impl Words {
         if let Some(i) = place_in(self.texts, text) {
             return Ok(u64::from(self.first) + i as u64);
         }
-        for alias in self.aliases {
-            if octets::equal(text, alias.text) {
-                return Ok(alias.code);
-            }
-        }
-        Err(self.unknown)
+        alias_in(self.aliases, text).ok_or(self.unknown)
     }
 }
 
@@ -46,4 +41,14 @@ fn place_in(texts: &[&'static [u8]], text: &[u8]) -> Option<usize>
     ensures { result ≡ position (λ t. bytes_eq text.now t.now) texts.now }
 {
     texts.iter().position(|known| text == *known)
+}
+
+// The code of the alias that a text is.
+fn alias_in(aliases: &[Alias], text: &[u8]) -> Option<u64>
+    ensures { result ≡ option_map (λ a. a.code) (find (λ a. bytes_eq text.now a.text.now) aliases.now) }
+{
+    aliases
+        .iter()
+        .find(|alias| text == alias.text)
+        .map(|alias| alias.code)
 }

@@ -32,7 +32,8 @@ fn ranged(negative: bool, magnitude: u64) -> Result<Number, ParseError>
     })
 }
 
-// The value of so few digits that any u64 can hold it.
+// The value of so few digits that any u64 can hold it. A loop and no `try_fold`: that a turn's product
+// fits is known from how many digits are read, which an invariant can say and a closure does not see.
 fn digits(text: &[u8]) -> Option<u64>
     requires { length text.now ≤ most_digits }
     ensures { result ≡ digits_of 0 text.now }

@@ -26,7 +26,8 @@ pub(crate) fn fill(n: Number, out: &mut [u8], at: usize)
     }
 }
 
-// Stores the last w digits of n from place `at` on.
+// Stores the last w digits of n from place `at` on. A loop and no `fold` over the places: each turn both
+// stores a digit and keeps the rest, so that a closure would be the same two lines.
 fn digits(n: u64, w: usize, out: &mut [u8], at: usize)
     requires { at + w ≤ length out.old }
     ensures { out.new ≡ sets out.old at (fixed w n) }

@@ -11,7 +11,8 @@ pub(crate) fn field(s: &[u8], at: usize, n: usize) -> u64
     little(octets::part(s, at, n))
 }
 
-// From the last byte on.
+// From the last byte on. A loop and no `fold`: that a turn's product fits is known from how many bytes are
+// left, which an invariant can say and a closure does not see.
 fn little(bytes: &[u8]) -> u64
     requires { length bytes.now ≤ 8 }
     ensures { (result ≡ number bytes.now) × (result < 256 ^ length bytes.now) }

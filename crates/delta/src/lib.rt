@@ -23,24 +23,20 @@ pub use operations::operation_at;
 use walk::Patch;
 pub use weak::{roll, weak_sum};
 
-// Why a call is refused: an input over the limit; bytes that are no signature or no delta of the old file;
-// too little room.
+// Why a call is refused, each with its number: an input over the limit; bytes that are no signature or no
+// delta of the old file; too little room.
 #[derive(Clone, Copy, PartialEq, Eq, Debug)]
 pub enum Refusal {
-    TooLong,
-    Damaged,
-    NoRoom,
+    TooLong = 17,
+    Damaged = 16,
+    NoRoom = 9,
 }
 
 impl Refusal {
     pub fn number(self) -> u8
         ensures { result ≡ Calls.refusal_number self }
     {
-        match self {
-            Refusal::TooLong => 17,
-            Refusal::Damaged => 16,
-            Refusal::NoRoom => 9,
-        }
+        self as u8
     }
 }
 
@@ -59,7 +55,8 @@ pub struct Entry {
     pub strong: u64,
 }
 
-// Where bytes start in a delta or a file, and how many they are.
+// Where bytes start in a delta or a file, and how many they are. Not `command::Place`, whose shape this
+// is: this crate stands over `octets` alone, and takes no codec of commands for two fields.
 #[derive(Clone, Copy)]
 pub struct Span {
     pub start: usize,

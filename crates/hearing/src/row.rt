@@ -1,4 +1,5 @@
-// A row of what was heard, as seven numbers and read from them.
+// A row of what was heard, as seven numbers and read from them: a caller of `hear` lends numbers, and
+// `read_back` in its contract reads them there, the kind and the places.
 ghost use Rattle.std.specs.Prelude.{◌≡◌, ◌+◌, ◌*◌, ◌≤◌, length};
 ghost use Rattle.std.proofs.lemmas.List.Edits.{sets};
 ghost use Rattle.hearing.specs.Rows.{is_start, kind_of, row_at, row_numbers};
@@ -25,25 +26,23 @@ impl Row {
     // How many numbers a row has.
     pub const LEN: usize = 7;
 
-    // The row that has so many before it.
-    pub fn read(events: &[usize], row: usize) -> Row
-        requires { row * 7 + 7 ≤ length events.now }
-        ensures { result ≡ row_at events.now (row * 7) }
+    pub fn read(numbers: &[usize; Row::LEN]) -> Row
+        ensures { result ≡ row_at numbers.now 0 }
     {
-        let at = row * Row::LEN;
+        let [kind, id, id_len, file, file_len, part, part_len] = *numbers;
         Row {
-            kind: kind_of(events[at]),
+            kind: kind_of(kind),
             id: Place {
-                start: events[at + 1],
-                len: events[at + 2],
+                start: id,
+                len: id_len,
             },
             file_id: Place {
-                start: events[at + 3],
-                len: events[at + 4],
+                start: file,
+                len: file_len,
             },
             part: Place {
-                start: events[at + 5],
-                len: events[at + 6],
+                start: part,
+                len: part_len,
             },
         }
     }

@@ -42,7 +42,8 @@ pub fn find(s: &[u8], from: usize, b: u8) -> usize
     blocks::first(s, last, b)
 }
 
-// The n bytes of s from place `start` on, and none where they pass its end.
+// The n bytes of s from place `start` on, and none where they pass its end. Empty and no `Option`: the
+// clause says `part_of`, by which the definitions of the crates above read a place.
 pub fn part(s: &[u8], start: usize, n: usize) -> &[u8]
     ensures { result.now ≡ part_of s.now start n }
 {

@@ -37,7 +37,8 @@ fn read_named(rt: &HostRuntime, path: &[u8], buf: &mut [u8]) -> io::Result<usize
     fill(&mut file, buf)
 }
 
-// Writes the new file to its place; whether all was written.
+// Writes the new file to its place; whether all was written. An error is said where its file's name is known,
+// and none is left to hand on.
 pub(crate) fn deliver(rt: &HostRuntime, new: &[u8], to_file: bool) -> bool {
     if to_file {
         return replace(rt, new);

@@ -151,8 +151,8 @@ emptied g n s =
       files = no_files;
     }
 
-emptied-sound : (g : SessionState) → is_present g ≡ true → (n : ℕ) (s : Session) → IsId (id_of s) → s.id.bytes ≡ padded (id_of s) → s.quiet ≤ 2
-    → SoundSession (emptied g n s) None
+emptied-sound : (g : SessionState) → is_present g ≡ true → (n : ℕ) (s : Session) → IsId (id_of s) → s.id.bytes ≡ padded (id_of s)
+    → s.quiet ≤ 2 → SoundSession (emptied g n s) None
 emptied-sound g p n s id filled quiet =
     fileless refl free-at (λ z. no_way (sym p ∙ z)) (λ _. id) filled quiet (record { started = refl; done_bytes = refl })
 

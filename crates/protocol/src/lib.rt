@@ -31,6 +31,8 @@ use frames::{Framing, Report};
 pub use id::Id;
 
 // ---- The receiver: nested arrays by value.
+// Free is a state, and the array holds no Options: theorem `SoundSession` (clause `file_for`) says that a
+// record of it is blank, which would say nothing of a None.
 #[derive(Clone, Copy)]
 pub enum FileState {
     Free,
@@ -49,12 +51,14 @@ pub enum FileState {
 pub struct FileRecord {
     pub id: Id,
     pub count: u64,
+    // 0 and no Option: theorem `ClosedWhole.declared` speaks of declared lengths from 1 on.
     pub declared: u64,
     pub state: FileState,
 }
 
 // A send session is asked and then open. A receive session names its paths, waits for the user, and is
 // then open: it lists, and after the home path it serves.
+// Absent is a state, and the table holds no Options: document 01's action table has a row for it.
 #[derive(Clone, Copy)]
 pub enum SessionState {
     Absent,
@@ -188,7 +192,8 @@ pub enum Decision {
 #[derive(Clone, Copy)]
 pub enum Told {
     Nothing,
-    // A refusal, by its number in document 01 (`refusals`).
+    // A refusal, by its number in document 01 (`refusals`). No enum: docs/CONSOLE.md tells refusals apart by
+    // number, and definitions `refusal_told` and `Saying` read it.
     Refused(u8),
     // A command was read, and the rule ignores it.
     Ignored,
@@ -211,7 +216,8 @@ pub enum Told {
     Committed,
 }
 
-// A reply that is due. A size of 0 is left out, as is an empty file id.
+// A reply that is due. A size of 0 is left out, as is an empty file id: so docs/PROTOCOL.md (Replies), and
+// with Options a Some of these would be left out all the same.
 #[derive(Clone, Copy)]
 pub struct Reply {
     pub status: Status,
@@ -269,6 +275,7 @@ pub struct Fed {
     pub consumed: usize,
     pub report: Report,
     pub told: Told,
+    // No Option: README's loop and docs/CONSOLE.md read `fed.command.id` as it stands.
     pub command: Command,
     pub reply_len: usize,
 }

@@ -50,10 +50,7 @@ fn hear_text(text: &[u8], scratch: &mut [u8]) -> Result<Command, Told>
 fn read(text: &[u8], scratch: &mut [u8]) -> Result<Command, Told>
     ensures { outcome result scratch.new ≡ read_said (read_of text.now scratch.old) }
 {
-    match command_reader::read(text, scratch) {
-        Ok(command) => Ok(command),
-        Err(refusal) => Err(Told::Refused(refusal.number())),
-    }
+    command_reader::read(text, scratch).map_err(|refusal| Told::Refused(refusal.number()))
 }
 
 // A report, given its text: its command is obeyed.

@@ -15,10 +15,10 @@ ghost use Rattle.session_in_place.specs.Feeds.{fed_in};
 ghost use Rattle.session_in_place.specs.Steps.{takes, left_in};
 
 use command::Command;
-use protocol::Receiver;
+use protocol::{Receiver, Told};
 use session_in_place::calls;
 use session_in_place::calls::answer_at;
-use session_in_place::feeds::{act, hear};
+use session_in_place::feeds::{Heard, act, hear};
 use session_in_place::steps::place_of;
 use session_in_place::supplies::supply_in;
 pub use session_in_place::{AnsweredInPlace, Call, FedInPlace};
@@ -51,15 +51,7 @@ pub fn feed<'r, 'p, 'b>(
     receiver.framing = heard.framing;
     let command = match heard.said {
         Ok(command) => command,
-        Err(told) => {
-            return FedInPlace {
-                consumed: heard.consumed,
-                report: heard.report,
-                told,
-                command: Command::NONE,
-                reply_len: 0,
-            };
-        }
+        Err(told) => return fed(&heard, Command::NONE, told, 0),
     };
     let i = place_of(heard.found);
     let text = frames::text(piece, carry, heard.report);
@@ -73,12 +65,25 @@ pub fn feed<'r, 'p, 'b>(
         reply,
     );
     let answered = put_back(receiver, i, left);
+    fed(&heard, command, answered.told, answered.reply_len)
+}
+
+// What a feed answers of what it heard.
+fn fed(heard: &Heard, command: Command, told: Told, reply_len: usize) -> FedInPlace
+    ensures { result ≡ record {
+      consumed = heard.now.consumed;
+      report = heard.now.report;
+      told = told;
+      command = command;
+      reply_len = reply_len;
+    } }
+{
     FedInPlace {
         consumed: heard.consumed,
         report: heard.report,
-        told: answered.told,
+        told,
         command,
-        reply_len: answered.reply_len,
+        reply_len,
     }
 }
 

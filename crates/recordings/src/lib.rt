@@ -39,18 +39,15 @@ impl Mended {
 // Why nothing was done with a recording: it is over the limit, or there is no room for what it gives.
 #[derive(Clone, Copy, Debug, PartialEq, Eq)]
 pub enum Refusal {
-    TooLong,
-    NoRoom,
+    TooLong = 17,
+    NoRoom = 9,
 }
 
 impl Refusal {
     pub fn number(self) -> u8
         ensures { result ≡ refusal_number self }
     {
-        match self {
-            Refusal::TooLong => 17,
-            Refusal::NoRoom => 9,
-        }
+        self as u8
     }
 }
 

@@ -125,7 +125,8 @@ fn put_row(list: &mut [usize], row: usize, start: usize, len: usize, fault: Opti
     }
 }
 
-// The number of a stretch that is dropped: 0 outside a command.
+// The number of a stretch that is dropped: 0 outside a command. A caller of `mend` lends numbers, and `mend_of`
+// speaks of them.
 fn why(fault: Option<Fault>) -> usize
     ensures { result ≡ Walk.why_number fault }
 {

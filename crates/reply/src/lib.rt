@@ -17,7 +17,8 @@ use protocol::{Reply, Status};
 pub use texts::word_of;
 
 // Stores a reply at the buffer's start and says how long it is. Where none is due, quiet holds it back, or
-// it does not fit, the length is 0 and the buffer as before. That every reply is canonical text and reads
+// it does not fit, the length is 0 and the buffer as before (no Option: definition `replied_of` and README's
+// loop, which sends so many bytes, take the 0). That every reply is canonical text and reads
 // back as what it says stands here too.
 pub fn send(reply: Option<Reply>, buffer: &mut [u8]) -> usize
     ensures buffer_after { outcome result buffer.new ≡ replied_of reply buffer.old }

@@ -5,6 +5,7 @@ ghost use Rattle.std.specs.Prelude.{◌≡◌};
 ghost use Rattle.octets.specs.Outcome.{outcome};
 ghost use Rattle.reply.specs.Puts.{put, put_all, stored, stored_all, texts};
 
+// A named form: document 01 asks for this struct (docs/DECISIONS.md).
 #[derive(Drop)]
 struct Writer<'b> {
     buf: &'b mut [u8],

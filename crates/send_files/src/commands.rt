@@ -88,7 +88,7 @@ fn after(
     }
 }
 
-// Whether the bytes were written; where not, that is said.
+// Whether the bytes were written; where not, that is said here, and no error is left to hand on.
 fn write(rt: &HostRuntime, bytes: &[u8]) -> bool {
     let run = Run::Well(rt.stdout()).text(bytes);
     if !run.is_well() {

@@ -5,7 +5,7 @@ use sender_status::stages;
 use sending::{Sender, SentFile};
 
 // The sender, what was said of its files, and the current one. Whether the latest command is answered, and
-// whether the session goes on.
+// whether the session goes on: two flags, since after a call each of the four cases is met.
 #[derive(Clone, Copy)]
 pub struct Course {
     pub sender: Sender,

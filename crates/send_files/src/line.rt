@@ -8,6 +8,7 @@ use sending::News;
 use streams::Run;
 
 // What was read, of which the bytes from `at` to `end` are not yet heard, and the carry that hears are lent.
+// A program has fixed memory too, so it is an array with these places.
 #[derive(Drop)]
 pub struct Line {
     input: [u8; 4096],

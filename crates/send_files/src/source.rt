@@ -2,7 +2,8 @@
 use std::fs::File;
 use std::io::{Seek, SeekFrom};
 
-// A file that can be read: its size, which is 0 where it cannot be told, and how many bytes its first piece has.
+// A file that can be read: its size, and how many bytes its first piece has. The size is 0 where it cannot be
+// told, as `sender::file` takes it.
 #[derive(Clone, Copy)]
 pub struct Start {
     pub size: u64,

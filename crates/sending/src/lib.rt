@@ -53,7 +53,7 @@ pub struct SentFile {
 }
 
 // A session and its files, in the order in which they were begun. "One file at a time": the last one is
-// the current one.
+// the current one. A library has fixed memory, so the files are an array with how many were begun.
 #[derive(Clone, Copy)]
 pub struct Transfer {
     pub stage: Stage,
@@ -71,7 +71,8 @@ pub struct Sender {
 
 // ---- What a call answers.
 // What a call that writes answers: the sender, and the length of the frame at the buffer's start, or a
-// refusal. It is told by its number, as in the news: the writer's refusals are among them.
+// refusal. It is told by its number, as in the news: the contracts of the calls (`unwritten`, `wrote_by`) have
+// it so, and the writer's refusals are among them.
 #[derive(Clone, Copy)]
 pub struct Wrote {
     pub sender: Sender,

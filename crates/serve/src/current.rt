@@ -64,8 +64,9 @@ impl Current {
 
     // Each path is looked at: one whose file can be opened is listed.
     pub(crate) fn looked(mut self, rt: &HostRuntime) -> Current {
-        for i in 0..self.count.min(Session::FILES) {
-            self.paths[i].listed = files::look(rt, self.paths[i].argument);
+        let n = self.count.min(Session::FILES);
+        for path in &mut self.paths[..n] {
+            path.listed = files::look(rt, path.argument);
         }
         self
     }

@@ -12,7 +12,7 @@ pub(crate) fn open(rt: &HostRuntime, k: usize) -> io::Result<File> {
     open_read(rt, octets::part(&path, 0, n))
 }
 
-// The size that is listed, 0 for none; None where the file cannot be opened.
+// The size that is listed, 0 for none as an entry has it; None where the file cannot be opened.
 pub(crate) fn look(rt: &HostRuntime, k: usize) -> Option<u64> {
     match open(rt, k) {
         Ok(mut file) => Some(listed_size(&mut file)),

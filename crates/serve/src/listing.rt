@@ -21,7 +21,7 @@ const PATH_ID: usize = Id::ROOM;
 // Where the name stands behind the file's own id.
 const NAME: usize = 20;
 
-// A file's entry, and the slice in which its own id and its name stand.
+// A file's entry, and the slice in which its own id and its name stand: an entry's places are of one slice.
 #[derive(Clone, Copy)]
 pub struct Described {
     pub entry: Entry,
@@ -48,8 +48,13 @@ fn allow(err: Stderr, console: Console, current: Current) -> Console {
 
 fn list_each(rt: &HostRuntime, console: Console, current: Current) -> Console {
     let mut next = console;
-    for i in 0..current.count.min(Session::FILES) {
-        next = list(rt, next, current, current.paths[i], i + 1);
+    for (path, number) in current
+        .paths
+        .iter()
+        .take(current.count)
+        .zip(1..=Session::FILES)
+    {
+        next = list(rt, next, current, *path, number);
     }
     next
 }

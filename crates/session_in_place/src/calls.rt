@@ -33,10 +33,7 @@ pub fn concerned(
 fn owner(owed: Option<(usize, Due)>) -> Option<usize>
     ensures { result ≡ owner_of owed }
 {
-    match owed {
-        Some((i, _)) => Some(i),
-        None => None,
-    }
+    owed.map(|(i, _)| i)
 }
 
 // The call's step on the session that was copied out, its reply stored. 9 first, but of a drop, which

@@ -25,7 +25,8 @@ pub enum Call {
     Unlisted,
 }
 
-// What a feed answers: `Fed` without the receiver.
+// What a feed answers: `Fed` without the receiver. `Fed` does not hold it, nor `Answered` the one below:
+// README and docs/CONSOLE.md read `fed.told`, `fed.command`, `answered.reply_len` as they stand.
 #[derive(Clone, Copy)]
 pub struct FedInPlace {
     pub consumed: usize,

@@ -17,6 +17,8 @@ pub fn look_up(state: SessionState, action: Action) -> Kind
     Table::ACTIONS[state_number(state)][code - 1]
 }
 
+// Here and below `as` stands alone, to give the number its definition in specs: in the look-up it would
+// leave the proof to find both at once, which is no plainer.
 fn state_number(state: SessionState) -> usize
     ensures { (result ≡ state_number state) × (result < 7) }
 {

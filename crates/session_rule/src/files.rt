@@ -5,6 +5,8 @@ ghost use Rattle.protocol.specs.Table.{no_file, first, is_used, is_free, is_star
 
 use protocol::{FileRecord, FileState};
 
+// This search and the next are a line each, as those of `sessions` are: one function over the record types
+// would need a trait and its laws, and be no plainer.
 pub(crate) fn find_file(files: &[FileRecord], id: &[u8]) -> Option<usize>
     ensures { result ≡ first (has_file_id id.now) files.now }
 {

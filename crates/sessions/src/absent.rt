@@ -1,11 +1,11 @@
 // A command whose session is absent: a new session waits for the user or names its paths, or a status
 // is replied.
 ghost use Rattle.std.specs.Prelude.{cond, ◌≡◌};
-ghost use Rattle.protocol.specs.Table.{first, is_absent, put_session};
+ghost use Rattle.protocol.specs.Table.{put_session};
 ghost use Rattle.protocol.specs.Actions.{kind_of};
 ghost use Rattle.protocol.specs.Change.{telling};
 ghost use Rattle.protocol.specs.Receives.{bad_paths};
-ghost use Rattle.protocol.specs.Sessions.{asked_session, naming_session, absent_status, send_room, receive_room, absent_result};
+ghost use Rattle.protocol.specs.Sessions.{asked_session, naming_session, absent_status, absent_result};
 ghost use Rattle.sessions.specs.Leaving.{taken};
 
 use crate::find::free;
@@ -20,34 +20,22 @@ use session_rule::replies::session_reply;
 pub(crate) fn absent(table: Table, action: Action, quiet: u64, size: Number, id: &[u8]) -> Next
     ensures { taken table result ≡ absent_result table (asked_session quiet id.now) size (kind_of SessionState.Absent action) }
 {
-    match look_up(SessionState::Absent, action) {
-        Kind::Ask => send(table, asked(quiet, id)),
-        Kind::Receive => receive(table, asked(quiet, id), size),
-        _ => tell(table, Told::Ignored),
+    let kind = look_up(SessionState::Absent, action);
+    if !matches!(kind, Kind::Ask | Kind::Receive) {
+        return tell(table, Told::Ignored);
     }
-}
-
-// A new session, where there is room.
-fn send(table: Table, session: Session) -> Next
-    ensures { taken table result ≡ send_room table session (first is_absent table.sessions) }
-{
+    let session = asked(quiet, id);
     match free(&table.sessions) {
         None => absent_status(table, session, Status::Ebusy),
-        Some(i) => placed(table, i, session, Told::Asked),
+        Some(i) => match kind {
+            Kind::Receive => receive_at(table, i, session, size),
+            _ => placed(table, i, session, Told::Asked),
+        },
     }
 }
 
-// A new session that names its paths: "any other `sz` gives EINVAL, full places EBUSY before that".
-fn receive(table: Table, session: Session, paths: Number) -> Next
-    ensures { taken table result ≡ receive_room table session paths (first is_absent table.sessions) }
-{
-    match free(&table.sessions) {
-        None => absent_status(table, session, Status::Ebusy),
-        Some(i) => receive_at(table, i, session, paths),
-    }
-}
-
-// There is room for it at place i.
+// A new session at place i that names its paths: "any other `sz` gives EINVAL, full places EBUSY before
+// that".
 fn receive_at(table: Table, i: usize, session: Session, paths: Number) -> Next
     ensures { taken table result ≡ cond (bad_paths paths) (absent_status table session Status.Einval)
         (telling (put_session table i (naming_session session paths.magnitude)) Told.Naming) }

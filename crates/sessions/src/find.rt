@@ -11,7 +11,8 @@ pub fn find_session(table: Table, id: &[u8]) -> Option<usize>
     find(&table.sessions, id)
 }
 
-// The place of the session with an id.
+// The place of the session with an id. One function for this search and that of `free`, or of files, would
+// need a test handed in or a trait with laws: no plainer than a line each.
 pub fn find(sessions: &[Session], id: &[u8]) -> Option<usize>
     ensures { result ≡ first (has_id id.now) sessions.now }
 {

@@ -26,10 +26,7 @@ pub(crate) fn done_bytes_with(kept: u64, old: FileRecord, new: FileRecord) -> u6
 fn started_share(state: FileState) -> u64
     ensures { result ≡ cond (is_started_state state) 1 0 }
 {
-    match state {
-        FileState::Started => 1,
-        _ => 0,
-    }
+    u64::from(matches!(state, FileState::Started))
 }
 
 // What a record in that state with that count adds to the sum of counts of done files.

@@ -14,21 +14,17 @@ const TOO_LONG: i32 = 36;
 pub fn argument(env: &impl Env, i: usize, buf: &mut [u8]) -> io::Result<usize>
     ensures { ReadsAtMost result buf.new }
 {
-    match env.arg(i, buf) {
-        Ok(n) => Ok(n),
-        Err(FillError::NotPresent) => Err(io::Error::from_raw_os_error(INVALID)),
-        Err(FillError::TooLong) => Err(io::Error::from_raw_os_error(TOO_LONG)),
-    }
+    env.arg(i, buf).map_err(|error| match error {
+        FillError::NotPresent => io::Error::from_raw_os_error(INVALID),
+        FillError::TooLong => io::Error::from_raw_os_error(TOO_LONG),
+    })
 }
 
 // How many arguments there are, the program's name among them.
 pub fn argument_count(env: &impl Env) -> usize {
-    for i in 0..usize::MAX {
-        if is_missing(env, i) {
-            return i;
-        }
-    }
-    usize::MAX
+    (0..usize::MAX)
+        .find(|i| is_missing(env, *i))
+        .unwrap_or(usize::MAX)
 }
 
 fn is_missing(env: &impl Env, i: usize) -> bool {

@@ -17,8 +17,5 @@ pub fn path_text(path: &[u8]) -> io::Result<&str>
     ensures text { IfOk result (λ text. text.now ≡ path.now) }
     ensures taken { IsOk result ↔ IsUtf8 path.now }
 {
-    match str::from_utf8(path) {
-        Ok(text) => Ok(text),
-        Err(_) => Err(io::Error::from_raw_os_error(NO_TEXT)),
-    }
+    str::from_utf8(path).map_err(|_| io::Error::from_raw_os_error(NO_TEXT))
 }

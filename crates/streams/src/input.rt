@@ -59,8 +59,5 @@ pub fn fill<R: Read>(input: &mut R, buf: &mut [u8]) -> io::Result<usize>
 fn counted(answer: io::Result<usize>, buf: &[u8]) -> Option<usize>
     ensures { result ≡ got_of answer (length buf.now) }
 {
-    match answer {
-        Ok(n) => Some(n.min(buf.len())),
-        Err(_) => None,
-    }
+    answer.ok().map(|n| n.min(buf.len()))
 }

@@ -49,7 +49,8 @@ pub struct Given<'a> {
 }
 
 // What a call leaves: the session to put back, what is owed, what is told, and how many bytes of the
-// buffer were written.
+// buffer were written. `Next` of `sessions` has a place and a reply still to be stored instead: one struct
+// for both would carry what either has no use for, and be no plainer.
 #[derive(Clone, Copy)]
 pub struct Left {
     pub session: Session,

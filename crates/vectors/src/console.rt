@@ -61,6 +61,7 @@ fn feed(receiver: Receiver, piece: &[u8], reply: &mut [u8]) -> Answered {
     }
 }
 
+// Of two lengths of replies, each 0 for no reply as `reply_len` is.
 fn first(n: usize, m: usize) -> usize {
     if n > 0 { n } else { m }
 }

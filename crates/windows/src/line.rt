@@ -1,4 +1,5 @@
-// A line of the list, as six numbers and read from them.
+// A line of the list, as six numbers and read from them: a caller of `compare` lends numbers, and its contract
+// speaks of them, of the judgement too.
 ghost use Rattle.std.specs.Prelude.{◌≡◌, ◌+◌, ◌*◌, ◌≤◌, length};
 ghost use Rattle.std.proofs.lemmas.List.Edits.{sets};
 ghost use Rattle.windows.specs.Lines.{judgement_number, judgement_offset, judgement_of, line_numbers, line_in, WrittenReads};

@@ -6,8 +6,8 @@ ghost use Rattle.windows.specs.Steps.{heard, key_of, rank_at, partner_of, is_lef
 
 use crate::side::{Pair, Side};
 
-// How many starts of a pair there are. It and the search below go over all rows for each start: each is a
-// loop of its own, with what it asks of a row inside.
+// How many starts of a pair there are. It and the search below go over all rows for each start. Each is a loop
+// of its own, what it asks of a row inside: without, long recordings took 123 and 108 ms where they take 112 and 91.
 #[inline(never)]
 fn count(side: Side, pair: Pair) -> usize
     ensures { result ≡ count_of (key_of pair.entry) (starts_in (heard side.entry)) }

@@ -46,7 +46,17 @@ impl<'a> Side<'a> {
         requires { row * 7 + 7 ≤ length self.events.now }
         ensures { result ≡ row_at self.entry.events.now (row * 7) }
     {
-        Row::read(self.events, row)
+        let at = row * Row::LEN;
+        let events = self.events;
+        Row::read(&[
+            events[at],
+            events[at + 1],
+            events[at + 2],
+            events[at + 3],
+            events[at + 4],
+            events[at + 5],
+            events[at + 6],
+        ])
     }
 
     // What stands at a place of the recording.

@@ -1,12 +1,10 @@
 use Prim.Native.Nat.{ℕ, ◌-◌, ◌*◌, ◌/◌}
-use mathlib.Core.Path.{◌≡◌, refl, sym, ◌∙◌}
+use mathlib.Core.Path.{◌≡◌, sym, ◌∙◌}
 use mathlib.Core.List.{List}
 use native.Mathlib.Omega.{arith}
 use lib.ListN.{length}
 use borrow.Author.Tests.{leb-true}
-use Rattle.base64_codec.specs.Alphabet.{value_of}
 use Rattle.base64_codec.specs.Decode.{verdict_of, bytes_of, decode_of}
-use Rattle.base64_codec.specs.Values.{values_from}
 use Rattle.std.specs.Prelude.{Ok}
 use Rattle.std.proofs.lemmas.Result.{err_from_is_err_and}
 use Rattle.base64_codec.proofs.Lengths.{length_valid}
@@ -16,10 +14,6 @@ use Rattle.base64_codec.proofs.decode.Goals as goal
 -- so many bytes are asked for
 size : (t : List ℕ) (n : ℕ) → verdict_of t ≡ Ok n → length (bytes_of t) ≡ length t / 4 * 3 - n
 size t n e = omega (arith, length_valid t n e)
-
-pub check-requires : goal.check-requires
-unfolding values_from value_of
-check-requires c = refl
 
 pub overflow_sub-n : goal.overflow_sub-n
 overflow_sub-n c = omega (arith, length_valid _ _ (sym c.in_ok-padding.ensures))
@@ -32,10 +26,6 @@ returns-then-not-fits-clause-out_after c =
 
 pub returns-then-not-fits-clause-decoded_encodes : goal.returns-then-not-fits-clause-decoded_encodes
 returns-then-not-fits-clause-decoded_encodes c = decode-encode
-
-pub fill-requires-clause-table_value : goal.fill-requires-clause-table_value
-unfolding values_from value_of
-fill-requires-clause-table_value c = refl
 
 pub fill-requires-clause-room : goal.fill-requires-clause-room
 fill-requires-clause-room c = rw (size _ _ (sym c.in_ok-padding.ensures)) (leb-true _ _ (sym c.fits.ensures ∙ c.if-not-fits.false))

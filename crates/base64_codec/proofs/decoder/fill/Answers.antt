@@ -52,8 +52,8 @@ full-requires-clause-room c =
     let m = count-last c.args.text.now _ _ q.0 q.1 q.2 v.0 v.1 in
     omega (arith, n, m, count c.args.text.now _ _ q.0 q.1 q.2 v.0 v.1)
 
-pub last-requires-clause-room : goal.last-requires-clause-room
-last-requires-clause-room c =
+pub last-requires : goal.last-requires
+last-requires c =
     let q = c.in-Some.ensures.cases in
     let v = c.requires.text_value in
     let m = count-last c.args.text.now _ _ q.0 q.1 q.2 v.0 v.1 in

@@ -1,13 +1,11 @@
 use Prim.Native.Nat.{ℕ, ◌+◌, ◌-◌, ◌*◌, ◌/◌, ◌%◌}
-use mathlib.Core.Path.{◌≡◌, refl, sym, ◌∙◌}
+use mathlib.Core.Path.{◌≡◌, sym, ◌∙◌}
 use mathlib.Core.List.{List, ◌++◌}
 use native.Mathlib.Omega.{arith}
 use lib.ListN.{length}
 use borrow.Author.Tests.{leb-true}
-use Rattle.base64_codec.specs.Alphabet.{value_of}
 use Rattle.base64_codec.specs.Decode.{verdict_of, bytes_of, decode_of}
 use Rattle.base64_codec.specs.Padding.{joined_verdict}
-use Rattle.base64_codec.specs.Values.{values_from}
 use Rattle.std.specs.Prelude.{Ok}
 use Rattle.std.proofs.lemmas.Result.{err_from_is_err_and}
 use Rattle.base64_codec.proofs.Halves.{verdict-joined, both_valid, size-first, size-last, size-both, sets-both}
@@ -35,14 +33,6 @@ module _
   count : length (bytes_of (groups ++ last)) ≡ (length groups / 4 * 3 + 3) - padding
   count = size-both groups last whole four padding first second
 
-pub check-requires : goal.check-requires
-unfolding values_from value_of
-check-requires c = refl
-
-pub check-requires-2 : goal.check-requires-2
-unfolding values_from value_of
-check-requires-2 c = refl
-
 pub overflow_sub-n : goal.overflow_sub-n
 overflow_sub-n c =
     let joint = rw (c.check.ensures, c.check-2.ensures) at (sym c.in_ok-padding.ensures) in
@@ -54,20 +44,12 @@ returns-then-not-fits c =
     let joint = rw (c.check.ensures, c.check-2.ensures) at (sym c.in_ok-padding.ensures) in
     rw (together _ _ c.requires c.told-last _ joint, count _ _ c.requires c.told-last _ joint, ← c.fits.ensures, c.if-not-fits.true)
 
-pub fill-requires-clause-table_value : goal.fill-requires-clause-table_value
-unfolding values_from value_of
-fill-requires-clause-table_value c = refl
-
 -- past the test there is room for both
 pub fill-requires-clause-room : goal.fill-requires-clause-room
 fill-requires-clause-room c =
     let joint = rw (c.check.ensures, c.check-2.ensures) at (sym c.in_ok-padding.ensures) in
     let room = leb-true _ _ (sym c.fits.ensures ∙ c.if-not-fits.false) in
     omega (arith, count-first _ _ c.requires c.told-last _ joint, count-last _ _ c.requires c.told-last _ joint, room)
-
-pub fill-requires-2-clause-table_value : goal.fill-requires-2-clause-table_value
-unfolding values_from value_of
-fill-requires-2-clause-table_value c = refl
 
 pub fill-requires-2-clause-room : goal.fill-requires-2-clause-room
 fill-requires-2-clause-room c =

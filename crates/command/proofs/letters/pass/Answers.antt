@@ -1,24 +1,22 @@
-use mathlib.Core.Path.{sym, ◌∙◌}
-use native.Mathlib.Omega.{arith}
-use Rattle.command.specs.Classes.{byte_of}
-use Rattle.command.proofs.Runs.{run_on, run-off, run_end}
+use Rattle.std.proofs.Common.{arith, sym, ◌∙◌, ap, length-drop, length, ◌≡◌, ◌+◌, drop}
+use Rattle.octets.proofs.Lists.{part-rest}
+use Rattle.command.specs.Classes.{byte_of, run}
+use Rattle.command.proofs.Runs.{lapse-some, lapse-none, run_end}
 use Rattle.command.proofs.letters.pass.Goals as goal
 
-pub returns-then-not-is : goal.returns-then-not-is
-returns-then-not-is c =
-    let l = c.loop-i in
-    let a = c.args in
-    omega (arith, l.invariant.1, run-off (byte_of a.class) a.s.now l.i (omega arith) (sym c.is.ensures ∙ c.if-not-is.true))
+pub returns-then-from-s : goal.returns-then-from-s
+returns-then-from-s c = let a = c.args in omega (arith, run_end (byte_of a.class) a.s.now a.from (omega arith))
 
-pub loop-i-preserved : goal.loop-i-preserved
-loop-i-preserved c =
-    let l = c.loop-i in
+pub returns-in-Some : goal.returns-in-Some
+returns-in-Some c =
     let a = c.args in
-    let on = run_on (byte_of a.class) a.s.now l.i (omega arith) (sym c.is.ensures ∙ c.if-not-is.false) in
-    (omega arith, omega (arith, l.invariant.1, on))
+    let f = byte_of a.class in
+    ap (◌+◌ a.from) (lapse-some f _ c.in-Some.passed (sym c.in-Some.ensures) ∙ ap (run f) (part-rest a.s.now a.from))
 
-pub returns : goal.returns
-returns c =
-    let l = c.loop-i in
+pub returns-in-None : goal.returns-in-None
+returns-in-None c =
     let a = c.args in
-    omega (arith, c.max.ensures, l.invariant.0, l.invariant.1, run_end (byte_of a.class) a.s.now l.i (omega arith))
+    let f = byte_of a.class in
+    let e : run f (drop a.from a.s.now) ≡ _ =
+    sym (ap (run f) (part-rest a.s.now a.from)) ∙ lapse-none f _ (sym c.in-None.ensures) ∙ ap length (part-rest a.s.now a.from) in
+    omega (arith, e, length-drop a.from a.s.now)

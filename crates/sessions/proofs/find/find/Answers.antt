@@ -9,5 +9,6 @@ use Rattle.sessions.proofs.find.find.Goals as goal
 pub returns : goal.returns
 returns c =
     let sessions = c.args.sessions.now in
-    position_from_yields_List (has_id c.args.id.now) _ _ _ c.position.ensures.ran (YieldsList-from_slice sessions cc) (λ x b q k. search (rules, tests))
+    position_from_yields_List (has_id c.args.id.now) _ _ _ c.position.ensures.ran (YieldsList-from_slice sessions cc)
+    (λ x b q k. search (rules, tests))
     ∙ sym (first_position (has_id c.args.id.now) sessions)
