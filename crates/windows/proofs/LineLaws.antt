@@ -9,10 +9,8 @@ use lib.Seq.{sets, length-sets}
 use lib.Dec.{leb}
 use borrow.Author.Tests.{le-leb}
 use Rattle.octets.proofs.Stores.{sets-append}
-use Rattle.hearing.specs.declared.row.Row.{Row}
-use Rattle.windows.specs.Compare.{Verdict, Line, verdict_number, offset_of, numbers_of, listed}
-use Rattle.windows.specs.Lines.{line_numbers}
-use Rattle.windows.specs.Steps.{judged, line_with, with_line, Writes}
+use Rattle.windows.specs.Compare.{Line, numbers_of, listed}
+use Rattle.windows.specs.Steps.{with_line, Writes}
 
 -- ---- the list as numbers
 pub listed-length : (ls : List Line) → length (listed ls) ≡ length ls * 6
@@ -24,15 +22,6 @@ listed-append : (ls ms : List Line) → listed (ls ++ ms) ≡ listed ls ++ liste
 unfolding listed
 listed-append [] ms = refl
 listed-append (l ∷ ls) ms = ap (λ (x : List ℕ). numbers_of l ++ x) (listed-append ls ms)
-
--- a line as the code writes it
-pub line-numbers : (v : Verdict) (r : Row)
-    → line_numbers (line_with (judged v) r)
-    ≡ verdict_number v ∷ offset_of v ∷ r.id.start ∷ r.id.len ∷ r.file_id.start ∷ r.file_id.len ∷ []
-line-numbers Verdict.only_first r = refl
-line-numbers Verdict.only_second r = refl
-line-numbers Verdict.same r = refl
-line-numbers (Verdict.different n) r = refl
 
 -- ---- what is stored
 writes-none : (row : ℕ) (list : List ℕ) → Writes [] row list row list

@@ -8,4 +8,5 @@ pub returns : goal.returns
 returns c =
     let a = c.args in
     let h : length a.transfer.id.bytes ≡ 32 = search rules in
-    rw (← finish-values a.transfer.id.bytes a.transfer.id.len h, ← c.id_len.ensures, ← c.lone-command.ensures) c.write_framed.ensures.out_after
+    let values = finish-values a.transfer.id.bytes a.transfer.id.len h in
+    rw (← values, ← c.id_len.ensures, ← c.lone-command.ensures) c.write_framed.ensures.out_after
