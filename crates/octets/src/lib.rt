@@ -16,14 +16,14 @@ ghost use Rattle.octets.specs.Slices.{equals, starts_with, part_of, copy_at};
 pub fn equal(a: &[u8], b: &[u8]) -> bool
     ensures { result ≡ equals a.now b.now }
 {
-    a == b
+    a.len() == b.len() && a.starts_with(b)
 }
 
 // Whether the first bytes of s are those of prefix.
 pub fn starts_with(s: &[u8], prefix: &[u8]) -> bool
     ensures { result ≡ starts_with s.now prefix.now }
 {
-    s.starts_with(prefix)
+    prefix.len() <= s.len() && prefix == &s[..prefix.len()]
 }
 
 // The first place at or after `from` where b stands in s; where there is none, the end of s, or
