@@ -1,5 +1,5 @@
 -- A byte below 80 stands alone in UTF-8: it starts no longer sequence, and none goes on with it.
-use Prim.Native.Nat.{ℕ, ◌≤◌, ◌<◌}
+use Prim.Native.Nat.{ℕ, suc, ◌≤◌, ◌<◌}
 use mathlib.Core.Path.{◌≡◌, refl}
 use mathlib.Core.Bool.{Bool, true, false, cond}
 use Rattle.std.specs.Prelude.{Option, Some, None}
@@ -7,9 +7,10 @@ use mathlib.Core.List.{List, [], ◌∷◌, ◌++◌}
 use native.Mathlib.Omega.{arith}
 use lib.Dec.{leb}
 use borrow.Author.Tests.{le-leb, lt-leb, leb-true}
+use Rattle.std.specs.Str.{IsAscii}
 use Rattle.octets.specs.Members.{every}
 use Rattle.octets.proofs.Below.{both_test}
-use Rattle.pathname.specs.Utf8.{Range, Row, inside, rows, followers_in, begun, sequences}
+use Rattle.pathname.specs.Utf8.{Range, Row, inside, rows, followers_in, begun, sequences, utf8}
 use Rattle.pathname.specs.Claims.{CutsCharactersNowhere}
 
 no : {A : Type 0} → false ≡ true → A
@@ -38,9 +39,15 @@ high_after : (x : ℕ) (qs : List Range) → followers_in rows x ≡ Some qs →
 high_after x qs e = high_in rows x qs (unfold every high_row high in refl) e
 
 -- ---- the byte itself
-alone : (b : ℕ) → b < 0x80 → followers_in rows b ≡ Some []
+pub alone : (b : ℕ) → b < 0x80 → followers_in rows b ≡ Some []
 unfolding followers_in
 alone b h = rw (le-leb 0 b (omega arith), le-leb b 0x7F (omega arith))
+
+-- nothing but such bytes
+pub ascii : (s : List ℕ) → IsAscii s → utf8 s ≡ true
+unfolding sequences
+ascii [] h = refl
+ascii (b ∷ s) h = rw (alone b (h 0)) (ascii s (λ i. h (suc i)))
 
 -- ---- a cut where bytes of such ranges are due
 cut : (a : List ℕ) (rs : List Range) (b : ℕ) (c : List ℕ) → b < 0x80 → high rs ≡ true → sequences rs (a ++ (b ∷ c)) ≡ true

@@ -20,14 +20,21 @@ impl Due {
     };
 }
 
-// Whether the bytes are UTF-8. Between two sequences no byte is due.
+// Whether the bytes are UTF-8. Between two sequences no byte is due. Bytes below 80 hex, which stand alone,
+// are passed without a look at the table: all at once where a name has no others, as most have not.
 pub(crate) fn is_valid(s: &[u8]) -> bool
     ensures { result ≡ utf8 s.now }
 {
+    if s.is_ascii() {
+        return true;
+    }
     let mut due = Due::NOTHING;
     for b in s {
         let b = *b;
         if due.count == 0 {
+            if b < 0x80 {
+                continue;
+            }
             let Some(first) = due_after(b) else {
                 return false;
             };

@@ -4,9 +4,10 @@ use Rattle.std.specs.Prelude.{Option, Some, None}
 use Rattle.pathname.specs.declared.utf8.Due.{Due}
 use Rattle.pathname.specs.Utf8.{rows, followers_in, begun, sequences, utf8}
 use Rattle.pathname.specs.DueBytes.{ranges_of, due_of, lead_of}
+use Rattle.pathname.proofs.Alone.{alone, ascii}
 use Rattle.pathname.proofs.Sequences.{first-at, next-at, none-at}
 use Rattle.pathname.proofs.utf8.is_valid.Goals as goal
-use Rattle.pathname.proofs.utf8.is_valid.Goals.{then-due-eq0+in-Some, else-due-eq0+then-due-b+then-b-due}
+use Rattle.pathname.proofs.utf8.is_valid.Goals.{then-due-eq0+else-b-lt128+in-Some, else-due-eq0+then-due-b+then-b-due}
 use Rattle.pathname.proofs.utf8.is_valid.Goals.{else-due-b-via-then-due-b+else-b-due, else-due-b-via-else-due-b}
 
 -- what a first byte leaves
@@ -20,9 +21,20 @@ at_next : (s : List ℕ) (i : ℕ) (d : Due) → i < length s → 0 < d.count �
     utf8 s ≡ ((leb d.low b && leb b d.high) && sequences (ranges_of (d.count - 1) 0x80 0xBF) (drop (i + 1) s))
 at_next s i d h p v = sym v ∙ next-at d.count d.low d.high s i p h
 
+pub returns-then-is_ascii : goal.returns-then-is_ascii
+returns-then-is_ascii c = sym (ascii c.args.s.now c.if-is_ascii.ensures.cases)
+
 pub loop-b-init : goal.loop-b-init
 unfolding ranges_of
 loop-b-init c = refl
+
+pub loop-b-preserved-then-b-lt128 : goal.loop-b-preserved-then-b-lt128
+unfolding ranges_of
+loop-b-preserved-then-b-lt128 c =
+    let l = c.loop-b in
+    let z = c.if-due-eq0.true in
+    let stands : lead_of (Some l.due) ≡ followers_in rows (get_or c.args.s.now l.b-index 0) = rw z (sym (alone _ c.if-b-lt128.true)) in
+    sym (at_first c.args.s.now l.b-index l.due (Some l.due) (omega arith) z stands l.invariant)
 
 pub returns-in_default : goal.returns-in_default
 returns-in_default c =
@@ -43,7 +55,7 @@ loop-b-preserved c =
     let l = c.loop-b in
     let s = c.args.s.now in
     elim c.if-due-eq0.branch [
-      | then-due-eq0+in-Some w ↦ rw w.due-is
+      | then-due-eq0+else-b-lt128+in-Some w ↦ rw w.due-is
           (sym (at_first s l.b-index l.due (Some w.in-Some.first) (omega arith) w.if-due-eq0.true w.in-Some.ensures l.invariant))
       | else-due-eq0+then-due-b+then-b-due w ↦ rw w.due-is
           (sym (at_next s l.b-index l.due (omega arith) (omega arith) l.invariant
