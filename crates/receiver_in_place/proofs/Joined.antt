@@ -27,7 +27,8 @@ use Rattle.session_in_place.specs.Supplies.{supply_at}
 use Rattle.session_in_place.specs.declared.Call.{Call}
 use Rattle.session_in_place.specs.declared.feeds.Heard.{Heard}
 use Rattle.session_in_place.proofs.Halves.{unread_fed, left_fed, reframed}
-use Rattle.session_in_place.proofs.InPlace.{answers, in-place-answer, in-place-supply, by_said, in-place-feed}
+use Rattle.session_in_place.proofs.InPlace.{answers, in-place-answer, in-place-supply, without_step, by_said}
+use Rattle.session_in_place.proofs.InPlace.{in-place-unread, in-place-feed}
 
 module _ (r : Receiver) (four : length r.table.sessions ≡ 4) (f : Option ℕ) (i : ℕ) (at : i ≡ place_of f) (inside : i < 4)
     (d : Session) where
@@ -52,25 +53,28 @@ module _ (r : Receiver) (four : length r.table.sessions ≡ 4) (f : Option ℕ) 
       rw at (ap (answers r (place_of f)) step' ∙ rw found (in-place-supply r g out four))
 
 -- ---- feed
-module _ (r : Receiver) (four : length r.table.sessions ≡ 4) (piece carry scratch reply : List ℕ) (h : Heard) (c s : List ℕ)
+module _ (r : Receiver) (piece carry scratch reply : List ℕ) (h : Heard) (c s : List ℕ)
     (half : hearing h c s ≡ hear_of r.framing r.table.owed r.table.sessions piece carry scratch (length reply)) where
-  whole : by_said r piece reply (hearing h c s) h.said ≡ feed_of r piece carry scratch reply
-  whole = ap (λ (x : Hearing). by_said r piece reply x x.heard.said) half ∙ in-place-feed r piece reply four carry scratch
-
-  -- where no command was read
+  -- where no command was read, whatever the table's length
   pub unread-joined : (w : Told) → h.said ≡ Err w
       → feeding (fed_in (reframed r h.framing) (unread_fed h w)) c s reply ≡ feed_of r piece carry scratch reply
-  unread-joined w q = ap (by_said r piece reply (hearing h c s)) (sym q) ∙ whole
+  unread-joined w q =
+      ap (λ (x : Hearing). without_step r piece reply x w) half
+      ∙ in-place-unread r piece reply carry scratch w (ap (λ (x : Hearing). x.heard.said) (sym half) ∙ q)
 
-  pub feed-joined : (i : ℕ) → i ≡ place_of h.found → i < 4 → (k : Command) → h.said ≡ Ok k
-      → (d : Session) (l : Left) (y text : List ℕ) → text ≡ text_of piece c h.report
-      → outcome l y ≡ act_of h.found (get_or r.table.sessions i d) r.table.owed k text s reply
-      → feeding (fed_in (takes (reframed r h.framing) i l) (left_fed h k l)) c s y ≡ feed_of r piece carry scratch reply
-  feed-joined i at inside k q d l y text is step =
-      let step' = rw (copied r four h.found i at inside d, is) at step in
-      rw at
-      (ap
-      (λ (o : Outcome Left). feeding (fed_in (takes (reframed r h.framing) (place_of h.found) o.answer) (left_fed h k o.answer)) c s
-      o.buffer)
-      step'
-      ∙ (ap (by_said r piece reply (hearing h c s)) (sym q) ∙ whole))
+  module _ (four : length r.table.sessions ≡ 4) where
+    whole : by_said r piece reply (hearing h c s) h.said ≡ feed_of r piece carry scratch reply
+    whole = ap (λ (x : Hearing). by_said r piece reply x x.heard.said) half ∙ in-place-feed r piece reply carry scratch four
+
+    pub feed-joined : (i : ℕ) → i ≡ place_of h.found → i < 4 → (k : Command) → h.said ≡ Ok k
+        → (d : Session) (l : Left) (y text : List ℕ) → text ≡ text_of piece c h.report
+        → outcome l y ≡ act_of h.found (get_or r.table.sessions i d) r.table.owed k text s reply
+        → feeding (fed_in (takes (reframed r h.framing) i l) (left_fed h k l)) c s y ≡ feed_of r piece carry scratch reply
+    feed-joined i at inside k q d l y text is step =
+        let step' = rw (copied r four h.found i at inside d, is) at step in
+        rw at
+        (ap
+        (λ (o : Outcome Left). feeding (fed_in (takes (reframed r h.framing) (place_of h.found) o.answer) (left_fed h k o.answer)) c s
+        o.buffer)
+        step'
+        ∙ (ap (by_said r piece reply (hearing h c s)) (sym q) ∙ whole))

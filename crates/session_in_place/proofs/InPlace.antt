@@ -1,7 +1,7 @@
 -- The laws of the calls in place: what they do with one session is what the calls by value give, for every receiver of four
 -- sessions.
 use Prim.Native.Nat.{ℕ, ◌≤◌}
-use mathlib.Core.Path.{◌≡◌, refl, ◌∙◌, ap}
+use mathlib.Core.Path.{◌≡◌, refl, sym, ◌∙◌, ap}
 use mathlib.Core.Bool.{Bool, true, false, cond}
 use mathlib.Core.List.{List}
 use native.Mathlib.Omega.{arith}
@@ -162,65 +162,83 @@ module _ (r : Receiver) (piece reply : List ℕ) where
       let f = h.heard.found in
       act_of f (session_at t (place_of f)) t.owed c (text_of piece h.carry h.heard.report) h.scratch reply
 
+  -- the feed where no command was read, but something was told
+  abbrev pub without_step : Hearing → Told → Feeding
+  without_step h w = feeding (fed_in (reframed r h.heard.framing) (unread_fed h.heard w)) h.carry h.scratch reply
+
   -- the feed, by what was said
   abbrev pub by_said : Hearing → Result Command Told → Feeding
-  by_said h (Err w) = feeding (fed_in (reframed r h.heard.framing) (unread_fed h.heard w)) h.carry h.scratch reply
+  by_said h (Err w) = without_step h w
   by_said h (Ok c) =
       let a = acts h c in
       feeding (fed_in (takes (reframed r h.heard.framing) (place_of h.heard.found) a.answer) (left_fed h.heard c a.answer)) h.carry
       h.scratch a.buffer
 
-  module _ (e : length t.sessions ≡ 4) where
-    module _ (k : Outcome Scanned) (scratch : List ℕ) where
-      abbrev text : List ℕ
-      text = text_of piece k.buffer k.answer.report
+  module _ (k : Outcome Scanned) (scratch : List ℕ) where
+    abbrev text : List ℕ
+    text = text_of piece k.buffer k.answer.report
 
-      abbrev x : Outcome (Result Command Told)
-      x = said_of k.answer.report text scratch
+    abbrev x : Outcome (Result Command Told)
+    x = said_of k.answer.report text scratch
 
-      abbrev h : Hearing
-      h = scanned_hear k t.sessions piece scratch
+    abbrev h : Hearing
+    h = scanned_hear k t.sessions piece scratch
 
-      -- what the scanned feed gives, by what was said
-      abbrev given : Acted → Feeding
-      given a =
-          let b = replied_of a.step.reply reply in
-          feeding (fed_by k.answer a.step a.command b.answer) k.buffer a.scratch b.buffer
+    -- what the scanned feed gives, by what was said
+    abbrev given : Acted → Feeding
+    given a =
+        let b = replied_of a.step.reply reply in
+        feeding (fed_by k.answer a.step a.command b.answer) k.buffer a.scratch b.buffer
 
-      said : given (acted_on t text x) ≡ scanned_feed t piece k scratch reply
-      unfolding scanned_feed
-      said = ap given (said-acts t k.answer.report text scratch)
+    said : given (acted_on t text x) ≡ scanned_feed t piece k scratch reply
+    unfolding scanned_feed
+    said = ap given (said-acts t k.answer.report text scratch)
 
-      heard-is : by_said h h.heard.said ≡ scanned_feed t piece k scratch reply
-      unfolding heard_in act_of left_by
-      heard-is = go x.answer refl
-        where
-          go : (a : Result Command Told) → x.answer ≡ a → by_said h h.heard.said ≡ scanned_feed t piece k scratch reply
-          go (Err w) q = rw (← said, q, no-reply reply)
-          go (Ok c) q = rw (← said, q) (ap (λ (s : Stepped). given (acted s c x.buffer)) (command-steps t c text x.buffer e))
+    -- no session is asked for, so the table may have any length
+    unread : (w : Told) → x.answer ≡ Err w → by_said h h.heard.said ≡ scanned_feed t piece k scratch reply
+    unfolding heard_in
+    unread w q = rw (← said, q, no-reply reply)
 
-    module _ (carry scratch : List ℕ) where
-      abbrev k : Outcome Scanned
-      k = scan_of r.framing piece carry
+    heard-is : length t.sessions ≡ 4 → by_said h h.heard.said ≡ scanned_feed t piece k scratch reply
+    unfolding heard_in act_of left_by
+    heard-is e = go x.answer refl
+      where
+        go : (a : Result Command Told) → x.answer ≡ a → by_said h h.heard.said ≡ scanned_feed t piece k scratch reply
+        go (Err w) q = unread w q
+        go (Ok c) q = rw (← said, q) (ap (λ (s : Stepped). given (acted s c x.buffer)) (command-steps t c text x.buffer e))
 
-      abbrev at : Bool → Bool → Hearing
-      at s o =
-          cond s (hearing (unheard r.framing 9) carry scratch)
-          (cond o (hearing (unheard r.framing 10) carry scratch) (scanned_hear k t.sessions piece scratch))
+  module _ (carry scratch : List ℕ) where
+    abbrev k : Outcome Scanned
+    k = scan_of r.framing piece carry
 
-      abbrev fed_at : Bool → Bool → Feeding
-      fed_at s o =
-          cond s (feeding (feed_refused r 9) carry scratch reply)
-          (cond o (feeding (feed_refused r 10) carry scratch reply) (scanned_feed t piece k scratch reply))
+    abbrev at : Bool → Bool → Hearing
+    at s o =
+        cond s (hearing (unheard r.framing 9) carry scratch)
+        (cond o (hearing (unheard r.framing 10) carry scratch) (scanned_hear k t.sessions piece scratch))
 
-      abbrev pub heard : Hearing
-      heard = hear_of r.framing t.owed t.sessions piece carry scratch (length reply)
+    abbrev fed_at : Bool → Bool → Feeding
+    fed_at s o =
+        cond s (feeding (feed_refused r 9) carry scratch reply)
+        (cond o (feeding (feed_refused r 10) carry scratch reply) (scanned_feed t piece k scratch reply))
 
-      pub in-place-feed : by_said heard heard.heard.said ≡ feed_of r piece carry scratch reply
-      unfolding hear_of feed_of
-      in-place-feed = go (is_short carry scratch reply) (is_owed t.owed)
-        where
-          go : (s o : Bool) → by_said (at s o) (at s o).heard.said ≡ fed_at s o
-          go true o = refl
-          go false true = refl
-          go false false = heard-is k scratch
+    abbrev pub heard : Hearing
+    heard = hear_of r.framing t.owed t.sessions piece carry scratch (length reply)
+
+    -- the feed is what was told, whatever the table's length
+    pub in-place-unread : (w : Told) → heard.heard.said ≡ Err w → without_step heard w ≡ feed_of r piece carry scratch reply
+    unfolding hear_of heard_in feed_of
+    in-place-unread w = go (is_short carry scratch reply) (is_owed t.owed)
+      where
+        go : (s o : Bool) → (at s o).heard.said ≡ Err w → without_step (at s o) w ≡ fed_at s o
+        go true o q = ap (by_said (at true o)) (sym q)
+        go false true q = ap (by_said (at false true)) (sym q)
+        go false false q = ap (by_said (at false false)) (sym q) ∙ unread k scratch w q
+
+    pub in-place-feed : length t.sessions ≡ 4 → by_said heard heard.heard.said ≡ feed_of r piece carry scratch reply
+    unfolding hear_of feed_of
+    in-place-feed e = go (is_short carry scratch reply) (is_owed t.owed)
+      where
+        go : (s o : Bool) → by_said (at s o) (at s o).heard.said ≡ fed_at s o
+        go true o = refl
+        go false true = refl
+        go false false = heard-is k scratch e

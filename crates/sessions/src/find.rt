@@ -26,7 +26,8 @@ pub fn free(sessions: &[Session]) -> Option<usize>
     sessions.iter().position(|session| is_absent(session.state))
 }
 
-fn has_id(session: &Session, id: &[u8]) -> bool
+// Whether the session is present and has the id.
+pub fn has_id(session: &Session, id: &[u8]) -> bool
     ensures { result ≡ has_id id.now session.now }
 {
     is_present(session.state) && session.id.is(id)
