@@ -9,13 +9,16 @@ mod listing;
 mod script;
 
 use desk::Desk;
+use script_parts::Script;
 use streams::Run;
 
 fn main(rt: HostRuntime) {
-    script_parts::run(&rt, b"delta_script", play);
+    script_parts::run::<Desk>(&rt, b"delta_script");
 }
 
-// Performs the script's operations on one desk.
-fn play(run: Run, script: &[u8]) -> Run {
-    script_parts::play(run, script, Desk::fresh(run))
+impl Script for Desk {
+    // Performs the script's operations on one desk.
+    fn play(run: Run, script: &[u8]) -> Run {
+        script_parts::play(run, script, Desk::fresh(run))
+    }
 }

@@ -7,13 +7,16 @@ mod office;
 mod script;
 
 use office::Office;
+use script_parts::Script;
 use streams::Run;
 
 fn main(rt: HostRuntime) {
-    script_parts::run(&rt, b"drive_sender", play);
+    script_parts::run::<Office>(&rt, b"drive_sender");
 }
 
-// Makes the script's calls on one sender.
-fn play(run: Run, script: &[u8]) -> Run {
-    script_parts::play(run, script, Office::fresh(run))
+impl<'a> Script for Office<'a> {
+    // Makes the script's calls on one sender.
+    fn play(run: Run, script: &[u8]) -> Run {
+        script_parts::play(run, script, Office::fresh(run))
+    }
 }

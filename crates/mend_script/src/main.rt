@@ -5,25 +5,29 @@
 mod line;
 
 use recordings::{Mended, Refusal};
-use script_parts::{bad_script, rest, three_bytes};
+use script_parts::{Script, bad_script, rest, three_bytes};
 use streams::Run;
 
 // How many bytes stand before the recording: the rooms of the output and of the list.
 const HEAD: usize = 6;
 
 fn main(rt: HostRuntime) {
-    script_parts::run(&rt, b"mend_script", play);
+    script_parts::run::<Mending>(&rt, b"mend_script");
 }
 
-// The buffers have all the room that a recording can need, of which the script lends a part.
-fn play(run: Run, script: &[u8]) -> Run {
-    if script.len() < HEAD {
-        return bad_script(run);
+struct Mending;
+
+impl Script for Mending {
+    // The buffers have all the room that a recording can need, of which the script lends a part.
+    fn play(run: Run, script: &[u8]) -> Run {
+        if script.len() < HEAD {
+            return bad_script(run);
+        }
+        let mut output = [0xA5u8; Mended::LIMIT];
+        let mut list = [0xA5usize; Mended::LIST_ROOM];
+        let mended = mend_lent(script, &mut output, &mut list);
+        line::tell(run, mended, &output, &list)
     }
-    let mut output = [0xA5u8; Mended::LIMIT];
-    let mut list = [0xA5usize; Mended::LIST_ROOM];
-    let mended = mend_lent(script, &mut output, &mut list);
-    line::tell(run, mended, &output, &list)
 }
 
 // The recording follows the two rooms.

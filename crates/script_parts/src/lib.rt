@@ -1,8 +1,7 @@
 // What the small script programs share: reading a script and cutting it, its numbers, the line for one
 // that is none, and the sums of buffers.
 //
-// Any bytes and any places are answered. What is asked of a closure is that it may be called at any
-// script.
+// No function here has a `requires`: any bytes and any places are answered.
 #![tactic(auto)]
 
 mod numbers;
@@ -12,7 +11,7 @@ mod sums;
 ghost use Rattle.streams.specs.Streams.{Keeps};
 
 pub use numbers::{byte, eight_bytes, four_bytes, rest, three_bytes, two_bytes};
-pub use script::{Player, SCRIPT_LIMIT, play, run};
+pub use script::{Player, SCRIPT_LIMIT, Script, play, run};
 use streams::Run;
 pub use sums::{list_sum, sum};
 

@@ -1,5 +1,6 @@
 // A script: read from standard input, and played operation by operation, each a letter and its operands.
 ghost use Rattle.std.specs.Prelude.{◌<◌, length, IfSome};
+ghost use Rattle.streams.specs.Streams.{Keeps};
 
 use crate::bad_script;
 use streams::Run;
@@ -7,15 +8,19 @@ use streams::Run;
 // How many bytes a script has at most.
 pub const SCRIPT_LIMIT: usize = 65536;
 
+// What a program makes of its script. A trait and no closure: of a closure it would be asked that it may be
+// called.
+pub trait Script {
+    fn play(run: Run, script: &[u8]) -> Run;
+}
+
 // Plays the script on standard input, and says what failed, if something did. One byte more is read, so
 // that a longer script is seen.
-pub fn run<F: FnOnce(Run, &[u8]) -> Run>(rt: &HostRuntime, program: &[u8], play: F)
-    requires { F.IsAlwaysCallable play }
-{
+pub fn run<S: Script>(rt: &HostRuntime, program: &[u8]) {
     let mut bytes = [0u8; SCRIPT_LIMIT + 1];
     let run = match streams::read_all(rt.stdin(), &mut bytes) {
         Some(n) if n > SCRIPT_LIMIT => bad_script(Run::Well(rt.stdout())),
-        Some(n) => play(Run::Well(rt.stdout()), &bytes[..n]),
+        Some(n) => S::play(Run::Well(rt.stdout()), &bytes[..n]),
         None => Run::NotRead,
     };
     run.end(rt.stderr(), program);
@@ -29,8 +34,18 @@ pub trait Player<'a> {
     fn perform(&mut self, operation: &'a [u8]) -> Option<Run>;
 }
 
-// Performs a script's operations one after another, until something fails.
-pub fn play<'a, P: Player<'a> + Drop>(mut run: Run, script: &'a [u8], mut player: P) -> Run {
+// Performs a script's operations one after another, until something fails. Of a run that failed before it
+// performs none.
+pub fn play<'a, P: Player<'a> + Drop>(run: Run, script: &'a [u8], player: P) -> Run
+    ensures { Keeps run result }
+{
+    if !run.is_well() {
+        return run;
+    }
+    perform_all(run, script, player)
+}
+
+fn perform_all<'a, P: Player<'a> + Drop>(mut run: Run, script: &'a [u8], mut player: P) -> Run {
     let mut left = script;
     while !left.is_empty() && run.is_well() {
         let Some((operation, behind)) = cut(left, P::claimed_length(left)) else {

@@ -38,6 +38,7 @@ pub trait Calls {
 }
 
 // On a receiver that is taken and given by value.
+#[derive(Clone, Copy)]
 pub struct ByValue;
 
 impl Calls for ByValue {
@@ -75,6 +76,7 @@ impl Calls for ByValue {
 }
 
 // On a receiver that is lent and changed in place.
+#[derive(Clone, Copy)]
 pub struct InPlace;
 
 impl Calls for InPlace {

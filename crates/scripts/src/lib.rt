@@ -11,14 +11,17 @@ mod supplies;
 
 pub use calls::{ByValue, Calls, InPlace};
 use console::Console;
+use script_parts::Script;
 use streams::Run;
 
 // Plays the script on standard input.
 pub fn run<C: Calls>(rt: &HostRuntime, program: &[u8]) {
-    script_parts::run(rt, program, |run, script| play::<C>(run, script));
+    script_parts::run::<Console<C>>(rt, program);
 }
 
-// Makes the script's calls on one receiver.
-fn play<C: Calls>(run: Run, script: &[u8]) -> Run {
-    script_parts::play(run, script, Console::<C>::fresh(run))
+impl<'a, C: Calls> Script for Console<'a, C> {
+    // Makes the script's calls on one receiver.
+    fn play(run: Run, script: &[u8]) -> Run {
+        script_parts::play(run, script, Console::<C>::fresh(run))
+    }
 }

@@ -4,7 +4,7 @@
 
 mod line;
 
-use script_parts::{bad_script, rest, three_bytes};
+use script_parts::{Script, bad_script, rest, three_bytes};
 use streams::Run;
 use windows::{Line, Refusal};
 
@@ -12,21 +12,25 @@ use windows::{Line, Refusal};
 const HEAD: usize = 6;
 
 fn main(rt: HostRuntime) {
-    script_parts::run(&rt, b"windows_script", play);
+    script_parts::run::<Comparing>(&rt, b"windows_script");
 }
 
-// The list has all the room that two recordings can need, of which the script lends a part.
-fn play(run: Run, script: &[u8]) -> Run {
-    if script.len() < HEAD {
-        return bad_script(run);
+struct Comparing;
+
+impl Script for Comparing {
+    // The list has all the room that two recordings can need, of which the script lends a part.
+    fn play(run: Run, script: &[u8]) -> Run {
+        if script.len() < HEAD {
+            return bad_script(run);
+        }
+        let len = three_bytes(script, 3);
+        if len > script.len() - HEAD {
+            return bad_script(run);
+        }
+        let mut list = [0xA5usize; Line::LIST_ROOM];
+        let compared = compare_lent(script, len, &mut list);
+        line::tell(run, compared, &list)
     }
-    let len = three_bytes(script, 3);
-    if len > script.len() - HEAD {
-        return bad_script(run);
-    }
-    let mut list = [0xA5usize; Line::LIST_ROOM];
-    let compared = compare_lent(script, len, &mut list);
-    line::tell(run, compared, &list)
 }
 
 // The first recording has so many bytes, and the second the rest.
