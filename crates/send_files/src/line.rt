@@ -54,7 +54,9 @@ impl Line {
         }
     }
 
-    // What of a piece is not consumed stands at its end.
+    // What of a piece is not consumed stands at its end. Not inlined, so that a line that ends does not need
+    // the stack of a hear.
+    #[inline(never)]
     fn hear(&mut self, rt: &HostRuntime, course: Course) -> Course {
         let piece = octets::part(&self.input, self.at, self.end.saturating_sub(self.at));
         let mut scratch = [0u8; Command::SCRATCH_ROOM];

@@ -37,10 +37,8 @@ pub(crate) fn differs(rt: &HostRuntime, sent: u64, size: Number, file: Option<us
     let err = rt.stderr();
     start(err, b"differs ");
     say_number(err, sent);
-    say(err, b" ");
-    if size.negative {
-        say(err, b"-");
-    }
+    let sign: &[u8] = if size.negative { b" -" } else { b" " };
+    say(err, sign);
     say_number(err, size.magnitude);
     end(rt, file, true);
 }

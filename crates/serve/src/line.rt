@@ -6,7 +6,7 @@ use crate::plans::{Plan, Planned};
 use crate::{listing, plans, requests};
 use command::{Command, Place};
 use frames::Framing;
-use protocol::{Answered, Fed, Receiver, Reply};
+use protocol::{Answered, Fed, Receiver, Reply, Told};
 use std::io::Stderr;
 use streams::Run;
 
@@ -36,7 +36,7 @@ pub(crate) fn run(rt: &HostRuntime) -> Run {
         if n == 0 {
             break;
         }
-        server = take(rt, server, &input[..n], &mut carry);
+        take(rt, &mut server, &input[..n], &mut carry);
         if !server.console.run.is_well() {
             break;
         }
@@ -44,24 +44,22 @@ pub(crate) fn run(rt: &HostRuntime) -> Run {
     server.console.run
 }
 
-// Feeds a piece until it is consumed or something fails. A feed consumes a byte at least.
-fn take(rt: &HostRuntime, server: Server, piece: &[u8], carry: &mut [u8]) -> Server {
-    let mut next = server;
+// Feeds a piece until it is consumed or something fails. A feed consumes a byte at least. The server is
+// lent: given and taken by value it stood in the stack several times, 40 KB in all.
+fn take(rt: &HostRuntime, server: &mut Server, piece: &[u8], carry: &mut [u8]) {
     let mut left = piece;
     for _ in 0..piece.len() {
-        if left.is_empty() || !next.console.run.is_well() {
+        if left.is_empty() || !server.console.run.is_well() {
             break;
         }
-        let (after, consumed) = hear(rt, next, left, carry);
-        next = after;
+        let consumed = hear(rt, server, left, carry);
         left = &left[consumed.min(left.len())..];
     }
-    next
 }
 
 // Feeds what is left of a piece through the first thing to report, answers that, and says how many bytes
 // were consumed.
-fn hear(rt: &HostRuntime, server: Server, left: &[u8], carry: &mut [u8]) -> (Server, usize) {
+fn hear(rt: &HostRuntime, server: &mut Server, left: &[u8], carry: &mut [u8]) -> usize {
     let mut scratch = [0u8; Command::SCRATCH_ROOM];
     let mut reply = [0u8; Reply::ROOM];
     let fed = receiver::feed(
@@ -71,12 +69,10 @@ fn hear(rt: &HostRuntime, server: Server, left: &[u8], carry: &mut [u8]) -> (Ser
         &mut scratch,
         &mut reply,
     );
-    let sent = Server {
-        console: sent(rt.stderr(), server.console, fed, &reply),
-        ..server
-    };
+    server.console = sent(rt.stderr(), server.console, fed, &reply);
     let text = frames::text(left, carry, fed.report);
-    (heed(rt, sent, fed, text, &scratch), fed.consumed)
+    heed(rt, server, fed.told, fed.command, text, &scratch);
+    fed.consumed
 }
 
 // After a feed: its reply is written. One that consumes nothing would be made for ever.
@@ -98,26 +94,24 @@ fn sent(err: Stderr, console: Console, fed: Fed, reply: &[u8]) -> Console {
 // What is told of a command is answered. Its ids stand in the text, and its name in the scratch.
 fn heed<'a>(
     rt: &HostRuntime,
-    server: Server,
-    fed: Fed,
+    server: &mut Server,
+    told: Told,
+    command: Command,
     text: &'a [u8],
     scratch: &'a [u8],
-) -> Server {
-    let command = fed.command;
+) {
     let id = at_place(text, command.id);
     let Planned { current, plan } = plans::heed(
         rt,
         server.current,
-        fed.told,
+        told,
         command.transmission,
         id,
         at_place(text, command.file_id),
         at_place(scratch, command.name),
     );
-    Server {
-        console: answer(rt, server.console, plan, id),
-        current,
-    }
+    server.current = current;
+    server.console = answer(rt, server.console, plan, id);
 }
 
 fn at_place(s: &[u8], place: Place) -> &[u8] {
