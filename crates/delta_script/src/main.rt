@@ -13,7 +13,7 @@ use script_parts::Script;
 use streams::Run;
 
 fn main(rt: HostRuntime) {
-    script_parts::run::<Desk>(&rt, b"delta_script");
+    script_parts::run_script::<Desk>(&rt, b"delta_script");
 }
 
 impl Script for Desk {

@@ -11,7 +11,7 @@ use script_parts::Script;
 use streams::Run;
 
 fn main(rt: HostRuntime) {
-    script_parts::run::<Office>(&rt, b"drive_sender");
+    script_parts::run_script::<Office>(&rt, b"drive_sender");
 }
 
 impl<'a> Script for Office<'a> {

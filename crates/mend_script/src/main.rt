@@ -12,7 +12,7 @@ use streams::Run;
 const HEAD: usize = 6;
 
 fn main(rt: HostRuntime) {
-    script_parts::run::<Mending>(&rt, b"mend_script");
+    script_parts::run_script::<Mending>(&rt, b"mend_script");
 }
 
 struct Mending;

@@ -16,11 +16,25 @@ pub trait Script {
 
 // Plays the script on standard input, and says what failed, if something did. One byte more is read, so
 // that a longer script is seen.
-pub fn run<S: Script>(rt: &HostRuntime, program: &[u8]) {
+pub fn run_script<S: Script>(rt: &HostRuntime, program: &[u8]) {
     let mut bytes = [0u8; SCRIPT_LIMIT + 1];
     let run = match streams::read_all(rt.stdin(), &mut bytes) {
         Some(n) if n > SCRIPT_LIMIT => bad_script(Run::Well(rt.stdout())),
         Some(n) => S::play(Run::Well(rt.stdout()), &bytes[..n]),
+        None => Run::NotRead,
+    };
+    run.end(rt.stderr(), program);
+}
+
+// The same with a closure, for a caller whose playing needs values of its own, which a type of the trait
+// can't hold. A closure may ask something of its calls, so it is asked that it may be called at any script.
+pub fn run<F: FnOnce(Run, &[u8]) -> Run>(rt: &HostRuntime, program: &[u8], play: F)
+    requires { F.IsAlwaysCallable play }
+{
+    let mut bytes = [0u8; SCRIPT_LIMIT + 1];
+    let run = match streams::read_all(rt.stdin(), &mut bytes) {
+        Some(n) if n > SCRIPT_LIMIT => bad_script(Run::Well(rt.stdout())),
+        Some(n) => play(Run::Well(rt.stdout()), &bytes[..n]),
         None => Run::NotRead,
     };
     run.end(rt.stderr(), program);

@@ -16,7 +16,7 @@ use streams::Run;
 
 // Plays the script on standard input.
 pub fn run<C: Calls>(rt: &HostRuntime, program: &[u8]) {
-    script_parts::run::<Console<C>>(rt, program);
+    script_parts::run_script::<Console<C>>(rt, program);
 }
 
 impl<'a, C: Calls> Script for Console<'a, C> {

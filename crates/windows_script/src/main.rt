@@ -12,7 +12,7 @@ use windows::{Line, Refusal};
 const HEAD: usize = 6;
 
 fn main(rt: HostRuntime) {
-    script_parts::run::<Comparing>(&rt, b"windows_script");
+    script_parts::run_script::<Comparing>(&rt, b"windows_script");
 }
 
 struct Comparing;
