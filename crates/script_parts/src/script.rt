@@ -8,26 +8,9 @@ use streams::Run;
 // How many bytes a script has at most.
 pub const SCRIPT_LIMIT: usize = 65536;
 
-// What a program makes of its script. A trait and no closure: of a closure it would be asked that it may be
-// called.
-pub trait Script {
-    fn play(run: Run, script: &[u8]) -> Run;
-}
-
 // Plays the script on standard input, and says what failed, if something did. One byte more is read, so
-// that a longer script is seen.
-pub fn run_script<S: Script>(rt: &HostRuntime, program: &[u8]) {
-    let mut bytes = [0u8; SCRIPT_LIMIT + 1];
-    let run = match streams::read_all(rt.stdin(), &mut bytes) {
-        Some(n) if n > SCRIPT_LIMIT => bad_script(Run::Well(rt.stdout())),
-        Some(n) => S::play(Run::Well(rt.stdout()), &bytes[..n]),
-        None => Run::NotRead,
-    };
-    run.end(rt.stderr(), program);
-}
-
-// The same with a closure, for a caller whose playing needs values of its own, which a type of the trait
-// can't hold. A closure may ask something of its calls, so it is asked that it may be called at any script.
+// that a longer script is seen. A closure may ask something of its calls, so it is asked that it may be
+// called at any script.
 pub fn run<F: FnOnce(Run, &[u8]) -> Run>(rt: &HostRuntime, program: &[u8], play: F)
     requires { F.IsAlwaysCallable play }
 {
@@ -38,6 +21,18 @@ pub fn run<F: FnOnce(Run, &[u8]) -> Run>(rt: &HostRuntime, program: &[u8], play:
         None => Run::NotRead,
     };
     run.end(rt.stderr(), program);
+}
+
+// What a program makes of its script. A trait and no closure: of a closure it would be asked that it may be
+// called.
+pub trait Script {
+    fn play(run: Run, script: &[u8]) -> Run;
+}
+
+// Plays the script on standard input as a type of the trait does, of which nothing is asked. A type holds no
+// values: a caller whose playing needs some has `run`.
+pub fn run_script<S: Script>(rt: &HostRuntime, program: &[u8]) {
+    run(rt, program, |run, script| S::play(run, script));
 }
 
 // What a script is played on: how long an operation is by its letter and its own operands, if it is one;
